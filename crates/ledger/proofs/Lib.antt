@@ -1,0 +1,13 @@
+pub mod Tests
+pub mod Ascending
+pub mod Covers
+pub mod Apart
+pub mod Ends
+pub mod Intact
+pub mod Cells
+pub mod Blocks
+pub mod Reflects
+pub mod Steps
+pub mod Lists
+pub mod After
+pub mod Theorem

@@ -1,0 +1,63 @@
+-- An archive, as far as the ledger's theorem looks at one: how its log is cut into sectors, what a block looks like there,
+-- how the archive answers a request from the log, and how the ledger answers it from its rows.
+use mathlib.Core.Bool.{Bool, _&&_}
+use mathlib.Core.List.{List}
+use mathlib.Core.Option.{Option, none, some}
+use Prim.Native.Nat.{ℕ, _+_}
+use lib.Dec.{leb, ltb}
+
+-- what is seen of a request: its answer, the session and the log after it
+pub record Seen (Answer Session Log : Type 0) : Type 0 where
+  pub answer : Answer
+  pub session : Session
+  pub log : Log
+
+-- what the ledger says of a request: the answer, the session after it, and the row that it adds
+pub record Outcome (Answer Session Row : Type 0) : Type 0 where
+  pub answer : Answer
+  pub session : Session
+  pub adds : Option Row
+
+-- n is one of the k numbers from f on
+abbrev pub within : ℕ → ℕ → ℕ → Bool
+within f k n = leb f n && ltb n (f + k)
+
+abbrev pub on {ℓ} : {B : Type 0} {A : Type ℓ} → Option B → A → (B → A) → A
+on none a f = a
+on (some r) a f = f r
+
+pub record Archive : Type 1 where
+  -- the log: what the ledger is told of it, the number of its sectors, a log all blank, a sector (past the end a blank one)
+  pub Log : Type 0
+  pub Extent : Type 0
+  pub Sector : Type 0
+  pub extent : Log → Extent
+  pub sectors : Extent → ℕ
+  pub void : Extent → Log
+  pub at : Log → ℕ → Sector
+  pub blank : Sector
+  pub isBlank : Sector → Bool
+  pub fits : Sector → Bool
+  -- the second sector differs from the first only within four neighbouring bytes
+  pub Near : Sector → Sector → Type 0
+  -- the used part: one past the last sector that is not blank
+  pub used : Log → ℕ
+  -- a row, a block at its place: its first sector, their number, each of them, whether it can be written
+  pub Row : Type 0
+  pub first : Row → ℕ
+  pub parts : Row → ℕ
+  pub image : Row → ℕ → Sector
+  pub valid : Row → Bool
+  -- the sound block that starts at a sector of a log; a log with a row written
+  pub sound : Log → ℕ → Option Row
+  pub written : Log → Row → Log
+  -- a request, of bytes; what it is answered; a session, and a fresh one
+  pub Request : Type 0
+  pub Answer : Type 0
+  pub Session : Type 0
+  pub OfBytes : Request → Type 0
+  pub fresh : Session
+  -- one request as the archive answers it, from the bytes of the log
+  pub serve : Log → Session → Request → Seen Answer Session Log
+  -- one request as the ledger answers it, from its rows, the changed sectors and the log's extent
+  pub tell : List Row → List ℕ → Extent → Session → Request → Outcome Answer Session Row

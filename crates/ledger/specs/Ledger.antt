@@ -1,0 +1,74 @@
+-- The ledger of demands 2 and 3, over the rows of any archive: which rows are intact, and where the end is.
+use mathlib.Core.Bool.{Bool, true, false, cond, _||_}
+use mathlib.Core.List.{List, [], _∷_, _++_}
+use Prim.Native.Nat.{ℕ, zero, suc, _+_, max}
+use lib.Dec.{eqb}
+use Rattle.ledger.specs.Archive.{Outcome, Seen, within, on, Archive}
+
+-- n is one of the numbers
+abbrev pub has : ℕ → List ℕ → Bool
+has n [] = false
+has n (c ∷ cs) = eqb n c || has n cs
+
+module _ (A : Archive) where
+  open Archive A using (Log, extent, sectors, Row, first, parts, sound, written, Answer, Session)
+
+  -- "It keeps ... the changed sectors, none at first, and rows"
+  pub record Ledger : Type 0 where
+    pub rows : List Row
+    pub changed : List ℕ
+
+  abbrev pub empty : Ledger
+  empty = record { rows = []; changed = [] }
+
+  -- "Damage tells the ledger the changed sectors, nothing else"
+  abbrev pub told : List ℕ → Ledger → Ledger
+  told cs L = record { rows = L .rows; changed = cs }
+
+  -- "Else its row is added"
+  abbrev pub enter : Row → Ledger → Ledger
+  enter r L = record { rows = L .rows ++ (r ∷ []); changed = L .changed }
+
+  -- "A row covers sectors from there on, its byte count over 403 rounded up"
+  abbrev pub covers : Row → ℕ → Bool
+  covers r n = within (first r) (parts r) n
+
+  -- one of the sectors cs is the row's
+  abbrev pub hit : List ℕ → Row → Bool
+  hit [] r = false
+  hit (c ∷ cs) r = covers r c || hit cs r
+
+  -- "and is intact while none of them is changed": the intact rows, in order
+  abbrev pub intactOf : List ℕ → List Row → List Row
+  intactOf cs [] = []
+  intactOf cs (r ∷ rows) = cond (hit cs r) (intactOf cs rows) (r ∷ intactOf cs rows)
+
+  abbrev pub intact : Ledger → List Row
+  intact L = intactOf (L .changed) (L .rows)
+
+  -- "The end is one past the last sector covered or changed, else 0"
+  abbrev pub endRows : List Row → ℕ
+  endRows [] = 0
+  endRows (r ∷ rows) = max (first r + parts r) (endRows rows)
+
+  abbrev pub endChanged : List ℕ → ℕ
+  endChanged [] = 0
+  endChanged (c ∷ cs) = max (suc c) (endChanged cs)
+
+  abbrev pub end : Ledger → ℕ
+  end L = max (endRows (L .rows)) (endChanged (L .changed))
+
+  -- the sound blocks of a log that start at one of k sectors from n on; all of them, in the log's order
+  abbrev pub blocksFrom : Log → ℕ → ℕ → List Row
+  blocksFrom log zero n = []
+  blocksFrom log (suc k) n = on (sound log n) (blocksFrom log k (suc n)) (λ r. r ∷ blocksFrom log k (suc n))
+
+  unfoldable pub blocks : Log → List Row
+  blocks log = blocksFrom log (sectors (extent log)) 0
+
+  -- the ledger's outcome as it is seen on a log: the row that it adds is written
+  abbrev pub shown : Log → Outcome Answer Session Row → Seen Answer Session Log
+  shown log o = record { answer = o .answer; session = o .session; log = on (o .adds) log (written log) }
+
+  abbrev pub next : Ledger → Outcome Answer Session Row → Ledger
+  next L o = on (o .adds) L (λ r. enter r L)

@@ -1,0 +1,4 @@
+pub mod Archive
+pub mod Ledger
+pub mod Laws
+pub mod History

@@ -1,0 +1,2 @@
+-- What the clauses of `word` cite.
+pub mod Word
