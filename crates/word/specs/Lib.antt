@@ -1,2 +1,4 @@
 -- What the clauses of `word` cite.
 pub mod Word
+pub mod Number
+pub mod Hex

@@ -1,4 +1,7 @@
-// 32-bit words as FIPS 180-4 uses them.
+// 32-bit words as FIPS 180-4 uses them, and numbers as bytes and as hexadecimal.
+pub mod hex;
+pub mod number;
+
 ghost use mathlib.Core.Path.{_≡_};
 ghost use Prim.Native.Nat.{_<_};
 ghost use Rattle.word.specs.Word.{rotL, add32, be32};

@@ -1,0 +1,4 @@
+pub mod Bytes
+pub mod Steps
+pub mod Parts
+pub mod Put

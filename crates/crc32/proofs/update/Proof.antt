@@ -1,0 +1,70 @@
+-- `crc32::update` meets its contract. The loop's invariant: the bytes that are left, fed to the register, give what all of them give from the start.
+-- Assumes nothing.
+use mathlib.Core.Path.{_≡_, refl, sym, ap, _∙_}
+use mathlib.Core.List.{List}
+use Prim.Native.Nat.{ℕ, _≤_, _<_, _+_, _-_}
+use native.Mathlib.Numerals.{add-one}
+use native.Mathlib.Omega.{arith}
+use borrow.Author.Needs.{needs}
+use lib.ListN.{length, drop, getD}
+use lib.Seq.{drop-cons, drop-length}
+use Rattle.crc32.specs.Crc32.{bit, bits, byte, feed, entries, table}
+use Rattle.crc32.proofs.update.Statement.{statement}
+use Rattle.crc32.proofs.update.Tie as tie
+
+-- one byte more
+turn : (s : List ℕ) (i c r e : ℕ) → i < length s → r ≡ byte c (getD s i 0) → feed c (drop i s) ≡ e → feed r (drop (i + 1) s) ≡ e
+turn s i c r e h p q = rw (p, add-one) (ap (feed c) (sym (drop-cons s i 0 h)) ∙ q)
+
+-- none left
+done : (s : List ℕ) (i c e : ℕ) → i ≤ length s → length s ≤ i → feed c (drop i s) ≡ e → c ≡ e
+done s i c e h k q =
+    let n : i ≡ length s = omega arith in
+    sym (ap (feed c) (ap (λ (j : ℕ). drop j s) n ∙ drop-length s)) ∙ q
+
+abbrev Inv-loop : tie.InvT-loop
+Inv-loop c s t r₀ i₀ r i = (i ≤ length s) × (feed r (drop i s) ≡ feed c s)
+
+abbrev μ-loop : tie.MeasureT-loop
+μ-loop c s t r₀ i₀ r i = length s - i
+
+loop-holds : tie.Need-loop-holds Inv-loop μ-loop
+loop-holds c = search needs
+
+shared-slice-read-next : tie.Need-shared-slice-read-next Inv-loop μ-loop
+shared-slice-read-next c = search needs
+
+-- the table is what the bitwise rule gives: one computation over its 256 entries
+next-requires : tie.Need-next-requires Inv-loop μ-loop
+unfolding bit bits entries table
+next-requires c κs = refl
+
+add-i : tie.Need-add-i Inv-loop μ-loop
+add-i c = search needs
+
+loop-less : tie.Need-loop-less Inv-loop μ-loop
+loop-less c = search needs
+
+loop-again : tie.Need-loop-again Inv-loop μ-loop
+loop-again c =
+    let l = c .before .before .before .before in
+    (search needs, turn _ (l .loop .i) (l .loop .r) (c .next .result) _ (search needs) (c .next .ensures) (l .loop .inv .1))
+
+returns : tie.Need-returns Inv-loop μ-loop
+returns c =
+    let l = c .before .loop in
+    done _ (l .i) (l .r) _ (l .inv .0) (c .loop-test .left) (l .inv .1)
+
+pub update-spec : {M : Type 1} → statement M
+update-spec =
+    tie.close
+    (tie.spec
+    Inv-loop
+    μ-loop
+    loop-holds
+    shared-slice-read-next
+    next-requires
+    add-i
+    loop-less
+    loop-again
+    returns)

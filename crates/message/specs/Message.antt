@@ -1,0 +1,89 @@
+-- "Messages": how a message's bytes are taken apart.
+use mathlib.Core.Bool.{Bool, true, cond, not, _&&_}
+use mathlib.Core.List.{[], _∷_}
+use Prim.Native.Nat.{ℕ, _+_, _-_}
+use lib.Dec.{leb, eqb}
+use lib.ListN.{length, getD, take, drop}
+use Rattle.buffer.specs.Bytes.{Bytes}
+use Rattle.word.specs.Number.{beNumber}
+use Rattle.message.specs.declared.Request.{Request}
+use Rattle.message.specs.declared.Request.the-variants.{Ping, Hello, Goodbye, Read, Write, Sync, Unknown, Ill}
+use Rattle.message.specs.declared.Next.{Next}
+use Rattle.message.specs.declared.Next.the-variants.{At, Bad}
+
+-- "A message is size[2], type[1], tag[1], body", "size leaves itself out"; refusal 1 is the contrary
+unfoldable pub framed : Bytes → Bool
+framed m = leb 4 (length m) && eqb (beNumber (take 2 m)) (length m - 2)
+
+abbrev pub typeOf : Bytes → ℕ
+typeOf m = getD m 2 0
+
+abbrev pub tagOf : Bytes → ℕ
+tagOf m = getD m 3 0
+
+-- "text of at most 1,024 bytes, none of them 0; any other byte may stand"
+unfoldable pub noZero : Bytes → Bool
+noZero [] = true
+noZero (a ∷ x) = not (eqb a 0) && noZero x
+
+abbrev pub isText : Bytes → Bool
+isText t = leb (length t) 1024 && noZero t
+
+-- "Pads are ignored"
+abbrev pub padAllowed : Bytes → Bool
+padAllowed p = true
+
+-- "[s] is a two-byte count and text": where the text at `at` ends
+unfoldable pub textEnd : Bytes → ℕ → Next
+textEnd m at =
+    let n = beNumber (take 2 (drop at m)) in
+    cond (leb (at + 2) (length m) && (leb (at + 2 + n) (length m) && isText (take n (drop (at + 2) m)))) (At (at + 2 + n)) Bad
+
+-- "[n] is a one-byte count and bytes": where they end
+unfoldable pub countedEnd : Bytes → ℕ → Next
+countedEnd m at = cond (leb (at + 1) (length m) && leb (at + 1 + getD m at 0) (length m)) (At (at + 1 + getD m at 0)) Bad
+
+-- a field of k bytes
+unfoldable pub bytesEnd : ℕ → Bytes → ℕ → Next
+bytesEnd k m at = cond (leb (at + k) (length m)) (At (at + k)) Bad
+
+abbrev pub then : Next → (ℕ → Next) → Next
+then Bad f = Bad
+then (At at) f = f at
+
+-- "A body must be used up exactly"
+unfoldable pub exactly : Bytes → Next → Request → Request
+exactly m Bad q = Ill
+exactly m (At at) q = cond (eqb at (length m)) q Ill
+
+-- "hello: version[s] uid[s] strength[1] crypto[n] codec[n]"
+abbrev pub helloEnd : Bytes → Next
+helloEnd m = then (then (then (then (textEnd m 4) (textEnd m)) (bytesEnd 1 m)) (countedEnd m)) (countedEnd m)
+
+abbrev pub versionOf : Bytes → Bytes
+versionOf m = take (beNumber (take 2 (drop 4 m))) (drop 6 m)
+
+-- "read: score[20] type[1] pad[1] count[2]"
+abbrev pub scoreOf : Bytes → Bytes
+scoreOf m = take 20 (drop 4 m)
+
+unfoldable pub readOf : Bytes → Request
+readOf m =
+    cond (eqb (length m) 28 && padAllowed (take 1 (drop 25 m))) (Read (getD m 24 0) (beNumber (take 2 (drop 26 m)))) Ill
+
+-- "write: type[1] pad[3] data"
+abbrev pub dataOf : Bytes → Bytes
+dataOf m = drop 8 m
+
+unfoldable pub writeOf : Bytes → Request
+writeOf m = cond (leb 8 (length m) && padAllowed (take 3 (drop 5 m))) (Write (getD m 4 0)) Ill
+
+-- "ping 2; hello 4; goodbye 6; read 12; write 14; sync 16"; "ping, sync, goodbye: no body"
+unfoldable pub requestOf : Bytes → Request
+requestOf m =
+    cond (eqb (typeOf m) 2) (exactly m (At 4) Ping)
+    (cond (eqb (typeOf m) 4) (exactly m (helloEnd m) Hello)
+    (cond (eqb (typeOf m) 6) (exactly m (At 4) Goodbye)
+    (cond (eqb (typeOf m) 12) (readOf m)
+    (cond (eqb (typeOf m) 14) (writeOf m)
+    (cond (eqb (typeOf m) 16) (exactly m (At 4) Sync) Unknown)))))

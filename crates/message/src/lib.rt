@@ -1,0 +1,209 @@
+// Requests taken apart, and replies put together.
+use refusal::Refusal;
+ghost use mathlib.Core.Path.{_≡_};
+ghost use mathlib.Core.List.{[], _∷_, _++_};
+ghost use Prim.Native.Nat.{_+_, _≤_};
+ghost use lib.ListN.{length};
+ghost use Rattle.buffer.specs.Bytes.{same, put};
+ghost use Rattle.word.specs.Number.{beBytes};
+ghost use Rattle.message.specs.Message.{framed, noZero, textEnd, countedEnd, helloEnd, exactly, readOf, writeOf, requestOf, versionOf};
+ghost use Rattle.message.specs.Reply.{reply, answered, errorReply};
+
+// What a message asks. The version of a hello, the score of a read and the data of a write stay where they are in the message.
+pub enum Request {
+    Ping,
+    Hello,
+    Goodbye,
+    Read { kind: u8, count: usize },
+    Write { kind: u8 },
+    Sync,
+    // A type that no request has.
+    Unknown,
+    // An ill-formed body.
+    Ill,
+}
+
+// Where a field of the body ends.
+pub enum Next {
+    At(usize),
+    Bad,
+}
+
+// Whether a message has its head, and its size is the count of bytes after it.
+pub fn is_framed(m: &[u8]) -> bool
+    ensures { λ r. ⌜ r ≡ framed (now (m .entry)) ⌝ }
+{
+    if m.len() < 4 {
+        return false;
+    }
+    let size = word::number::be_number(&m[..2]);
+    size == (m.len() - 2) as u64
+}
+
+// Whether no byte is zero.
+fn no_zero(s: &[u8]) -> bool
+    ensures { λ r. ⌜ r ≡ noZero (now (s .entry)) ⌝ }
+{
+    let mut i: usize = 0;
+    while i < s.len() {
+        if s[i] == 0 {
+            return false;
+        }
+        i += 1;
+    }
+    true
+}
+
+// Where the text at `at` ends: a two-byte count, and at most 1,024 bytes, none of them zero.
+fn text_end(m: &[u8], at: usize) -> Next
+    requires { ⌜ at ≤ length (now m) ⌝ }
+    ensures { λ r. ⌜ r ≡ textEnd (now (m .entry)) at ⌝ }
+{
+    if m.len() - at < 2 {
+        return Next::Bad;
+    }
+    let from = at + 2;
+    let n = word::number::be_number(&m[at..from]) as usize;
+    if m.len() - from < n {
+        return Next::Bad;
+    }
+    if 1024 < n {
+        return Next::Bad;
+    }
+    let end = from + n;
+    if no_zero(&m[from..end]) {
+        Next::At(end)
+    } else {
+        Next::Bad
+    }
+}
+
+// Where the counted bytes at `at` end: a one-byte count, and as many bytes.
+fn counted_end(m: &[u8], at: usize) -> Next
+    requires { ⌜ at ≤ length (now m) ⌝ }
+    ensures { λ r. ⌜ r ≡ countedEnd (now (m .entry)) at ⌝ }
+{
+    if m.len() - at < 1 {
+        return Next::Bad;
+    }
+    let from = at + 1;
+    let n = m[at] as usize;
+    if m.len() - from < n {
+        return Next::Bad;
+    }
+    Next::At(from + n)
+}
+
+// Where the body of a hello ends: version, uid, strength, crypto, codec.
+fn hello_end(m: &[u8]) -> Next
+    requires { ⌜ 4 ≤ length (now m) ⌝ }
+    ensures { λ r. ⌜ r ≡ helloEnd (now (m .entry)) ⌝ }
+{
+    let version = text_end(m, 4);
+    let Next::At(a) = version else {
+        return Next::Bad;
+    };
+    let uid = text_end(m, a);
+    let Next::At(b) = uid else {
+        return Next::Bad;
+    };
+    if m.len() - b < 1 {
+        return Next::Bad;
+    }
+    let crypto = counted_end(m, b + 1);
+    let Next::At(c) = crypto else {
+        return Next::Bad;
+    };
+    counted_end(m, c)
+}
+
+// The request q, if the message ends where its body does.
+fn exactly(m: &[u8], end: Next, q: Request) -> Request
+    ensures { λ r. ⌜ r ≡ exactly (now (m .entry)) end q ⌝ }
+{
+    let Next::At(at) = end else {
+        return Request::Ill;
+    };
+    if at == m.len() { q } else { Request::Ill }
+}
+
+// A read: score, type, pad, count.
+fn read_of(m: &[u8]) -> Request
+    ensures { λ r. ⌜ r ≡ readOf (now (m .entry)) ⌝ }
+{
+    if m.len() != 28 {
+        return Request::Ill;
+    }
+    Request::Read {
+        kind: m[24],
+        count: word::number::be_number(&m[26..28]) as usize,
+    }
+}
+
+// A write: type, pad, data.
+fn write_of(m: &[u8]) -> Request
+    ensures { λ r. ⌜ r ≡ writeOf (now (m .entry)) ⌝ }
+{
+    if m.len() < 8 {
+        return Request::Ill;
+    }
+    Request::Write { kind: m[4] }
+}
+
+// What a message that has its head asks.
+pub fn parse(m: &[u8]) -> Request
+    requires { ⌜ 4 ≤ length (now m) ⌝ }
+    ensures { λ r. ⌜ r ≡ requestOf (now (m .entry)) ⌝ }
+{
+    let kind = m[2];
+    match kind {
+        2 => exactly(m, Next::At(4), Request::Ping),
+        4 => exactly(m, hello_end(m), Request::Hello),
+        6 => exactly(m, Next::At(4), Request::Goodbye),
+        12 => read_of(m),
+        14 => write_of(m),
+        16 => exactly(m, Next::At(4), Request::Sync),
+        _ => Request::Unknown,
+    }
+}
+
+// Whether the version of a hello is "02". Any message may be asked.
+pub fn is_version(m: &[u8]) -> bool
+    ensures { λ r. ⌜ r ≡ same (versionOf (now (m .entry))) (48 ∷ 50 ∷ []) ⌝ }
+{
+    if m.len() < 6 {
+        return false;
+    }
+    let n = word::number::be_number(&m[4..6]) as usize;
+    let end = if m.len() - 6 < n { m.len() } else { 6 + n };
+    buffer::equal(&m[6..end], b"02")
+}
+
+// Writes the head of a reply with `count` bytes of body: size, type, tag.
+pub fn write_head(buffer: &mut [u8], kind: u8, tag: u8, count: usize)
+    requires { ⌜ (4 ≤ length (now buffer)) × (count ≤ 65533) ⌝ }
+    ensures { λ _. ⌜ now (buffer .exit) ≡ put (now (buffer .entry)) 0 (beBytes 2 (2 + count) ++ (kind ∷ tag ∷ [])) ⌝ }
+{
+    word::number::put_be(&mut buffer[..2], (2 + count) as u64);
+    buffer[2] = kind;
+    buffer[3] = tag;
+}
+
+// Writes a reply to the front of the buffer.
+pub fn write_reply(buffer: &mut [u8], kind: u8, tag: u8, body: &[u8])
+    requires { ⌜ (4 + length (now body) ≤ length (now buffer)) × (length (now body) ≤ 65533) ⌝ }
+    ensures { λ _. ⌜ now (buffer .exit) ≡ answered (now (buffer .entry)) (reply kind tag (now (body .entry))) ⌝ }
+{
+    write_head(buffer, kind, tag, body.len());
+    buffer::copy_at(buffer, 4, body);
+}
+
+// Writes an error reply, whose text is why= and the number of the refusal in two digits.
+pub fn write_error(buffer: &mut [u8], tag: u8, why: Refusal)
+    requires { ⌜ 12 ≤ length (now buffer) ⌝ }
+    ensures { λ _. ⌜ now (buffer .exit) ≡ answered (now (buffer .entry)) (errorReply tag why) ⌝ }
+{
+    let n = refusal::number(why);
+    let body = [0, 6, b'w', b'h', b'y', b'=', b'0' + n / 10, b'0' + n % 10];
+    write_reply(buffer, 1, tag, &body);
+}

@@ -1,0 +1,4 @@
+pub mod Encode
+pub mod Fields
+pub mod Unfit
+pub mod Written

@@ -1,0 +1,78 @@
+use mathlib.Core.Path.{_≡_, refl, sym, ap, ap₂, _∙_}
+use Prim.Native.Nat.{ℕ, _+_, _-_, _≤_}
+use native.Mathlib.Omega.{arith}
+use lib.ListN.{length, take, drop, length-drop, replicate}
+use lib.Seq.{length-take-le, take-all}
+use Rattle.buffer.specs.Bytes.{Bytes, same}
+use Rattle.buffer.proofs.Put.{put-whole}
+use Rattle.word.specs.Hex.{hex}
+use Rattle.crc32.specs.Crc32.{crc32Of}
+use Rattle.sector.specs.Sector.{line, crcName, labelOf, check, fits}
+use Rattle.sector.proofs.Encode.{length-check}
+use Rattle.sector.proofs.Fields.{length-label}
+use Rattle.sector.proofs.Written.{length-three, sector-written}
+use borrow.Author.Needs.{needs}
+use Rattle.sector.proofs.has_check.Statement.{statement}
+use Rattle.sector.proofs.has_check.Tie as tie
+use Rattle.sector.proofs.has_check.Reads as reads
+use Rattle.sector.proofs.has_check.Lts as lts
+use Rattle.buffer.proofs.equal.Reads as equal-reads
+use Rattle.crc32.proofs.crc32.Reads as crc32-reads
+use Rattle.sector.proofs.write_line.Reads as write-line-reads
+
+slice-aggregate-crc32 : tie.Need-slice-aggregate-crc32
+slice-aggregate-crc32 c = sym (length-take-le 499 ((c .before .before .args .s .now)) (omega arith))
+
+crc32-requires : tie.Need-crc32-requires
+crc32-requires c κs = search needs
+
+slice-aggregate-write-line : tie.Need-slice-aggregate-write-line
+slice-aggregate-write-line c = search needs
+
+slice-aggregate-write-line-2 : tie.Need-slice-aggregate-write-line-2
+slice-aggregate-write-line-2 c = search needs
+
+cast-write-line : tie.Need-cast-write-line
+cast-write-line c = search needs
+
+write-line-requires : tie.Need-write-line-requires
+write-line-requires c κs = search needs
+
+sub-equal : tie.Need-sub-equal
+sub-equal c = search needs
+
+part-equal-start : tie.Need-part-equal-start
+part-equal-start c = search needs
+
+part-equal-end : tie.Need-part-equal-end
+part-equal-end c = search needs
+
+slice-aggregate-equal : tie.Need-slice-aggregate-equal
+slice-aggregate-equal c = search needs
+
+equal-requires : tie.Need-equal-requires
+equal-requires c κs = search needs
+
+returns : tie.Need-returns
+unfolding fits check hex
+returns c =
+    let s = (c .before .before .before .before .before .before .before .before .before .before .args .s .now) in
+    let tail : take (length s - 499) (drop 499 s) ≡ drop 499 s = take-all (length s - 499) (drop 499 s) (omega (arith, length-drop 499 s)) in
+    (c .equal .ensures) ∙ ap₂ same tail ((c .before .before .before .before .write-line .ensures) ∙ put-whole (replicate 13 0) (line crcName (hex 8 ((c .before .before .before .before .before .before .before .crc32 .result)))) refl ∙ ap (λ (k : ℕ). line crcName (hex 8 k)) ((c .before .before .before .before .before .before .before .crc32 .ensures)))
+
+pub has-check-spec : {M : Type 1} → statement M
+has-check-spec =
+    tie.close
+    (tie.spec
+    slice-aggregate-crc32
+    crc32-requires
+    slice-aggregate-write-line
+    slice-aggregate-write-line-2
+    cast-write-line
+    write-line-requires
+    sub-equal
+    part-equal-start
+    part-equal-end
+    slice-aggregate-equal
+    equal-requires
+    returns)

@@ -1,0 +1,81 @@
+use mathlib.Core.Path.{_≡_, refl, sym, ap, _∙_}
+use Prim.Native.Nat.{ℕ, _+_, _-_, _*_, _≤_, _<_}
+use native.Mathlib.Omega.{arith}
+use lib.ListN.{length}
+use Rattle.sector.proofs.Written.{label-written}
+use borrow.Author.Needs.{needs}
+use Rattle.sector.proofs.write_label.Statement.{statement}
+use Rattle.sector.proofs.write_label.Tie as tie
+use Rattle.sector.proofs.write_label.Reads as reads
+use Rattle.sector.proofs.write_label.Lts as lts
+use Rattle.sector.proofs.write_line.Reads as write-line-reads
+use Rattle.sector.proofs.write_score.Reads as write-score-reads
+
+slice-aggregate-write-line : tie.Need-slice-aggregate-write-line
+slice-aggregate-write-line c = search needs
+
+write-line-requires : tie.Need-write-line-requires
+write-line-requires c κs = search needs
+
+slice-aggregate-write-line-2 : tie.Need-slice-aggregate-write-line-2
+slice-aggregate-write-line-2 c = search needs
+
+write-line-requires-2 : tie.Need-write-line-requires-2
+write-line-requires-2 c κs = search needs
+
+slice-aggregate-write-line-3 : tie.Need-slice-aggregate-write-line-3
+slice-aggregate-write-line-3 c = search needs
+
+write-line-requires-3 : tie.Need-write-line-requires-3
+write-line-requires-3 c κs = search needs
+
+slice-aggregate-write-line-4 : tie.Need-slice-aggregate-write-line-4
+slice-aggregate-write-line-4 c = search needs
+
+cast-write-line : tie.Need-cast-write-line
+cast-write-line c = search needs
+
+write-line-requires-4 : tie.Need-write-line-requires-4
+write-line-requires-4 c κs = search needs
+
+slice-aggregate-write-line-5 : tie.Need-slice-aggregate-write-line-5
+slice-aggregate-write-line-5 c = search needs
+
+write-line-requires-5 : tie.Need-write-line-requires-5
+write-line-requires-5 c κs = search needs
+
+write-score-requires : tie.Need-write-score-requires
+write-score-requires c κs =
+    let k₁ : length ((c .before .before .before .before .before .before .before .before .before .before .before .before .before .before .before .before .before .before .before .before .before .before .before .before .write-line .last .0)) ≡ length ((c .before .before .before .before .before .before .before .before .before .before .before .before .before .before .before .before .before .before .before .before .before .before .before .before .before .before .before .before .before .before .args .d .now)) = (c .before .before .before .before .before .before .before .before .before .before .before .before .before .before .before .before .before .before .before .before .before .before .before .before .write-line .kept .0) in
+    let k₂ : length ((c .before .before .before .before .before .before .before .before .before .before .before .before .before .before .before .before .before .before .before .write-line2 .last .0)) ≡ length ((c .before .before .before .before .before .before .before .before .before .before .before .before .before .before .before .before .before .before .before .before .before .before .before .before .write-line .last .0)) = (c .before .before .before .before .before .before .before .before .before .before .before .before .before .before .before .before .before .before .before .write-line2 .kept .0) in
+    let k₃ : length ((c .before .before .before .before .before .before .before .before .before .before .before .before .before .before .write-line3 .last .0)) ≡ length ((c .before .before .before .before .before .before .before .before .before .before .before .before .before .before .before .before .before .before .before .write-line2 .last .0)) = (c .before .before .before .before .before .before .before .before .before .before .before .before .before .before .write-line3 .kept .0) in
+    let k₄ : length ((c .before .before .before .before .before .before .before .before .write-line4 .last .0)) ≡ length ((c .before .before .before .before .before .before .before .before .before .before .before .before .before .before .write-line3 .last .0)) = (c .before .before .before .before .before .before .before .before .write-line4 .kept .0) in
+    let k₅ : length ((c .before .before .before .write-line5 .last .0)) ≡ length ((c .before .before .before .before .before .before .before .before .write-line4 .last .0)) = (c .before .before .before .write-line5 .kept .0) in
+    let p : 96 ≤ length ((c .before .before .before .before .before .before .before .before .before .before .before .before .before .before .before .before .before .before .before .before .before .before .before .before .before .before .before .before .before .before .args .d .now)) = (c .before .before .before .before .before .before .before .before .before .before .before .before .before .before .before .before .before .before .before .before .before .before .before .before .before .before .before .before .before .before .pre .0) in
+    let g : 96 ≤ length ((c .before .before .before .write-line5 .last .0)) = omega (arith, p) in
+    (g, (c .before .before .before .before .before .before .before .before .before .before .before .before .before .before .before .before .before .before .before .before .before .before .before .before .before .before .before .before .before .before .pre .1))
+
+same-length : tie.Need-same-length
+same-length c = search needs
+
+returns : tie.Need-returns
+returns c = label-written ((c .before .before .before .before .before .before .before .before .before .before .before .before .before .before .before .before .before .before .before .before .before .before .before .before .before .before .before .before .before .before .before .before .before .args .d .now)) _ _ _ _ _ _ ((c .before .before .before .before .before .before .before .before .before .before .before .before .before .before .before .before .before .before .before .before .before .before .before .before .before .before .before .before .before .before .before .before .before .args .l)) ((c .before .before .before .before .before .before .before .before .before .before .before .before .before .before .before .before .before .before .before .before .before .before .before .before .before .before .before .before .before .before .before .before .before .args .score .now)) ((c .before .before .before .before .before .before .before .before .before .before .before .before .before .before .before .before .before .before .before .before .before .before .before .before .before .before .before .before .before .before .before .before .before .pre .0)) ((c .before .before .before .before .before .before .before .before .before .before .before .before .before .before .before .before .before .before .before .before .before .before .before .before .before .before .before .before .before .before .before .before .before .pre .1)) ((c .before .before .before .before .before .before .before .before .before .before .before .before .before .before .before .before .before .before .before .before .before .before .before .before .before .before .before .write-line .ensures)) ((c .before .before .before .before .before .before .before .before .before .before .before .before .before .before .before .before .before .before .before .before .before .before .write-line2 .ensures)) ((c .before .before .before .before .before .before .before .before .before .before .before .before .before .before .before .before .before .write-line3 .ensures)) ((c .before .before .before .before .before .before .before .before .before .before .before .write-line4 .ensures)) ((c .before .before .before .before .before .before .write-line5 .ensures)) ((c .before .before .write-score .ensures))
+
+pub write-label-spec : {M : Type 1} → statement M
+write-label-spec =
+    tie.close
+    (tie.spec
+    slice-aggregate-write-line
+    write-line-requires
+    slice-aggregate-write-line-2
+    write-line-requires-2
+    slice-aggregate-write-line-3
+    write-line-requires-3
+    slice-aggregate-write-line-4
+    cast-write-line
+    write-line-requires-4
+    slice-aggregate-write-line-5
+    write-line-requires-5
+    write-score-requires
+    same-length
+    returns)

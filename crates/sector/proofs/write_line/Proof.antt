@@ -1,0 +1,62 @@
+use mathlib.Core.Path.{_≡_, refl, sym, ap, _∙_}
+use mathlib.Core.List.{List, [], _∷_, _++_}
+use Prim.Native.Nat.{ℕ, _+_, _-_, _*_, _≤_, _<_}
+use native.Mathlib.Omega.{arith}
+use lib.ListN.{length, take, drop}
+use Rattle.buffer.proofs.Put.{length-put}
+use Rattle.word.specs.Hex.{hex, hexBytes}
+use Rattle.word.proofs.HexLaws.{hex-length, hexBytes-length}
+use Rattle.sector.specs.Sector.{scoreName}
+use Rattle.sector.proofs.Written.{part-length, digits-part, line-written, line-length}
+use borrow.Author.Needs.{needs}
+use Rattle.sector.proofs.write_line.Statement.{statement}
+use Rattle.sector.proofs.write_line.Tie as tie
+use Rattle.sector.proofs.write_line.Reads as reads
+use Rattle.sector.proofs.write_line.Lts as lts
+use Rattle.buffer.proofs.copy_at.Reads as copy-at-reads
+use Rattle.word.proofs.hex.put_hex.Reads as put-hex-reads
+
+copy-at-requires : tie.Need-copy-at-requires
+copy-at-requires c κs = search needs
+
+add-from : tie.Need-add-from
+add-from c = search needs
+
+add-end : tie.Need-add-end
+add-end c = search needs
+
+sub-put-hex : tie.Need-sub-put-hex
+sub-put-hex c = search needs
+
+part-put-hex-start : tie.Need-part-put-hex-start
+part-put-hex-start c = search needs
+
+part-put-hex-end : tie.Need-part-put-hex-end
+part-put-hex-end c = search needs
+
+put-hex-requires : tie.Need-put-hex-requires
+put-hex-requires c κs = search needs
+
+slice-write-d : tie.Need-slice-write-d
+slice-write-d c = search needs
+
+same-length : tie.Need-same-length
+same-length c = line-length ((c .before .before .before .before .before .before .before .before .before .before .args .d .now)) _ _ ((c .before .before .before .before .before .before .before .before .before .before .args .name .now)) (hex ((c .before .before .before .before .before .before .before .before .before .before .args .width)) ((c .before .before .before .before .before .before .before .before .before .before .args .n))) ((c .before .before .before .before .before .before .before .before .before .before .args .at)) ((c .before .before .before .before .before .before .before .before .before .before .args .width)) (omega arith) ((c .before .before .before .before .before .before .copy-at .ensures)) (hex-length ((c .before .before .before .before .before .before .before .before .before .before .args .width)) ((c .before .before .before .before .before .before .before .before .before .before .args .n))) (digits-part _ _ ((c .before .before .before .before .before .before .before .before .before .before .args .at) + length ((c .before .before .before .before .before .before .before .before .before .before .args .name .now))) ((c .before .before .before .before .before .before .before .before .before .before .args .width)) ((c .before .before .before .before .before .before .before .before .before .before .args .n)) (omega (arith, ap length ((c .before .before .before .before .before .before .copy-at .ensures)), length-put ((c .before .before .before .before .before .before .before .before .before .before .args .d .now)) ((c .before .before .before .before .before .before .before .before .before .before .args .at)) ((c .before .before .before .before .before .before .before .before .before .before .args .name .now)) (omega arith))) ((c .before .before .put-hex .ensures)))
+
+returns : tie.Need-returns
+returns c = line-written ((c .before .before .before .before .before .before .before .before .before .before .args .d .now)) _ _ ((c .before .before .before .before .before .before .before .before .before .before .args .name .now)) (hex ((c .before .before .before .before .before .before .before .before .before .before .args .width)) ((c .before .before .before .before .before .before .before .before .before .before .args .n))) ((c .before .before .before .before .before .before .before .before .before .before .args .at)) ((c .before .before .before .before .before .before .before .before .before .before .args .width)) (omega arith) ((c .before .before .before .before .before .before .copy-at .ensures)) (hex-length ((c .before .before .before .before .before .before .before .before .before .before .args .width)) ((c .before .before .before .before .before .before .before .before .before .before .args .n))) (digits-part _ _ ((c .before .before .before .before .before .before .before .before .before .before .args .at) + length ((c .before .before .before .before .before .before .before .before .before .before .args .name .now))) ((c .before .before .before .before .before .before .before .before .before .before .args .width)) ((c .before .before .before .before .before .before .before .before .before .before .args .n)) (omega (arith, ap length ((c .before .before .before .before .before .before .copy-at .ensures)), length-put ((c .before .before .before .before .before .before .before .before .before .before .args .d .now)) ((c .before .before .before .before .before .before .before .before .before .before .args .at)) ((c .before .before .before .before .before .before .before .before .before .before .args .name .now)) (omega arith))) ((c .before .before .put-hex .ensures)))
+
+pub write-line-spec : {M : Type 1} → statement M
+write-line-spec =
+    tie.close
+    (tie.spec
+    copy-at-requires
+    add-from
+    add-end
+    sub-put-hex
+    part-put-hex-start
+    part-put-hex-end
+    put-hex-requires
+    slice-write-d
+    same-length
+    returns)

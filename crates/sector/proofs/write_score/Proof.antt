@@ -1,0 +1,61 @@
+use native.Mathlib.Omega.{arith}
+use Rattle.word.specs.Hex.{hexBytes}
+use Rattle.word.proofs.HexLaws.{hexBytes-length}
+use Rattle.sector.specs.Sector.{scoreName}
+use Rattle.sector.proofs.Written.{line-written, line-length}
+use borrow.Author.Needs.{needs}
+use Rattle.sector.proofs.write_score.Statement.{statement}
+use Rattle.sector.proofs.write_score.Tie as tie
+use Rattle.sector.proofs.write_score.Reads as reads
+use Rattle.sector.proofs.write_score.Lts as lts
+use Rattle.buffer.proofs.copy_at.Reads as copy-at-reads
+use Rattle.word.proofs.hex.put_hex_bytes.Reads as put-hex-bytes-reads
+
+slice-aggregate-copy-at : tie.Need-slice-aggregate-copy-at
+slice-aggregate-copy-at c = search needs
+
+copy-at-requires : tie.Need-copy-at-requires
+copy-at-requires c κs = search needs
+
+add-from : tie.Need-add-from
+add-from c = search needs
+
+add-end : tie.Need-add-end
+add-end c = search needs
+
+sub-put-hex-bytes : tie.Need-sub-put-hex-bytes
+sub-put-hex-bytes c = search needs
+
+part-put-hex-bytes-start : tie.Need-part-put-hex-bytes-start
+part-put-hex-bytes-start c = search needs
+
+part-put-hex-bytes-end : tie.Need-part-put-hex-bytes-end
+part-put-hex-bytes-end c = search needs
+
+put-hex-bytes-requires : tie.Need-put-hex-bytes-requires
+put-hex-bytes-requires c κs = search needs
+
+slice-write-d : tie.Need-slice-write-d
+slice-write-d c = search needs
+
+same-length : tie.Need-same-length
+same-length c = line-length ((c .before .before .before .before .before .before .before .before .before .before .before .args .d .now)) _ _ scoreName (hexBytes ((c .before .before .before .before .before .before .before .before .before .before .before .args .score .now))) ((c .before .before .before .before .before .before .before .before .before .before .before .args .at)) 40 (omega arith) ((c .before .before .before .before .before .before .copy-at .ensures)) (omega (arith, hexBytes-length ((c .before .before .before .before .before .before .before .before .before .before .before .args .score .now)))) ((c .before .before .put-hex-bytes .ensures))
+
+returns : tie.Need-returns
+returns c = line-written ((c .before .before .before .before .before .before .before .before .before .before .before .args .d .now)) _ _ scoreName (hexBytes ((c .before .before .before .before .before .before .before .before .before .before .before .args .score .now))) ((c .before .before .before .before .before .before .before .before .before .before .before .args .at)) 40 (omega arith) ((c .before .before .before .before .before .before .copy-at .ensures)) (omega (arith, hexBytes-length ((c .before .before .before .before .before .before .before .before .before .before .before .args .score .now)))) ((c .before .before .put-hex-bytes .ensures))
+
+pub write-score-spec : {M : Type 1} → statement M
+write-score-spec =
+    tie.close
+    (tie.spec
+    slice-aggregate-copy-at
+    copy-at-requires
+    add-from
+    add-end
+    sub-put-hex-bytes
+    part-put-hex-bytes-start
+    part-put-hex-bytes-end
+    put-hex-bytes-requires
+    slice-write-d
+    same-length
+    returns)

@@ -1,0 +1,91 @@
+-- "A sector of the log": 96 bytes of label, 403 of payload, 13 of check. Nothing below but the label's own lines knows
+-- the label's length: another edition of the label is another list of lines.
+use mathlib.Core.Bool.{Bool}
+use mathlib.Core.List.{List, [], _∷_, _++_}
+use Prim.Native.Nat.{ℕ, _-_}
+use lib.ListN.{length, take, drop, replicate}
+use Rattle.buffer.specs.Bytes.{Bytes, same}
+use Rattle.word.specs.Hex.{hex, hexBytes, hexValue, readBytes}
+use Rattle.crc32.specs.Crc32.{crc32Of}
+use Rattle.sector.specs.declared.Label.{Label}
+
+-- "each ended by one line feed": a line is its name with "=", the value's digits and a line feed
+abbrev pub line : Bytes → Bytes → Bytes
+line name value = name ++ (value ++ (10 ∷ []))
+
+-- "lines in a fixed order"
+abbrev pub lines : List Bytes → Bytes
+lines [] = []
+lines (l ∷ ls) = l ++ lines ls
+
+-- the names, as bytes: rec= part= of= type= size= score= crc=
+abbrev pub recName : Bytes
+recName = 114 ∷ 101 ∷ 99 ∷ 61 ∷ []
+
+abbrev pub partName : Bytes
+partName = 112 ∷ 97 ∷ 114 ∷ 116 ∷ 61 ∷ []
+
+abbrev pub ofName : Bytes
+ofName = 111 ∷ 102 ∷ 61 ∷ []
+
+abbrev pub typeName : Bytes
+typeName = 116 ∷ 121 ∷ 112 ∷ 101 ∷ 61 ∷ []
+
+abbrev pub sizeName : Bytes
+sizeName = 115 ∷ 105 ∷ 122 ∷ 101 ∷ 61 ∷ []
+
+abbrev pub scoreName : Bytes
+scoreName = 115 ∷ 99 ∷ 111 ∷ 114 ∷ 101 ∷ 61 ∷ []
+
+abbrev pub crcName : Bytes
+crcName = 99 ∷ 114 ∷ 99 ∷ 61 ∷ []
+
+-- "rec= (8 digits, the sector number where the block starts), part= (4), of= (4), type= (2), size= (4, bytes in the block), score= (40)"
+abbrev pub labelLines : Label → Bytes → List Bytes
+labelLines l score =
+    line recName (hex 8 (l .first .0))
+    ∷ line partName (hex 4 (l .part))
+    ∷ line ofName (hex 4 (l .of))
+    ∷ line typeName (hex 2 (l .kind))
+    ∷ line sizeName (hex 4 (l .size))
+    ∷ line scoreName (hexBytes score)
+    ∷ []
+
+unfoldable pub labelOf : Label → Bytes → Bytes
+labelOf l score = lines (labelLines l score)
+
+-- what the digits at their places in such a label say; digits that are none make a number that no label has there
+abbrev pub recField : Bytes → ℕ
+recField s = hexValue (take 8 (drop 4 s))
+
+abbrev pub kindField : Bytes → ℕ
+kindField s = hexValue (take 2 (drop 36 s))
+
+abbrev pub sizeField : Bytes → ℕ
+sizeField s = hexValue (take 4 (drop 44 s))
+
+abbrev pub scoreDigits : Bytes → Bytes
+scoreDigits s = take 40 (drop 55 s)
+
+abbrev pub scoreField : Bytes → Bytes
+scoreField s = readBytes (scoreDigits s)
+
+-- "then crcName (8)": the line of the check over the bytes before it
+unfoldable pub check : Bytes → Bytes
+check body = line crcName (hex 8 (crc32Of body))
+
+-- "over the first 499 bytes; it fits when the last 13 bytes are exactly its line"
+unfoldable pub fits : Bytes → Bool
+fits s = same (drop 499 s) (check (take 499 s))
+
+-- data filled up with zeros, or cut, to n bytes
+unfoldable pub filled : ℕ → Bytes → Bytes
+filled n d = take n (d ++ replicate n 0)
+
+-- a sector: a label, a payload that fills it up to 499 bytes, and the check
+unfoldable pub encode : Bytes → Bytes → Bytes
+encode label d = let body = label ++ filled (499 - length label) d in body ++ check body
+
+-- "A blank sector is all zeros"
+unfoldable pub blank : Bytes
+blank = replicate 512 0

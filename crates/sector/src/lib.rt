@@ -1,0 +1,100 @@
+// One sector of the log: label, payload and check, written and tested.
+ghost use mathlib.Core.Path.{_≡_};
+ghost use Prim.Native.Nat.{_+_, _≤_};
+ghost use lib.ListN.{length, take, drop};
+ghost use Rattle.buffer.specs.Bytes.{same, put};
+ghost use Rattle.word.specs.Hex.{hex, hexBytes};
+ghost use Rattle.sector.specs.Sector.{line, scoreName, labelOf, fits, encode};
+
+// The number of a sector of the log, so that it can't be mixed with byte offsets or part numbers.
+pub struct SectorNumber(pub usize);
+
+// What the label of a sector says beside the score: the sector where the block starts, which part this is and of how many,
+// the block's type, and the bytes in the block.
+pub struct Label {
+    pub first: SectorNumber,
+    pub part: usize,
+    pub of: usize,
+    pub kind: u8,
+    pub size: usize,
+}
+
+pub const SECTOR: usize = 512;
+
+pub const LABEL: usize = 96;
+
+pub const PAYLOAD: usize = 403;
+
+pub const BODY: usize = 499;
+
+// Writes a line, its name, the digits of n and a line feed, into d from `at` on.
+pub fn write_line(d: &mut [u8], at: usize, name: &[u8], width: usize, n: usize)
+    requires { ⌜ at + (length (now name) + (width + 1)) ≤ length (now d) ⌝ }
+    ensures { λ _. ⌜ now (d .exit) ≡ put (now (d .entry)) at (line (now (name .entry)) (hex width n)) ⌝ }
+{
+    buffer::copy_at(d, at, name);
+    let from = at + name.len();
+    let end = from + width;
+    word::hex::put_hex(&mut d[from..end], n as u64);
+    d[end] = 10;
+}
+
+// Writes the line of a score into d from `at` on.
+fn write_score(d: &mut [u8], at: usize, score: &[u8])
+    requires { ⌜ (at + 47 ≤ length (now d)) × (length (now score) ≡ 20) ⌝ }
+    ensures { λ _. ⌜ now (d .exit) ≡ put (now (d .entry)) at (line scoreName (hexBytes (now (score .entry)))) ⌝ }
+{
+    buffer::copy_at(d, at, b"score=");
+    let from = at + 6;
+    let end = from + 40;
+    word::hex::put_hex_bytes(&mut d[from..end], score);
+    d[end] = 10;
+}
+
+// Writes the six lines of a label to the front of d.
+pub fn write_label(d: &mut [u8], l: Label, score: &[u8])
+    requires { ⌜ (96 ≤ length (now d)) × (length (now score) ≡ 20) ⌝ }
+    ensures { λ _. ⌜ now (d .exit) ≡ put (now (d .entry)) 0 (labelOf l (now (score .entry))) ⌝ }
+{
+    let first = l.first;
+    write_line(d, 0, b"rec=", 8, first.0);
+    write_line(d, 13, b"part=", 4, l.part);
+    write_line(d, 23, b"of=", 4, l.of);
+    write_line(d, 31, b"type=", 2, l.kind as usize);
+    write_line(d, 39, b"size=", 4, l.size);
+    write_score(d, 49, score);
+}
+
+// Whether the first 96 bytes of a sector are exactly the lines of a label.
+pub fn has_label(s: &[u8], l: Label, score: &[u8]) -> bool
+    requires { ⌜ (96 ≤ length (now s)) × (length (now score) ≡ 20) ⌝ }
+    ensures { λ r. ⌜ r ≡ same (take 96 (now (s .entry))) (labelOf l (now (score .entry))) ⌝ }
+{
+    let mut expected = [0u8; 96];
+    write_label(&mut expected, l, score);
+    buffer::equal(&s[..LABEL], &expected)
+}
+
+// Whether the last 13 bytes of a sector are exactly the line of its check.
+pub fn has_check(s: &[u8]) -> bool
+    requires { ⌜ length (now s) ≡ 512 ⌝ }
+    ensures { λ r. ⌜ r ≡ fits (now (s .entry)) ⌝ }
+{
+    let crc = crc32::crc32(&s[..BODY]);
+    let mut expected = [0u8; 13];
+    write_line(&mut expected, 0, b"crc=", 8, crc as usize);
+    buffer::equal(&s[BODY..], &expected)
+}
+
+// Writes a sector: the label, a piece of data filled up with zeros, and the check.
+pub fn write_sector(d: &mut [u8], l: Label, score: &[u8], piece: &[u8])
+    requires { ⌜ (length (now d) ≡ 512) × (length (now score) ≡ 20) × (length (now piece) ≤ 403) ⌝ }
+    ensures { λ _. ⌜ now (d .exit) ≡ encode (labelOf l (now (score .entry))) (now (piece .entry)) ⌝ }
+{
+    write_label(d, l, score);
+    buffer::copy_at(d, LABEL, piece);
+    let end = LABEL + piece.len();
+    buffer::clear(&mut d[end..BODY]);
+    let crc = crc32::crc32(&d[..BODY]);
+    write_line(d, BODY, b"crc=", 8, crc as usize);
+}

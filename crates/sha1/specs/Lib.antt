@@ -1,0 +1,3 @@
+-- What the clauses of `sha1` cite.
+pub mod Sha1
+pub mod Stream
