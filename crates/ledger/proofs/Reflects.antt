@@ -19,12 +19,13 @@ use Rattle.ledger.proofs.Cells.{cell, cell-in, cell-blank, cell-cases, 
 use Rattle.ledger.proofs.Blocks.{blocks-in, blocks-out, blocks-ascend}
 
 module _ (A : Archive) where
-  open Archive A using (Log, extent, sectors, at, isBlank, fits, Row, valid)
+  open Archive A using (Log, extent, sectors, at, isBlank, fits, Row, valid, owned)
 
   -- a log as a ledger has it: the rows stand one behind the other and inside; a sector not changed holds what the rows put there,
   -- a changed one does not fit its check and is not blank
   pub record Reflects (log : Log) (L : Ledger A) : Type 0 where
     pub valids : (r : Row) → List·Memᴰ r (L .rows) → valid r ≡ true
+    pub owneds : (r : Row) → List·Memᴰ r (L .rows) → owned r ≡ true
     pub apart : Apart A 0 (L .rows)
     pub room : end A L ≤ sectors (extent log)
     pub plain : (n : ℕ) → has n (L .changed) ≡ false → at log n ≡ cell A (L .rows) n

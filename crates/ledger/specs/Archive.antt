@@ -48,6 +48,8 @@ pub record Archive : Type 1 where
   pub parts : Row → ℕ
   pub image : Row → ℕ → Sector
   pub valid : Row → Bool
+  -- whether the ledger can have added it
+  pub owned : Row → Bool
   -- the sound block that starts at a sector of a log; a log with a row written
   pub sound : Log → ℕ → Option Row
   pub written : Log → Row → Log

@@ -1,7 +1,7 @@
 -- The laws of an archive on which the ledger's theorem rests. It rests on nothing else of the format or of the messages.
 use mathlib.Core.Path.{_≡_}
 use mathlib.Core.Bool.{Bool, true, false, cond}
-use mathlib.Core.List.{List}
+use mathlib.Core.List.{List, List·Memᴰ}
 use mathlib.Core.Logic.{_≢_}
 use mathlib.Core.Option.{Option, none, some}
 use Prim.Native.Nat.{ℕ, _+_, _-_, _≤_, _<_}
@@ -9,7 +9,7 @@ use Rattle.ledger.specs.Archive.{Outcome, within, on, Archive}
 use Rattle.ledger.specs.Ledger.{Ledger, intact, end, blocks, shown}
 
 module _ (A : Archive) where
-  open Archive A using (Log, Extent, Sector, extent, sectors, void, at, blank, isBlank, fits, Near, used, Row, first, parts, image, valid, sound, written, Request, Session, OfBytes, serve, tell)
+  open Archive A using (Log, Extent, Sector, extent, sectors, void, at, blank, isBlank, fits, Near, used, Row, first, parts, image, valid, owned, sound, written, Request, Session, OfBytes, serve, tell)
 
   pub record Lawful : Type 0 where
     -- laws of the log
@@ -36,8 +36,9 @@ module _ (A : Archive) where
     pub sound-finds : (log : Log) (r : Row) → valid r ≡ true → first r + parts r ≤ sectors (extent log)
         → ((k : ℕ) → k < parts r → at log (first r + k) ≡ image r k) → sound log (first r) ≡ some r
     -- the two accounts of a request: where the sound blocks are the intact rows and the used part ends at the end, they are one
-    pub agrees : (log : Log) (L : Ledger A) (s : Session) (q : Request) → OfBytes q → blocks A log ≡ intact A L → used log ≡ end A L
+    pub agrees : (log : Log) (L : Ledger A) (s : Session) (q : Request) → OfBytes q → ((r : Row) → List·Memᴰ r (L .rows) → owned r ≡ true)
+        → blocks A log ≡ intact A L → used log ≡ end A L
         → serve log s q ≡ shown A log (tell (L .rows) (L .changed) (extent log) s q)
     -- a row that the ledger adds can be written, stands at the end, and has room
     pub tell-adds : (L : Ledger A) (x : Extent) (s : Session) (q : Request) (r : Row) → OfBytes q → (tell (L .rows) (L .changed) x s q) .adds ≡ some r
-        → (valid r ≡ true) × (first r ≡ end A L) × (first r + parts r ≤ sectors x)
+        → (valid r ≡ true) × (first r ≡ end A L) × (first r + parts r ≤ sectors x) × (owned r ≡ true)

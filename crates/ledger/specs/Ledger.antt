@@ -10,6 +10,31 @@ abbrev pub has : ℕ → List ℕ → Bool
 has n [] = false
 has n (c ∷ cs) = eqb n c || has n cs
 
+-- rows of any kind, by their first sectors and how many they cover
+module _ {Row : Type 0} (first parts : Row → ℕ) where
+  -- "A row covers sectors from there on, its byte count over 403 rounded up"
+  abbrev pub rowCovers : Row → ℕ → Bool
+  rowCovers r n = within (first r) (parts r) n
+
+  -- one of the sectors cs is the row's
+  abbrev pub rowHit : List ℕ → Row → Bool
+  rowHit [] r = false
+  rowHit (c ∷ cs) r = rowCovers r c || rowHit cs r
+
+  -- "and is intact while none of them is changed": the intact rows, in order
+  abbrev pub intactRows : List ℕ → List Row → List Row
+  intactRows cs [] = []
+  intactRows cs (r ∷ rows) = cond (rowHit cs r) (intactRows cs rows) (r ∷ intactRows cs rows)
+
+  -- "The end is one past the last sector covered or changed, else 0"
+  abbrev pub rowsEnd : List Row → ℕ
+  rowsEnd [] = 0
+  rowsEnd (r ∷ rows) = max (first r + parts r) (rowsEnd rows)
+
+abbrev pub changedEnd : List ℕ → ℕ
+changedEnd [] = 0
+changedEnd (c ∷ cs) = max (suc c) (changedEnd cs)
+
 module _ (A : Archive) where
   open Archive A using (Log, extent, sectors, Row, first, parts, sound, written, Answer, Session)
 
@@ -29,31 +54,23 @@ module _ (A : Archive) where
   abbrev pub enter : Row → Ledger → Ledger
   enter r L = record { rows = L .rows ++ (r ∷ []); changed = L .changed }
 
-  -- "A row covers sectors from there on, its byte count over 403 rounded up"
   abbrev pub covers : Row → ℕ → Bool
-  covers r n = within (first r) (parts r) n
+  covers = rowCovers first parts
 
-  -- one of the sectors cs is the row's
   abbrev pub hit : List ℕ → Row → Bool
-  hit [] r = false
-  hit (c ∷ cs) r = covers r c || hit cs r
+  hit = rowHit first parts
 
-  -- "and is intact while none of them is changed": the intact rows, in order
   abbrev pub intactOf : List ℕ → List Row → List Row
-  intactOf cs [] = []
-  intactOf cs (r ∷ rows) = cond (hit cs r) (intactOf cs rows) (r ∷ intactOf cs rows)
+  intactOf = intactRows first parts
 
   abbrev pub intact : Ledger → List Row
   intact L = intactOf (L .changed) (L .rows)
 
-  -- "The end is one past the last sector covered or changed, else 0"
   abbrev pub endRows : List Row → ℕ
-  endRows [] = 0
-  endRows (r ∷ rows) = max (first r + parts r) (endRows rows)
+  endRows = rowsEnd first parts
 
   abbrev pub endChanged : List ℕ → ℕ
-  endChanged [] = 0
-  endChanged (c ∷ cs) = max (suc c) (endChanged cs)
+  endChanged = changedEnd
 
   abbrev pub end : Ledger → ℕ
   end L = max (endRows (L .rows)) (endChanged (L .changed))
