@@ -1,0 +1,17 @@
+-- The table of sector counts is what the definitions say.
+use mathlib.Core.Path.{_≡_, refl}
+use mathlib.Core.List.{map}
+use Prim.Native.Nat.{_-_, _*_}
+use lib.ListN.{length, drop, length-drop}
+use Rattle.buffer.specs.Bytes.{Bytes}
+use Rattle.word.specs.Hex.{digitChar, hex}
+use Rattle.block.specs.Block.{partsOf}
+use Rattle.block.specs.Counts.{Count, table, countOf}
+
+pub counts : map (λ (c : Count). countOf (c .size)) table ≡ table
+unfolding partsOf hex digitChar
+counts = refl
+
+-- the bytes that the last sector's payload holds
+pub last-payload : (b : Bytes) → length (drop (403 * (partsOf (length b) - 1)) b) ≡ (countOf (length b)) .last
+last-payload b = length-drop (403 * (partsOf (length b) - 1)) b

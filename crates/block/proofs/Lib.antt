@@ -1,0 +1,13 @@
+-- Laws of the log, of a row's image, and of a sound block. `Cases`: tests taken apart; `Facts`, `Payloads`, `Passed`: steps on the way.
+pub mod Cases
+pub mod At
+pub mod Used
+pub mod Facts
+pub mod Image
+pub mod Written
+pub mod Payloads
+pub mod Passed
+pub mod Stands
+pub mod Sound
+pub mod Apart
+pub mod Counts

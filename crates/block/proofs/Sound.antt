@@ -1,0 +1,84 @@
+-- A block is sound at n exactly if its sectors are the image of its type and data at n; and the sound block of one type and score
+-- at n is exactly the sound block there that has both.
+use mathlib.Core.Path.{_≡_, refl, sym, ap, ap₂, _∙_, subst}
+use mathlib.Core.Bool.{Bool, true, false, _&&_}
+use mathlib.Core.Option.{Option, none, some}
+use Prim.Native.Nat.{ℕ, _+_, _≤_, _<_}
+use native.Mathlib.Omega.{arith}
+use lib.Dec.{eqb}
+use borrow.Author.Tests.{eqb-true}
+use lib.ListN.{length, take, drop}
+use Rattle.buffer.specs.Bytes.{Bytes, same}
+use Rattle.buffer.proofs.Bytes.{and-true, same-true, same-refl}
+use Rattle.word.specs.Hex.{hex, hexBytes}
+use Rattle.sector.specs.Sector.{kindField, sizeField, scoreField, scoreDigits}
+use Rattle.block.specs.Block.{Row, parts, image, valid}
+use Rattle.block.specs.Log.{sectors, at, payloads, soundAs, sound}
+use Rattle.block.proofs.Image.{image-kind, image-score}
+use Rattle.block.proofs.Payloads.{take-payloads}
+use Rattle.block.proofs.Passed.{as-passed}
+use Rattle.block.proofs.Stands.{Stands, passed-stands, first-sector, stands-as, stands-sound}
+
+pub as-stands : (log : Bytes) (n kind : ℕ) (score : Bytes) (r : Row) → soundAs log n kind score ≡ some r → Stands log n r × (r .kind ≡ kind) × (r .score ≡ score)
+as-stands log n kind score r e =
+    let p = as-passed log n kind score r e in
+    subst (λ (s : Row). Stands log n s × (s .kind ≡ kind) × (s .score ≡ score)) (p .1)
+    (passed-stands log n kind score (sizeField (at log n)) (p .0), refl, refl)
+
+pub sound-reads : (log : Bytes) (n : ℕ) (r : Row) → sound log n ≡ some r
+    → (valid r ≡ true) × (r .first ≡ n) × (n + parts r ≤ sectors (length log)) × ((k : ℕ) → k < parts r → at log (n + k) ≡ image r k)
+unfolding sound
+sound-reads log n r e = (as-stands log n (kindField (at log n)) (scoreField (at log n)) r e) .0
+
+pub sound-finds : (log : Bytes) (r : Row) → valid r ≡ true → r .first + parts r ≤ sectors (length log)
+    → ((k : ℕ) → k < parts r → at log (r .first + k) ≡ image r k) → sound log (r .first) ≡ some r
+sound-finds log r v h f = stands-sound log (r .first) r (v, refl, h, f)
+
+pub as-reads : (log : Bytes) (n kind : ℕ) (score : Bytes) (r : Row) → soundAs log n kind score ≡ some r → (sound log n ≡ some r) × (r .kind ≡ kind) × (r .score ≡ score)
+as-reads log n kind score r e = let p = as-stands log n kind score r e in (stands-sound log n r (p .0), p .1, p .2)
+
+pub as-finds : (log : Bytes) (n : ℕ) (r : Row) → sound log n ≡ some r → soundAs log n (r .kind) (r .score) ≡ some r
+as-finds log n r e = stands-as log n r (sound-reads log n r e)
+
+-- its bytes are the payloads, up to the size
+pub sound-bytes : (log : Bytes) (n : ℕ) (r : Row) → sound log n ≡ some r → r .bytes ≡ take (length (r .bytes)) (payloads log (parts r) n)
+sound-bytes log n r e = let p = sound-reads log n r e in sym (take-payloads log n r (p .0) (p .3))
+
+-- no sound block, none of any type and score
+pub as-none : (log : Bytes) (n kind : ℕ) (score : Bytes) → sound log n ≡ none → soundAs log n kind score ≡ none
+as-none log n kind score e = go (soundAs log n kind score) refl
+  where
+    go : (o : Option Row) → soundAs log n kind score ≡ o → soundAs log n kind score ≡ none
+    go none q = q
+    go (some r) q =
+        let z : none ≡ some r = sym e ∙ (as-reads log n kind score r q) .0 in
+        let y : _≡_ {A = ℕ} 0 1 = cc in
+        absurd (omega arith)
+
+-- a sound block of another type or score
+pub as-other : (log : Bytes) (n kind : ℕ) (score : Bytes) (r : Row) → sound log n ≡ some r → soundAs log n kind score ≡ none → (eqb (r .kind) kind && same (r .score) score) ≡ false
+as-other log n kind score r e f = go (eqb (r .kind) kind && same (r .score) score) refl
+  where
+    go : (b : Bool) → (eqb (r .kind) kind && same (r .score) score) ≡ b → (eqb (r .kind) kind && same (r .score) score) ≡ false
+    go false q = q
+    go true q =
+        let p = and-true (eqb (r .kind) kind) (same (r .score) score) q in
+        let z : some r ≡ none = sym (as-finds log n r e) ∙ ap₂ (soundAs log n) (eqb-true (r .kind) kind (p .0)) (same-true (r .score) score (p .1)) ∙ f in
+        let y : _≡_ {A = ℕ} 0 1 = cc in
+        absurd (omega arith)
+
+-- a sector with other digits holds no block of that type and score
+module _ (log : Bytes) (n kind : ℕ) (score : Bytes) (r : Row) (e : soundAs log n kind score ≡ some r) where
+  S : Stands log n r
+  S = (as-stands log n kind score r e) .0
+
+  here : at log n ≡ image r 0
+  here = first-sector log n r S
+
+  pub as-digits : same (scoreDigits (at log n)) (hexBytes score) ≡ true
+  as-digits =
+      let d : scoreDigits (at log n) ≡ hexBytes score = ap scoreDigits here ∙ image-score r 0 (S .0) ∙ ap hexBytes ((as-stands log n kind score r e) .2) in
+      ap (λ (x : Bytes). same x (hexBytes score)) d ∙ same-refl (hexBytes score)
+
+  pub kind-digits : take 2 (drop 36 (at log n)) ≡ hex 2 kind
+  kind-digits = ap (λ (x : Bytes). take 2 (drop 36 x)) here ∙ image-kind r 0 (S .0) ∙ ap (hex 2) ((as-stands log n kind score r e) .1)

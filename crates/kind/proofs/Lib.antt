@@ -1,0 +1,2 @@
+-- Laws of the zero score and of the enumeration.
+pub mod ZeroScore

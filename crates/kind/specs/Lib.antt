@@ -1,0 +1,2 @@
+-- What the clauses of `kind` cite.
+pub mod Kind

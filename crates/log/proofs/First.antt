@@ -1,0 +1,48 @@
+-- The first block of a type and score, by a look at sector after sector; and what is found is sound.
+use mathlib.Core.Path.{_≡_, refl, ap, _∙_}
+use mathlib.Core.Bool.{Bool, true, false, cond, _&&_}
+use mathlib.Core.List.{List, [], _∷_, List·Memᴰ, List·Memᴰ·head, List·Memᴰ·tail}
+use mathlib.Core.Option.{Option, none, some}
+use Prim.Native.Nat.{ℕ, suc}
+use native.Mathlib.Omega.{arith}
+use lib.Dec.{eqb}
+use borrow.Author.Tests.{eqb-true, eq-eqb}
+use Rattle.buffer.specs.Bytes.{Bytes, same}
+use Rattle.buffer.proofs.Bytes.{and-true, same-true, same-refl}
+use Rattle.block.specs.Block.{Row}
+use Rattle.block.specs.Log.{soundAs, sound}
+use Rattle.block.proofs.Sound.{as-reads, as-other}
+use Rattle.log.specs.LookUp.{blocksFrom, blocks, firstOf}
+use Rattle.log.proofs.Blocks.{blocks-out, step-none, one-some}
+
+pub first-none : (log : Bytes) (k n t : ℕ) (s : Bytes) → soundAs log n t s ≡ none → firstOf t s (blocksFrom log (suc k) n) ≡ firstOf t s (blocksFrom log k (suc n))
+unfolding firstOf
+first-none log k n t s e = go (sound log n) refl
+  where
+    go : (o : Option Row) → sound log n ≡ o → firstOf t s (blocksFrom log (suc k) n) ≡ firstOf t s (blocksFrom log k (suc n))
+    go none q = ap (firstOf t s) (step-none log k n q)
+    go (some r) q = ap (firstOf t s) (one-some log k n r q) ∙ rw (as-other log n t s r q e)
+
+pub first-some : (log : Bytes) (k n t : ℕ) (s : Bytes) (r : Row) → soundAs log n t s ≡ some r → firstOf t s (blocksFrom log (suc k) n) ≡ some r
+unfolding firstOf
+first-some log k n t s r e =
+    let p = as-reads log n t s r e in
+    ap (firstOf t s) (one-some log k n r (p .0))
+    ∙ rw (eq-eqb (r .kind) t (p .1), ap (λ (x : Bytes). same x s) (p .2) ∙ same-refl s)
+
+-- what is found is a sound block of that type and score
+first-member : (t : ℕ) (s : Bytes) (rows : List Row) (r : Row) → firstOf t s rows ≡ some r → List·Memᴰ r rows × (r .kind ≡ t) × (r .score ≡ s)
+unfolding firstOf
+first-member t s [] r e = let y : _≡_ {A = ℕ} 0 1 = cc in absurd (omega arith)
+first-member t s (x ∷ rows) r e = go (eqb (x .kind) t && same (x .score) s) refl (first-member t s rows r) e
+  where
+    go : (b : Bool) → (eqb (x .kind) t && same (x .score) s) ≡ b → (firstOf t s rows ≡ some r → List·Memᴰ r rows × (r .kind ≡ t) × (r .score ≡ s))
+        → cond b (some x) (firstOf t s rows) ≡ some r → List·Memᴰ r (x ∷ rows) × (r .kind ≡ t) × (r .score ≡ s)
+    go false q f d = let p = f d in (List·Memᴰ·tail (p .0), p .1, p .2)
+    go true q f d =
+        let z : r ≡ x = cc in
+        let p = and-true (eqb (x .kind) t) (same (x .score) s) q in
+        (List·Memᴰ·head z, ap (λ (y : Row). y .kind) z ∙ eqb-true (x .kind) t (p .0), ap (λ (y : Row). y .score) z ∙ same-true (x .score) s (p .1))
+
+pub first-sound : (log : Bytes) (t : ℕ) (s : Bytes) (r : Row) → firstOf t s (blocks log) ≡ some r → (sound log (r .first) ≡ some r) × (r .kind ≡ t) × (r .score ≡ s)
+first-sound log t s r e = let p = first-member t s (blocks log) r e in (blocks-out log r (p .0), p .1, p .2)

@@ -1,0 +1,80 @@
+-- Look-up of a score and type in any log, and what is doubtful there.
+use mathlib.Core.Bool.{Bool, false, cond, _&&_, _||_}
+use mathlib.Core.List.{List, [], _∷_}
+use mathlib.Core.Option.{Option, none, some}
+use Prim.Native.Nat.{ℕ, zero, suc, _+_, _/_, _%_}
+use lib.Dec.{leb, ltb, eqb}
+use lib.ListN.{length}
+use Rattle.buffer.specs.Bytes.{Bytes, same}
+use Rattle.kind.specs.Kind.{lawful, zeroScore}
+use Rattle.refusal.specs.declared.Refusal.{Refusal}
+use Rattle.refusal.specs.declared.Refusal.the-variants.{LogLength, BlockType, NotHeld, NotKnown}
+use Rattle.block.specs.Block.{Row, parts}
+use Rattle.block.specs.Log.{sectors, used, sound}
+use Rattle.log.specs.declared.Look.{Look}
+use Rattle.log.specs.declared.Look.the-variants.{Found, Refused}
+
+-- by what may be there
+abbrev pub on {ℓ} : {B : Type 0} {A : Type ℓ} → Option B → A → (B → A) → A
+on none a f = a
+on (some r) a f = f r
+
+-- the sound blocks that start at one of k sectors from n on, in the log's order; and all of them
+unfoldable pub blocksFrom : Bytes → ℕ → ℕ → List Row
+blocksFrom log zero n = []
+blocksFrom log (suc k) n = on (sound log n) (blocksFrom log k (suc n)) (λ r. r ∷ blocksFrom log k (suc n))
+
+unfoldable pub blocks : Bytes → List Row
+blocks log = blocksFrom log (sectors (length log)) 0
+
+-- sector n is in one of the blocks
+unfoldable pub inBlock : List Row → ℕ → Bool
+inBlock [] n = false
+inBlock (r ∷ rows) n = (leb (r .first) n && ltb n (r .first + parts r)) || inBlock rows n
+
+-- "A doubtful sector is in the used part and in no sound block": how many of the first k sectors are in no block of the list
+unfoldable pub outside : List Row → ℕ → ℕ
+outside rows zero = 0
+outside rows (suc k) = cond (inBlock rows k) (outside rows k) (suc (outside rows k))
+
+unfoldable pub doubtful : Bytes → ℕ
+doubtful log = outside (blocks log) (used log)
+
+-- the first of k sectors from n on that is in no block, else the sector after them; the first doubtful sector, else the end of the used part
+unfoldable pub firstOutside : List Row → ℕ → ℕ → ℕ
+firstOutside rows zero n = n
+firstOutside rows (suc k) n = cond (inBlock rows n) (firstOutside rows k (suc n)) n
+
+unfoldable pub firstDoubtful : Bytes → ℕ
+firstDoubtful log = firstOutside (blocks log) (used log) 0
+
+-- the first block of a type and score
+unfoldable pub firstOf : ℕ → Bytes → List Row → Option Row
+firstOf t s [] = none
+firstOf t s (r ∷ rows) = cond (eqb (r .kind) t && same (r .score) s) (some r) (firstOf t s rows)
+
+-- "the zero score (SHA-1 of no bytes) is the empty block for each of the ten types, always"
+abbrev pub emptyRow : ℕ → Row
+emptyRow t = record { kind = t; score = zeroScore; bytes = []; first = 0 }
+
+-- "Else the first sound block with both"
+unfoldable pub held : Bytes → ℕ → Bytes → Option Row
+held log t s = cond (lawful t && same s zeroScore) (some (emptyRow t)) (firstOf t s (blocks log))
+
+-- "Else 12 if any sector is doubtful, else 11"
+unfoldable pub absence : Bytes → Refusal
+absence log = cond (eqb (doubtful log) 0) NotHeld NotKnown
+
+unfoldable pub lookUp : Bytes → ℕ → Bytes → Look
+lookUp log t s = on (held log t s) (Refused (absence log)) (λ r. Found (record { 0 = r .first }) (length (r .bytes)))
+
+-- "log not whole sectors, or over 131,072 of them (none is allowed)": refusal 3 is the contrary
+abbrev pub mostSectors : ℕ
+mostSectors = 131072
+
+unfoldable pub logAllowed : ℕ → Bool
+logAllowed m = cond (eqb (m % 512) 0) (leb (m / 512) mostSectors) false
+
+-- look-up asked outside messages: tests 3, 9, then the look-up
+unfoldable pub lookUpAsked : Bytes → ℕ → Bytes → Look
+lookUpAsked log t s = cond (logAllowed (length log)) (cond (lawful t) (lookUp log t s) (Refused BlockType)) (Refused LogLength)

@@ -1,0 +1,22 @@
+// Look-up and store in any log.
+use refusal::Refusal;
+use sector::SectorNumber;
+
+// What a look-up finds: the block's place and size, or the reason why there is none. The empty block is found at sector 0 with size 0.
+pub enum Look {
+    Found { first: SectorNumber, size: usize },
+    Refused(Refusal),
+}
+
+// What a store does: the block is new at its place, or there already, or refused.
+pub enum Stored {
+    New(SectorNumber),
+    Duplicate(SectorNumber),
+    Refused(Refusal),
+}
+
+// A store's answer, with the score of the data.
+pub struct Receipt {
+    pub score: [u8; 20],
+    pub stored: Stored,
+}
