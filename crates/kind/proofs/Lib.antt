@@ -1,2 +1,3 @@
--- Laws of the zero score and of the enumeration.
+-- Laws of the zero score and of the block types.
 pub mod ZeroScore
+pub mod Types

@@ -2,23 +2,17 @@
 use native.Mathlib.Omega.{arith}
 use borrow.Author.Tests.{le-leb, lt-leb, ne-eqb}
 use Rattle.kind.specs.Kind.{lawful}
-use borrow.Author.Needs.{needs}
 use Rattle.kind.proofs.is_lawful.Statement.{statement}
 use Rattle.kind.proofs.is_lawful.Tie as tie
-use Rattle.kind.proofs.is_lawful.Reads as reads
-use Rattle.kind.proofs.is_lawful.Lts as lts
 
--- src/lib.rt:18:9
 returns : tie.Need-returns
 unfolding lawful
 returns c = let k = c .before .args .kind in rw (lt-leb 1 k (c .if1 .taken), ne-eqb k 13 (λ e. omega arith))
 
--- src/lib.rt:21:9
 returns-2 : tie.Need-returns-2
 unfolding lawful
 returns-2 c = let k = c .before .before .args .kind in rw (le-leb 1 k (c .before .if1 .left), le-leb k 9 (c .if2 .taken))
 
--- src/lib.rt:14:1
 returns-3 : tie.Need-returns-3
 unfolding lawful
 returns-3 c = let k = c .before .before .args .kind in rw (le-leb 1 k (c .before .if1 .left), lt-leb k 9 (c .if2 .left))

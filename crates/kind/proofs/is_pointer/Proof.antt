@@ -1,18 +1,13 @@
 -- `kind::is_pointer` meets its contract: each return knows its tests.
 use borrow.Author.Tests.{le-leb, lt-leb}
 use Rattle.kind.specs.Kind.{isPointer}
-use borrow.Author.Needs.{needs}
 use Rattle.kind.proofs.is_pointer.Statement.{statement}
 use Rattle.kind.proofs.is_pointer.Tie as tie
-use Rattle.kind.proofs.is_pointer.Reads as reads
-use Rattle.kind.proofs.is_pointer.Lts as lts
 
--- src/lib.rt:31:9
 returns : tie.Need-returns
 unfolding isPointer
 returns c = let k = c .before .args .kind in rw (lt-leb 3 k (c .if1 .taken))
 
--- src/lib.rt:27:1
 returns-2 : tie.Need-returns-2
 unfolding isPointer
 returns-2 c = let k = c .before .args .kind in rw (le-leb 3 k (c .if1 .left))

@@ -6,36 +6,25 @@ use Rattle.kind.proofs.ZeroScore.{none-differ, first-differs}
 use borrow.Author.Needs.{needs}
 use Rattle.kind.proofs.is_zero_score.Statement.{statement}
 use Rattle.kind.proofs.is_zero_score.Tie as tie
-use Rattle.kind.proofs.is_zero_score.Reads as reads
-use Rattle.kind.proofs.is_zero_score.Lts as lts
-use Rattle.buffer.proofs.equal.Reads as equal-reads
-use Rattle.kind.proofs.zero_score.Reads as zero-score-reads
 
--- src/lib.rt:72:9
 returns : tie.Need-returns
 returns c = sym (none-differ (c .before .before .args .s .now) (c .if1 .taken))
 
--- src/lib.rt:74:8
 shared-slice-read-if2 : tie.Need-shared-slice-read-if2
 shared-slice-read-if2 c = search needs
 
--- src/lib.rt:75:9
 returns-2 : tie.Need-returns-2
 returns-2 c = sym (first-differs (c .before .before .before .before .args .s .now) (omega arith) (c .if2 .taken))
 
--- src/lib.rt:77:13
 zero-score-requires : tie.Need-zero-score-requires
 zero-score-requires c κs = search needs
 
--- src/lib.rt:78:22
 slice-aggregate-equal : tie.Need-slice-aggregate-equal
 slice-aggregate-equal c = search needs
 
--- src/lib.rt:78:5
 equal-requires : tie.Need-equal-requires
 equal-requires c κs = search needs
 
--- src/lib.rt:68:1
 returns-3 : tie.Need-returns-3
 returns-3 c =
     c .equal .ensures

@@ -4,51 +4,39 @@ use Rattle.kind.specs.Kind.{wireType}
 use borrow.Author.Needs.{needs}
 use Rattle.kind.proofs.wire_type.Statement.{statement}
 use Rattle.kind.proofs.wire_type.Tie as tie
-use Rattle.kind.proofs.wire_type.Reads as reads
-use Rattle.kind.proofs.wire_type.Lts as lts
 
--- src/lib.rt:41:9
 returns : tie.Need-returns
 unfolding wireType
 returns c = let e = c .before .args .e in rw (eq-eqb e 0 (c .if1 .taken))
 
--- src/lib.rt:44:28
 add-t3 : tie.Need-add-t3
 add-t3 c = search needs
 
--- src/lib.rt:44:27
 cast-t4 : tie.Need-cast-t4
 cast-t4 c = search needs
 
--- src/lib.rt:44:9
 returns-2 : tie.Need-returns-2
 unfolding wireType
 returns-2 c = let e = c .before .before .args .e in rw (ne-eqb e 0 (c .before .if1 .left), le-leb e 7 (c .if2 .taken))
 
--- src/lib.rt:47:9
 returns-3 : tie.Need-returns-3
 unfolding wireType
 returns-3 c = let e = c .before .before .before .args .e in rw (ne-eqb e 0 (c .before .before .if1 .left), lt-leb e 7 (c .before .if2 .left), eq-eqb e 8 (c .if3 .taken))
 
--- src/lib.rt:50:28
 sub-t5 : tie.Need-sub-t5
 sub-t5 c = search needs
 
--- src/lib.rt:50:27
 cast-t6 : tie.Need-cast-t6
 cast-t6 c = search needs
 
--- src/lib.rt:50:9
 returns-4 : tie.Need-returns-4
 unfolding wireType
 returns-4 c = let e = c .before .before .before .before .args .e in rw (ne-eqb e 0 (c .before .before .before .if1 .left), lt-leb e 7 (c .before .before .if2 .left), ne-eqb e 8 (c .before .if3 .left), le-leb e 15 (c .if4 .taken))
 
--- src/lib.rt:53:9
 returns-5 : tie.Need-returns-5
 unfolding wireType
 returns-5 c = let e = c .before .before .before .before .before .args .e in rw (ne-eqb e 0 (c .before .before .before .before .if1 .left), lt-leb e 7 (c .before .before .before .if2 .left), ne-eqb e 8 (c .before .before .if3 .left), lt-leb e 15 (c .before .if4 .left), eq-eqb e 16 (c .if5 .taken))
 
--- src/lib.rt:37:1
 returns-6 : tie.Need-returns-6
 unfolding wireType
 returns-6 c = let e = c .before .before .before .before .before .args .e in rw (ne-eqb e 0 (c .before .before .before .before .if1 .left), lt-leb e 7 (c .before .before .before .if2 .left), ne-eqb e 8 (c .before .before .if3 .left), lt-leb e 15 (c .before .if4 .left), ne-eqb e 16 (c .if5 .left))

@@ -1,13 +1,9 @@
 -- `kind::zero_score` meets its contract: its bytes are the SHA-1 of no bytes.
 use mathlib.Core.Path.{sym}
 use Rattle.kind.proofs.ZeroScore.{zero-score-bytes}
-use borrow.Author.Needs.{needs}
 use Rattle.kind.proofs.zero_score.Statement.{statement}
 use Rattle.kind.proofs.zero_score.Tie as tie
-use Rattle.kind.proofs.zero_score.Reads as reads
-use Rattle.kind.proofs.zero_score.Lts as lts
 
--- src/lib.rt:59:1
 returns : tie.Need-returns
 returns c = sym zero-score-bytes
 

@@ -1,0 +1,71 @@
+// A block written to the log, sector by sector.
+use sector::Label;
+use sector::PAYLOAD;
+use sector::SECTOR;
+use sector::SectorNumber;
+ghost use mathlib.Core.Path.{_≡_};
+ghost use Prim.Native.Nat.{_+_, _*_, _≤_, _<_, min};
+ghost use lib.ListN.{length};
+ghost use Rattle.buffer.specs.Bytes.{put};
+ghost use Rattle.block.specs.Block.{partsOf, image, images, written};
+ghost use Rattle.block.specs.Log.{sectors};
+ghost use Rattle.append.specs.Append.{rowOf};
+
+// The sectors that so many bytes take.
+pub fn parts_of(size: usize) -> usize
+    requires { ⌜ size ≤ 57344 ⌝ }
+    ensures { λ r. ⌜ r ≡ partsOf size ⌝ }
+{
+    (size + 402) / 403
+}
+
+// The smaller of two numbers.
+fn smaller(a: usize, b: usize) -> usize
+    ensures { λ r. ⌜ r ≡ min a b ⌝ }
+{
+    if a < b { a } else { b }
+}
+
+// Writes sector k of a block to its place in a part of the log that starts where the block does; the rest of the part stays.
+fn write_part(part: &mut [u8], first: SectorNumber, kind: u8, score: &[u8], data: &[u8], k: usize)
+    requires { ⌜ (length (now «data») ≤ 57344) × (length (now score) ≡ 20) × (512 * partsOf (length (now «data»)) ≤ length (now part)) × (k < partsOf (length (now «data»))) ⌝ }
+    ensures { λ _. ⌜ now (part .exit) ≡ put (now (part .entry)) (512 * k) (image (rowOf kind (now (score .entry)) (now («data» .entry)) (first .0)) k) ⌝ }
+{
+    let next = k + 1;
+    let from = k * PAYLOAD;
+    let to = smaller(next * PAYLOAD, data.len());
+    let piece = &data[from..to];
+    let of = parts_of(data.len());
+    let label = Label {
+        first: first,
+        part: k,
+        of: of,
+        kind: kind,
+        size: data.len(),
+    };
+    let at = k * SECTOR;
+    let end = at + SECTOR;
+    sector::write_sector(&mut part[at..end], label, score, piece);
+}
+
+// Writes the sectors of a block to the front of a part of the log; the rest of the part stays.
+fn write_parts(part: &mut [u8], first: SectorNumber, kind: u8, score: &[u8], data: &[u8])
+    requires { ⌜ (length (now «data») ≤ 57344) × (length (now score) ≡ 20) × (512 * partsOf (length (now «data»)) ≤ length (now part)) ⌝ }
+    ensures { λ _. ⌜ now (part .exit) ≡ put (now (part .entry)) 0 (images (rowOf kind (now (score .entry)) (now («data» .entry)) (first .0)) (partsOf (length (now («data» .entry)))) 0) ⌝ }
+{
+    let count = parts_of(data.len());
+    let mut k: usize = 0;
+    while k < count {
+        write_part(part, first, kind, score, data, k);
+        k += 1;
+    }
+}
+
+// Writes a block to the log from sector `first` on: that part of the log is lent on, and no other byte changes.
+pub fn append_block(log: &mut [u8], first: SectorNumber, kind: u8, score: &[u8], data: &[u8])
+    requires { ⌜ (length (now «data») ≤ 57344) × (length (now score) ≡ 20) × (first .0 + partsOf (length (now «data»)) ≤ sectors (length (now log))) ⌝ }
+    ensures { λ _. ⌜ now (log .exit) ≡ written (now (log .entry)) (rowOf kind (now (score .entry)) (now («data» .entry)) (first .0)) ⌝ }
+{
+    let at = first.0 * SECTOR;
+    write_parts(&mut log[at..], first, kind, score, data);
+}

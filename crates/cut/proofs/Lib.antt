@@ -1,0 +1,8 @@
+-- Laws of units, of cutting and of padding.
+pub mod Units
+pub mod Multiples
+pub mod Turns
+pub mod Cases
+pub mod Shortest
+pub mod CutAndPad
+pub mod Examples

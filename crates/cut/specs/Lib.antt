@@ -1,0 +1,3 @@
+-- What the clauses of `cut` cite.
+pub mod Cut
+pub mod Pad

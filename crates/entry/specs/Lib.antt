@@ -1,0 +1,3 @@
+-- What the clauses of `entry` cite.
+pub mod Entry
+pub mod Root

@@ -1,0 +1,41 @@
+-- `reader::piece_at` meets its contract: at most the 403 bytes of the payload.
+use mathlib.Core.Path.{ap, _∙_}
+use native.Mathlib.Omega.{arith}
+use lib.ListN.{length}
+use Rattle.reader.proofs.Pieces.{length-at, piece-whole, piece-part}
+use borrow.Author.Needs.{needs}
+use Rattle.reader.proofs.piece_at.Statement.{statement}
+use Rattle.reader.proofs.piece_at.Tie as tie
+
+sector-at-requires : tie.Need-sector-at-requires
+sector-at-requires c κs = search needs
+
+sub-result : tie.Need-sub-result
+sub-result c = search needs
+
+part-result-start : tie.Need-part-result-start
+part-result-start c = search needs
+
+part-result-end : tie.Need-part-result-end
+part-result-end c = omega (arith, ap length (c .before .sector-at .ensures) ∙ length-at (c .before .before .before .args .log .now) (c .before .before .before .args .n))
+
+returns : tie.Need-returns
+returns c = piece-whole (c .before .before .before .before .args .log .now) (c .before .before .before .before .args .n) _ (c .before .before .before .before .args .size) (c .before .before .sector-at .ensures) (omega arith)
+
+add-end : tie.Need-add-end
+add-end c = search needs
+
+sub-result-2 : tie.Need-sub-result-2
+sub-result-2 c = search needs
+
+part-result-start-2 : tie.Need-part-result-start-2
+part-result-start-2 c = search needs
+
+part-result-end-2 : tie.Need-part-result-end-2
+part-result-end-2 c = omega (arith, ap length (c .before .sector-at .ensures) ∙ length-at (c .before .before .before .args .log .now) (c .before .before .before .args .n))
+
+returns-2 : tie.Need-returns-2
+returns-2 c = piece-part (c .before .before .before .before .args .log .now) (c .before .before .before .before .args .n) _ (c .before .before .before .before .args .size) (c .before .before .sector-at .ensures) (omega arith)
+
+pub piece-at-spec : {M : Type 1} → statement M
+piece-at-spec = tie.close (tie.spec sector-at-requires sub-result part-result-start part-result-end returns add-end sub-result-2 part-result-start-2 part-result-end-2 returns-2)

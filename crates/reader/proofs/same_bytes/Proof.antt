@@ -1,0 +1,100 @@
+-- `reader::same_bytes` meets its contract: the pieces that are left agree with the rest exactly if the whole does.
+use mathlib.Core.Path.{_≡_, refl, sym, _∙_}
+use Prim.Native.Nat.{_+_, _-_, _≤_}
+use native.Mathlib.Nat.{sub-zero}
+use native.Mathlib.Omega.{arith}
+use borrow.Author.Tests.{not-true, not-false}
+use lib.ListN.{length, drop}
+use Rattle.buffer.specs.Bytes.{same}
+use Rattle.block.specs.Block.{partsOf}
+use Rattle.block.specs.Log.{sectors}
+use Rattle.reader.specs.Reader.{bytesAt}
+use Rattle.reader.proofs.Pieces.{piece-length, piece-room, piece-next, piece-none}
+use Rattle.reader.proofs.Turns.{same-turn, same-stop, same-none}
+use borrow.Author.Needs.{needs}
+use Rattle.reader.proofs.same_bytes.Statement.{statement}
+use Rattle.reader.proofs.same_bytes.Tie as tie
+
+abbrev Inv-loop : tie.InvT-loop
+Inv-loop log «data» n₀ done₀ n done =
+    (done ≤ length «data»)
+    × (n + partsOf (length «data» - done) ≤ sectors (length log))
+    × (same (bytesAt log n (length «data» - done)) (drop done «data») ≡ same (bytesAt log n₀ (length «data»)) «data»)
+
+abbrev μ-loop : tie.MeasureT-loop
+μ-loop log «data» n₀ done₀ n done = length «data» - done
+
+loop-holds : tie.Need-loop-holds Inv-loop μ-loop
+loop-holds c = rw (sub-zero (length (c .before .before .args .«data» .now))) (omega arith, c .before .before .pre, refl)
+
+sub-piece-at : tie.Need-sub-piece-at Inv-loop μ-loop
+sub-piece-at c = search needs
+
+piece-at-requires : tie.Need-piece-at-requires Inv-loop μ-loop
+unfolding partsOf
+piece-at-requires c κs = search needs
+
+add-end : tie.Need-add-end Inv-loop μ-loop
+add-end c =
+    let l = c .before .before .loop in
+    omega (arith, piece-length (c .before .before .before .before .before .args .log .now) (l .n) (length (c .before .before .before .before .before .args .«data» .now)) (l .done) (c .before .loop-test .taken) _ (c .piece-at .ensures))
+
+sub-equal : tie.Need-sub-equal Inv-loop μ-loop
+sub-equal c = search needs
+
+part-equal-start : tie.Need-part-equal-start Inv-loop μ-loop
+part-equal-start c = search needs
+
+part-equal-end : tie.Need-part-equal-end Inv-loop μ-loop
+part-equal-end c =
+    let l = c .before .before .loop in
+    omega (arith, piece-length (c .before .before .before .before .before .args .log .now) (l .n) (length (c .before .before .before .before .before .args .«data» .now)) (l .done) (c .before .loop-test .taken) _ (c .piece-at .ensures))
+
+equal-requires : tie.Need-equal-requires Inv-loop μ-loop
+equal-requires c κs = search needs
+
+returns : tie.Need-returns Inv-loop μ-loop
+returns c =
+    let a = c .before .before .before .before .before .before .before .before .args in
+    let x = a .«data» .now in
+    let l = c .before .before .before .before .before .loop in
+    let t = c .before .before .before .before .loop-test .taken in
+    let e = c .before .before .before .piece-at .ensures in
+    let p = c .before .before .before .piece-at .result .now in
+    let k = piece-length (a .log .now) (l .n) (length x) (l .done) t p e in
+    let g = piece-next (a .log .now) (l .n) (length x) (l .done) t p e in
+    sym (same-stop _ p _ x (l .done) (omega (arith, k)) g (sym (c .before .equal .ensures) ∙ not-true _ (c .if1 .taken))) ∙ l .inv .2
+
+add-n : tie.Need-add-n Inv-loop μ-loop
+unfolding partsOf
+add-n c = search needs
+
+loop-less : tie.Need-loop-less Inv-loop μ-loop
+loop-less c =
+    let l = c .before .before .before .before .before .loop in
+    omega (arith, piece-length (c .before .before .before .before .before .before .before .before .args .log .now) (l .n) (length (c .before .before .before .before .before .before .before .before .args .«data» .now)) (l .done) (c .before .before .before .before .loop-test .taken) _ (c .before .before .before .piece-at .ensures))
+
+loop-again : tie.Need-loop-again Inv-loop μ-loop
+loop-again c =
+    let a = c .before .before .before .before .before .before .before .before .args in
+    let x = a .«data» .now in
+    let l = c .before .before .before .before .before .loop in
+    let t = c .before .before .before .before .loop-test .taken in
+    let e = c .before .before .before .piece-at .ensures in
+    let p = c .before .before .before .piece-at .result .now in
+    let k = piece-length (a .log .now) (l .n) (length x) (l .done) t p e in
+    let g = piece-next (a .log .now) (l .n) (length x) (l .done) t p e in (
+      omega (arith, k),
+      piece-room (a .log .now) (l .n) (length x) (l .done) t p e _ (l .inv .1),
+      same-turn _ p _ x (l .done) (omega (arith, k)) g (sym (c .before .equal .ensures) ∙ not-false _ (c .if1 .left)) ∙ l .inv .2,
+    )
+
+returns-2 : tie.Need-returns-2 Inv-loop μ-loop
+returns-2 c =
+    let a = c .before .before .before .before .args in
+    let x = a .«data» .now in
+    let l = c .before .loop in
+    sym (same-none _ x (l .done) (c .loop-test .left) (piece-none (a .log .now) (l .n) (length x) (l .done) (c .loop-test .left))) ∙ l .inv .2
+
+pub same-bytes-spec : {M : Type 1} → statement M
+same-bytes-spec = tie.close (tie.spec Inv-loop μ-loop loop-holds sub-piece-at piece-at-requires add-end sub-equal part-equal-start part-equal-end equal-requires returns add-n loop-less loop-again returns-2)
