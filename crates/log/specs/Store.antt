@@ -35,14 +35,20 @@ newRow log t d = record { kind = t; score = sha1Of d; bytes = d; first = used lo
 unfoldable pub roomFor : Bytes → Bytes → Bool
 roomFor log d = leb (used log + partsOf (length d)) (sectors (length log))
 
--- "a duplicate (look-up finds these very bytes; nothing stored), 15, 14": where look-up finds other bytes it is a clash, and
--- the empty block is what it finds for the zero score
-unfoldable pub store : Bytes → ℕ → Bytes → After
-store log t d =
-    on (held log t (sha1Of d))
-    (cond (roomFor log d)
+-- a block that look-up did not find: "appended right after the used part", or 14
+abbrev pub appended : Bytes → ℕ → Bytes → After
+appended log t d =
+    cond (roomFor log d)
     (after (receipt (sha1Of d) (New (record { 0 = used log }))) (written log (newRow log t d)))
-    (after (receipt (sha1Of d) (Refused NoRoom)) log))
-    (λ r. cond (same (r .bytes) d)
-    (after (receipt (sha1Of d) (Duplicate (record { 0 = r .first }))) log)
-    (after (receipt (sha1Of d) (Refused Clash)) log))
+    (after (receipt (sha1Of d) (Refused NoRoom)) log)
+
+-- one that it found: "a duplicate (look-up finds these very bytes; nothing stored)", else 15
+abbrev pub compared : Bytes → Bytes → ℕ → Bytes → After
+compared log bytes first d =
+    cond (same bytes d)
+    (after (receipt (sha1Of d) (Duplicate (record { 0 = first }))) log)
+    (after (receipt (sha1Of d) (Refused Clash)) log)
+
+-- what look-up finds for the zero score is the empty block
+unfoldable pub store : Bytes → ℕ → Bytes → After
+store log t d = on (held log t (sha1Of d)) (appended log t d) (λ r. compared log (r .bytes) (r .first) d)

@@ -1,0 +1,2 @@
+-- What the clauses of `boundary` cite.
+pub mod Digest

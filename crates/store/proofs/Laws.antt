@@ -1,0 +1,114 @@
+-- Case laws of the store's functions.
+use mathlib.Core.Path.{_≡_, refl, sym, ap, _∙_, subst}
+use mathlib.Core.Bool.{Bool, true, false, cond, _&&_}
+use mathlib.Core.List.{[]}
+use mathlib.Core.Option.{Option, none, some}
+use Prim.Native.Nat.{ℕ, _+_, _-_, _≤_, _<_}
+use native.Mathlib.Omega.{arith}
+use lib.Dec.{leb}
+use borrow.Author.Tests.{le-leb, lt-leb}
+use lib.ListN.{length, take, length-take}
+use lib.Seq.{length-take-le}
+use Rattle.buffer.specs.Bytes.{Bytes, same}
+use Rattle.buffer.proofs.Bytes.{same-false}
+use Rattle.sha1.specs.Sha1.{sha1Of}
+use Rattle.refusal.specs.declared.Refusal.{Refusal}
+use Rattle.refusal.specs.declared.Refusal.the-variants.{NoRoom, Clash}
+use Rattle.sector.specs.declared.SectorNumber.{SectorNumber}
+use Rattle.kind.specs.Kind.{lawful, zeroScore}
+use Rattle.block.specs.Block.{Row, parts, partsOf, written}
+use Rattle.block.specs.Log.{sectors, used, payloads, sound}
+use Rattle.block.proofs.Payloads.{length-payloads}
+use Rattle.block.proofs.Facts.{parts-bounds}
+use Rattle.block.proofs.Sound.{sound-reads, sound-bytes}
+use Rattle.reader.specs.Reader.{bytesAt}
+use Rattle.lookup.specs.Place.{placeOf}
+use Rattle.lookup.specs.declared.Place.{Place}
+use Rattle.lookup.specs.declared.Place.the-variants.{At, Nowhere}
+use Rattle.log.specs.LookUp.{on, held, firstOf, blocks}
+use Rattle.log.specs.Store.{After, after, receipt, newRow, roomFor, appended, compared, store}
+use Rattle.log.specs.declared.Stored.{Stored}
+use Rattle.log.specs.declared.Stored.the-variants.{New, Duplicate, Refused}
+use Rattle.log.proofs.First.{first-sound}
+
+-- no room, and room
+pub no-room : (log : Bytes) (t : ℕ) (d : Bytes) → sectors (length log) < used log + partsOf (length d)
+    → after (receipt (sha1Of d) (Refused NoRoom)) log ≡ appended log t d
+unfolding roomFor
+no-room log t d h = rw (lt-leb (used log + partsOf (length d)) (sectors (length log)) h)
+
+pub room : (log : Bytes) (t : ℕ) (d : Bytes) (u : ℕ) (s log′ : Bytes) → u ≡ used log → s ≡ sha1Of d → u + partsOf (length d) ≤ sectors (length log)
+    → log′ ≡ written log (record { kind = t; score = s; bytes = d; first = u })
+    → after (receipt (sha1Of d) (New (record { 0 = u }))) log′ ≡ appended log t d
+unfolding roomFor
+room log t d u s log′ e f h w =
+    let q : log′ ≡ written log (newRow log t d) = w ∙ (λ i. written log (record { kind = t; score = f i; bytes = d; first = e i })) in
+    let g : used log + partsOf (length d) ≤ sectors (length log) = omega arith in
+    rw (le-leb (used log + partsOf (length d)) (sectors (length log)) g) (λ i. after (receipt (sha1Of d) (New (record { 0 = e i }))) (q i))
+
+-- a found block compared
+length-bytes : (log : Bytes) (n k : ℕ) → length (bytesAt log n k) ≡ k
+length-bytes log n k = length-take-le k (payloads log (partsOf k) n) (omega (arith, length-payloads log (partsOf k) n, parts-bounds k))
+
+pub other-length : (log : Bytes) (n k : ℕ) (d : Bytes) → (k ≡ length d → ⊥) → after (receipt (sha1Of d) (Refused Clash)) log ≡ compared log (bytesAt log n k) n d
+other-length log n k d h = rw (same-false (bytesAt log n k) d (λ e. h (sym (length-bytes log n k) ∙ ap length e)))
+
+pub same-block : (log : Bytes) (n k : ℕ) (d : Bytes) (b : Bool) → k ≡ length d → b ≡ same (bytesAt log n (length d)) d → b ≡ true
+    → after (receipt (sha1Of d) (Duplicate (record { 0 = n }))) log ≡ compared log (bytesAt log n k) n d
+same-block log n k d b e p q = rw (ap (λ (x : ℕ). same (bytesAt log n x) d) e ∙ sym p ∙ q)
+
+pub other-block : (log : Bytes) (n k : ℕ) (d : Bytes) (b : Bool) → k ≡ length d → b ≡ same (bytesAt log n (length d)) d → b ≡ false
+    → after (receipt (sha1Of d) (Refused Clash)) log ≡ compared log (bytesAt log n k) n d
+other-block log n k d b e p q = rw (ap (λ (x : ℕ). same (bytesAt log n x) d) e ∙ sym p ∙ q)
+
+-- what look-up finds is a sound block, or the empty one: its bytes are those in the log at its place
+pub record Stands (log : Bytes) (r : Row) : Type 0 where
+  pub bytes-there : r .bytes ≡ bytesAt log (r .first) (length (r .bytes))
+  pub within : r .first + partsOf (length (r .bytes)) ≤ sectors (length log)
+
+pub held-stands : (log : Bytes) (t : ℕ) (s : Bytes) (r : Row) → held log t s ≡ some r → Stands log r
+unfolding held partsOf
+held-stands log t s r e = go (lawful t && same s zeroScore) refl
+  where
+    go : (b : Bool) → (lawful t && same s zeroScore) ≡ b → Stands log r
+    go true q =
+        let z : record { kind = t; score = zeroScore; bytes = []; first = 0 } ≡ r = let w = rw q at e in cc in
+        subst (Stands log) z (record { bytes-there = refl; within = omega arith })
+    go false q =
+        let f = first-sound log t s r (rw q at e) in
+        let p = sound-reads log (r .first) r (f .0) in
+        record { bytes-there = sound-bytes log (r .first) r (f .0); within = p .2 }
+
+-- the place that look-up gives, as a row
+found-row : (o : Option Row) (p : Place) (f : SectorNumber) (n : ℕ) → p ≡ placeOf o → p ≡ At f n → (r : Row) × (o ≡ some r) × (f .0 ≡ r .first) × (n ≡ length (r .bytes))
+found-row none p f n e z = let y : _≡_ {A = ℕ} 0 1 = cc in absurd (omega arith)
+found-row (some r) p f n e z =
+    let q : At f n ≡ At (record { 0 = r .first }) (length (r .bytes)) = sym z ∙ e in
+    let a : f ≡ record { 0 = r .first } = cc in
+    (r, refl, ap (λ (x : SectorNumber). x .0) a, cc)
+
+pub found-within : (log : Bytes) (t : ℕ) (s : Bytes) (p : Place) (f : SectorNumber) (n : ℕ) → p ≡ placeOf (held log t s) → p ≡ At f n → f .0 + partsOf n ≤ sectors (length log)
+found-within log t s p f n e z =
+    let q = found-row (held log t s) p f n e z in
+    let w = (held-stands log t s (q .0) (q .1)) .within in
+    let a : f .0 ≡ (q .0) .first = q .2 in
+    let b : partsOf n ≡ partsOf (length ((q .0) .bytes)) = ap partsOf (q .3) in
+    omega (arith, a, b, w)
+
+pub store-found : (log : Bytes) (t : ℕ) (d s : Bytes) (p : Place) (f : SectorNumber) (n : ℕ) (r : Stored) → s ≡ sha1Of d → p ≡ placeOf (held log t s) → p ≡ At f n
+    → after (receipt (sha1Of d) r) log ≡ compared log (bytesAt log (f .0) n) (f .0) d → after (receipt s r) log ≡ store log t d
+unfolding store
+store-found log t d s p f n r g e z c =
+    let q = found-row (held log t s) p f n e z in
+    let h : held log t (sha1Of d) ≡ some (q .0) = ap (held log t) (sym g) ∙ q .1 in
+    let b : bytesAt log (f .0) n ≡ (q .0) .bytes = (λ i. bytesAt log (q .2 i) (q .3 i)) ∙ sym ((held-stands log t s (q .0) (q .1)) .bytes-there) in
+    rw (g, h) (c ∙ (λ i. compared log (b i) (q .2 i) d))
+
+none-row : (o : Option Row) (p : Place) → p ≡ placeOf o → p ≡ Nowhere → o ≡ none
+none-row none p e z = refl
+none-row (some r) p e z = let y : _≡_ {A = ℕ} 0 1 = cc in absurd (omega arith)
+
+pub store-new : (log log′ : Bytes) (t : ℕ) (d s : Bytes) (p : Place) (r : Stored) → s ≡ sha1Of d → p ≡ placeOf (held log t s) → p ≡ Nowhere
+    → after (receipt (sha1Of d) r) log′ ≡ appended log t d → after (receipt s r) log′ ≡ store log t d
+unfolding store
+store-new log log′ t d s p r g e z c = rw (g, ap (held log t) (sym g) ∙ none-row (held log t s) p e z) c

@@ -1,0 +1,64 @@
+// Storing a block: at most one is appended, right after the used part, and nothing else is written.
+use log::Receipt;
+use log::Stored;
+use lookup::Place;
+use refusal::Refusal;
+use sector::SectorNumber;
+ghost use mathlib.Core.Path.{_≡_};
+ghost use Prim.Native.Nat.{_+_, _≤_, _^_};
+ghost use lib.ListN.{length};
+ghost use Rattle.sha1.specs.Sha1.{sha1Of};
+ghost use Rattle.block.specs.Block.{partsOf};
+ghost use Rattle.block.specs.Log.{sectors};
+ghost use Rattle.reader.specs.Reader.{bytesAt};
+ghost use Rattle.log.specs.Store.{after, receipt, appended, compared};
+ghost use Rattle.log.specs.Store.{store as storeOf};
+
+// Appends a block that look-up did not find, or refuses it for want of room.
+fn append_new(log: &mut [u8], kind: u8, score: &[u8; 20], data: &[u8]) -> Stored
+    requires { ⌜ (length (now «data») ≤ 57344) × (now score ≡ sha1Of (now «data»)) ⌝ }
+    ensures { λ r. ⌜ after (receipt (sha1Of (now («data» .entry))) r) (now (log .exit)) ≡ appended (now (log .entry)) kind (now («data» .entry)) ⌝ }
+{
+    let used = reader::used_part(log);
+    let count = append::parts_of(data.len());
+    if log.len() / 512 - used < count {
+        return Stored::Refused(Refusal::NoRoom);
+    }
+    append::append_block(log, SectorNumber(used), kind, score, data);
+    Stored::New(SectorNumber(used))
+}
+
+// A block that look-up found: a duplicate if it has these very bytes, else a clash.
+fn compare(log: &[u8], first: SectorNumber, size: usize, data: &[u8]) -> Stored
+    requires { ⌜ first .0 + partsOf size ≤ sectors (length (now log)) ⌝ }
+    ensures { λ r. ⌜ after (receipt (sha1Of (now («data» .entry))) r) (now (log .entry)) ≡ compared (now (log .entry)) (bytesAt (now (log .entry)) (first .0) size) (first .0) (now («data» .entry)) ⌝ }
+{
+    if size != data.len() {
+        return Stored::Refused(Refusal::Clash);
+    }
+    if reader::same_bytes(log, first, data) {
+        return Stored::Duplicate(first);
+    }
+    Stored::Refused(Refusal::Clash)
+}
+
+// Stores a block of a type.
+pub fn store(log: &mut [u8], kind: u8, data: &[u8]) -> Receipt
+    requires { ⌜ (sectors (length (now log)) ≤ 16 ^ 8) × (length (now «data») ≤ 57344) ⌝ }
+    ensures { λ r. ⌜ after r (now (log .exit)) ≡ storeOf (now (log .entry)) kind (now («data» .entry)) ⌝ }
+{
+    let score = sha1::sha1(data);
+    let place = lookup::find_held(log, kind, &score);
+    let Place::At { first, size } = place else {
+        let stored = append_new(log, kind, &score, data);
+        return Receipt {
+            score: score,
+            stored: stored,
+        };
+    };
+    let stored = compare(log, first, size, data);
+    Receipt {
+        score: score,
+        stored: stored,
+    }
+}

@@ -1,0 +1,69 @@
+//! The speed of the proved functions beside ordinary Rust: same machine, same input, both built for
+//! release. Prints a table, and stops before it where two results differ.
+
+use plain::random::Random;
+use std::fmt::Debug;
+use std::hint::black_box;
+use std::time::Instant;
+
+const BLOCK: usize = 8192;
+/// How often both are measured, by turns, and how long each time, in seconds.
+const SAMPLES: usize = 201;
+const SAMPLE: f64 = 0.005;
+
+fn main() {
+    println!(
+        "blocks of {BLOCK} bytes; medians of {SAMPLES} samples; ratio: our time over plain Rust's"
+    );
+    println!(
+        "{:8} {:>10} {:>16} {:>7}",
+        "name", "ours MB/s", "plain Rust MB/s", "ratio"
+    );
+    compare("sha1", skywimple_archive::sha1, plain::sha1::sha1);
+    compare("crc32", skywimple_archive::crc32, plain::crc32::crc32);
+}
+
+/// Compares the results on random inputs, then the speed.
+fn compare<R: PartialEq + Debug>(name: &str, ours: fn(&[u8]) -> R, plain: fn(&[u8]) -> R) {
+    let mut random = Random::new(1);
+    for length in (0..300).chain([BLOCK - 1, BLOCK, 57_344]) {
+        let input = random.bytes(length);
+        assert_eq!(
+            ours(&input),
+            plain(&input),
+            "{name} of {length} bytes: {input:02x?}"
+        );
+    }
+
+    let input = random.bytes(BLOCK);
+    let mut calls = 1;
+    while time(plain, &input, calls) < SAMPLE {
+        calls *= 2;
+    }
+    let samples: Vec<[f64; 2]> = (0..SAMPLES)
+        .map(|_| [time(ours, &input, calls), time(plain, &input, calls)])
+        .collect();
+    let speed =
+        |of: fn(&[f64; 2]) -> f64| (calls * BLOCK) as f64 / 1e6 / median(samples.iter().map(of));
+    let ratio = median(samples.iter().map(|s| s[0] / s[1]));
+    println!(
+        "{name:8} {:>10.0} {:>16.0} {ratio:>7.2}",
+        speed(|s| s[0]),
+        speed(|s| s[1])
+    );
+}
+
+/// How many seconds so many calls take.
+fn time<R>(f: fn(&[u8]) -> R, input: &[u8], calls: usize) -> f64 {
+    let start = Instant::now();
+    for _ in 0..calls {
+        black_box(f(black_box(input)));
+    }
+    start.elapsed().as_secs_f64()
+}
+
+fn median(numbers: impl Iterator<Item = f64>) -> f64 {
+    let mut sorted: Vec<f64> = numbers.collect();
+    sorted.sort_by(f64::total_cmp);
+    sorted[sorted.len() / 2]
+}
