@@ -1,0 +1,79 @@
+-- The first row of a type and score: where there is none, where rows are added behind, where some are lost.
+use mathlib.Core.Path.{_≡_, refl, sym, ap, _∙_}
+use mathlib.Core.Bool.{Bool, true, false, cond, _&&_, true≢false}
+use mathlib.Core.List.{List, [], _∷_, _++_, List·Memᴰ, List·Memᴰ·head, List·Memᴰ·tail}
+use mathlib.Core.Logic.{_≢_}
+use mathlib.Core.Option.{none, some}
+use Prim.Native.Nat.{ℕ}
+use native.Mathlib.Omega.{arith}
+use lib.Dec.{eqb}
+use borrow.Author.Tests.{eqb-true}
+use Rattle.buffer.specs.Bytes.{Bytes, same}
+use Rattle.buffer.proofs.Bytes.{and-true, same-true}
+use Rattle.block.specs.Block.{Row}
+use Rattle.ledger.specs.Ledger.{hit, intactOf}
+use Rattle.demands.specs.Ledger.{firstRow}
+use Rattle.demands.specs.Instance.{archive}
+
+same-some : (x r : Row) → some x ≡ some r → x ≡ r
+same-some x r e = cc
+
+module _ (t : ℕ) (s : Bytes) where
+  -- a row of this type and score
+  abbrev is : Row → Bool
+  is r = eqb (r .kind) t && same (r .score) s
+
+  pub first-none : (rows : List Row) → ((r : Row) → List·Memᴰ r rows → r .kind ≡ t → r .score ≢ s) → firstRow t s rows ≡ none
+  unfolding firstRow
+  first-none [] f = refl
+  first-none (r ∷ rows) f = go (is r) refl (first-none rows (λ x m. f x (List·Memᴰ·tail m)))
+    where
+      go : (b : Bool) → is r ≡ b → firstRow t s rows ≡ none → cond b (some r) (firstRow t s rows) ≡ none
+      go true q e =
+          let p = and-true (eqb (r .kind) t) (same (r .score) s) q in
+          absurd (f r (List·Memᴰ·head refl) (eqb-true (r .kind) t (p .0)) (same-true (r .score) s (p .1)))
+      go false q e = e
+
+  pub first-front : (xs ys : List Row) (r : Row) → firstRow t s xs ≡ some r → firstRow t s (xs ++ ys) ≡ some r
+  unfolding firstRow
+  first-front [] ys r e = let z : _≡_ {A = ℕ} 0 1 = cc in absurd (omega arith)
+  first-front (x ∷ xs) ys r e = go (is x) e (first-front xs ys r)
+    where
+      go : (b : Bool) → cond b (some x) (firstRow t s xs) ≡ some r → (firstRow t s xs ≡ some r → firstRow t s (xs ++ ys) ≡ some r) → cond b (some x) (firstRow t s (xs ++ ys)) ≡ some r
+      go true e f = e
+      go false e f = f e
+
+  pub first-behind : (xs ys : List Row) → firstRow t s xs ≡ none → firstRow t s (xs ++ ys) ≡ firstRow t s ys
+  unfolding firstRow
+  first-behind [] ys e = refl
+  first-behind (x ∷ xs) ys e = go (is x) e (first-behind xs ys)
+    where
+      go : (b : Bool) → cond b (some x) (firstRow t s xs) ≡ none → (firstRow t s xs ≡ none → firstRow t s (xs ++ ys) ≡ firstRow t s ys) → cond b (some x) (firstRow t s (xs ++ ys)) ≡ firstRow t s ys
+      go true e f = let z : _≡_ {A = ℕ} 0 1 = cc in absurd (omega arith)
+      go false e f = f e
+
+  -- the first of its type and score is the first still if it is intact
+  pub first-intact : (cs : List ℕ) (rows : List Row) (r : Row) → firstRow t s rows ≡ some r → hit archive cs r ≡ false → firstRow t s (intactOf archive cs rows) ≡ some r
+  unfolding firstRow
+  first-intact cs [] r e h = e
+  first-intact cs (x ∷ rows) r e h = go (is x) refl (hit archive cs x) refl (first-intact cs rows r)
+    where
+      go : (a : Bool) → is x ≡ a → (b : Bool) → hit archive cs x ≡ b → (firstRow t s rows ≡ some r → hit archive cs r ≡ false → firstRow t s (intactOf archive cs rows) ≡ some r)
+          → firstRow t s (cond b (intactOf archive cs rows) (x ∷ intactOf archive cs rows)) ≡ some r
+      go true q true p f = let same-row : x ≡ r = same-some x r (rw q at e) in absurd (true≢false (sym p ∙ ap (hit archive cs) same-row ∙ h))
+      go true q false p f = rw q (rw q at e)
+      go false q true p f = f (rw q at e) h
+      go false q false p f = rw q (f (rw q at e) h)
+
+pub intact-append : (cs : List ℕ) (xs ys : List Row) → intactOf archive cs (xs ++ ys) ≡ intactOf archive cs xs ++ intactOf archive cs ys
+intact-append cs [] ys = refl
+intact-append cs (x ∷ xs) ys = go (hit archive cs x) (intact-append cs xs ys)
+  where
+    go : (b : Bool) → intactOf archive cs (xs ++ ys) ≡ intactOf archive cs xs ++ intactOf archive cs ys
+        → cond b (intactOf archive cs (xs ++ ys)) (x ∷ intactOf archive cs (xs ++ ys)) ≡ cond b (intactOf archive cs xs) (x ∷ intactOf archive cs xs) ++ intactOf archive cs ys
+    go true e = e
+    go false e = ap (λ (l : List Row). x ∷ l) e
+
+pub intact-all : (rows : List Row) → intactOf archive [] rows ≡ rows
+intact-all [] = refl
+intact-all (r ∷ rows) = ap (λ (l : List Row). r ∷ l) (intact-all rows)

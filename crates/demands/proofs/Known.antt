@@ -1,0 +1,99 @@
+-- What a write was answered for is known to the ledger from then on.
+use mathlib.Core.Path.{_≡_, refl, ap, _∙_}
+use mathlib.Core.Bool.{Bool, true, false}
+use mathlib.Core.List.{List, [], _∷_, _++_}
+use mathlib.Core.Logic.{_⊎_, inl, inr}
+use mathlib.Core.Option.{Option, none, some}
+use Prim.Native.Nat.{ℕ, _+_}
+use native.Mathlib.Omega.{arith}
+use lib.Dec.{ltb, eqb}
+use lib.ListN.{length}
+use borrow.Author.Tests.{eqb-true, eq-eqb, le-leb}
+use Rattle.buffer.specs.Bytes.{Bytes, same}
+use Rattle.buffer.proofs.Bytes.{same-refl, same-true}
+use Rattle.sha1.specs.Sha1.{sha1Of}
+use Rattle.message.specs.Message.{tagOf}
+use Rattle.kind.specs.Kind.{longest, zeroScore}
+use Rattle.block.specs.Block.{Row, partsOf}
+use Rattle.block.specs.Log.{sectors}
+use Rattle.archive.specs.Step.{replyRoom}
+use Rattle.archive.specs.declared.Session.{Session}
+use Rattle.archive.specs.declared.Session.the-variants.{Greeted}
+use Rattle.ledger.specs.Archive.{Outcome, on}
+use Rattle.ledger.specs.Ledger.{Ledger, has, covers, hit, intactOf, intact, enter, end, next}
+use Rattle.ledger.specs.History.{Item, given, ledgerAfter}
+use Rattle.ledger.proofs.Tests.{cond-ind, on-ind}
+use Rattle.ledger.proofs.Covers.{covers-reads, hit-not}
+use Rattle.ledger.proofs.Ends.{end-changed}
+use Rattle.demands.specs.Ledger.{Answer, Decision, outcome, firstRow, writeRow, decision, tell}
+use Rattle.demands.specs.Instance.{archive}
+use Rattle.demands.specs.Corollaries.{Writes}
+use Rattle.demands.proofs.First.{first-front, first-behind, intact-append}
+use Rattle.demands.proofs.TellAdds.{rowOf}
+
+-- a row at the end has no changed sector
+hit-end : (L : Ledger archive) (r : Row) → r .first ≡ end archive L → hit archive (L .changed) r ≡ false
+hit-end L r e = hit-not archive (L .changed) r (λ n c. go n c (has n (L .changed)) refl)
+  where
+    go : (n : ℕ) → covers archive r n ≡ true → (b : Bool) → has n (L .changed) ≡ b → has n (L .changed) ≡ false
+    go n c true q = let p = covers-reads archive r n c in absurd (omega (arith, end-changed archive (L .changed) n q))
+    go n c false q = q
+
+module _ (t : ℕ) (d : Bytes) where
+  -- the ledger has this data under this type: it is empty, or the first intact row of the type and score has it
+  abbrev pub Known : Ledger archive → Type 0
+  Known L = (d ≡ []) ⊎ ((r : Row) × (firstRow t (sha1Of d) (intact archive L) ≡ some r) × (r .bytes ≡ d))
+
+  known-enter : (L : Ledger archive) (r : Row) → Known L → Known (enter archive r L)
+  known-enter L r (inl e) = inl e
+  known-enter L r (inr k) = inr (k .0, rw (intact-append (L .changed) (L .rows) (r ∷ [])) (first-front t (sha1Of d) (intact archive L) (intactOf archive (L .changed) (r ∷ [])) (k .0) (k .1)), k .2)
+
+  known-next : (L : Ledger archive) (o : Outcome Answer Session Row) → Known L → Known (next archive L o)
+  known-next L o k = go (o .adds)
+    where
+      go : (a : Option Row) → Known (on a L (λ r. enter archive r L))
+      go none = k
+      go (some r) = known-enter L r k
+
+  -- requests leave it so
+  pub known-after : (x : ℕ) (L : Ledger archive) (past : List Session) (qs : List (Item archive)) → Known L → Known (ledgerAfter archive x L past qs)
+  known-after x L past [] k = k
+  known-after x L past (q ∷ qs) k =
+      let o = tell (L .rows) (L .changed) x (given archive past q) (q .request) in
+      known-after x (next archive L o) (past ++ (o .session ∷ [])) qs (known-next L o k)
+
+  known-new : (L : Ledger archive) → firstRow t (sha1Of d) (intact archive L) ≡ none → Known (enter archive (rowOf t d (end archive L)) L)
+  unfolding firstRow
+  known-new L e =
+      let r = rowOf t d (end archive L) in
+      let found : firstRow t (sha1Of d) (intactOf archive (L .changed) (r ∷ [])) ≡ some r = rw (hit-end L r refl, eq-eqb t t refl, same-refl (sha1Of d)) in
+      inr (r, ap (firstRow t (sha1Of d)) (intact-append (L .changed) (L .rows) (r ∷ [])) ∙ first-behind t (sha1Of d) (intact archive L) (intactOf archive (L .changed) (r ∷ [])) e ∙ found, refl)
+
+  -- a write that is answered leaves it so
+  module _ (L : Ledger archive) (size : ℕ) (m buffer : Bytes) where
+    -- if a decision is answered, the ledger has the data afterwards
+    abbrev Kept : Decision → Type 0
+    Kept w = (outcome Greeted m buffer w) .answer .number ≡ 0 → Known (next archive L (outcome Greeted m buffer w))
+
+    write-kept : Kept (writeRow (intact archive L) (end archive L) size t d (tagOf m))
+    write-kept =
+        cond-ind Kept (eqb (length d) 0) _ _ (λ q _. inl (none-of d (eqb-true (length d) 0 q))) (λ _.
+        on-ind Kept (firstRow t (sha1Of d) (intact archive L)) _ _
+        (λ e. cond-ind Kept (same (sha1Of d) zeroScore) _ _ (λ _ n. absurd (omega arith)) (λ _.
+        cond-ind Kept (ltb (sectors size) (end archive L + partsOf (length d))) _ _ (λ _ n. absurd (omega arith)) (λ _ n. known-new L e)))
+        (λ r e. cond-ind Kept (same (r .bytes) d) _ _ (λ q n. inr (r, e, same-true (r .bytes) d q)) (λ _ n. absurd (omega arith))))
+      where
+        none-of : (b : Bytes) → length b ≡ 0 → b ≡ []
+        none-of [] e = refl
+        none-of (a ∷ b) e = absurd (omega arith)
+
+  write-decision : (rows : List Row) (e : ℕ) (m buffer log : Bytes) → Writes m buffer log t d
+      → decision rows e (length log) Greeted (record { message = m; buffer = buffer }) ≡ writeRow rows e (length log) t d (tagOf m)
+  unfolding decision
+  write-decision rows e m buffer log W =
+      rw (W .asks .frame, le-leb replyRoom (length buffer) (W .asks .buffer-room), W .asks .log-length, W .asks .request, W .content, W .lawful-type, le-leb (length d) longest (W .not-long))
+
+  pub known-told : (L : Ledger archive) (m buffer log : Bytes) → Writes m buffer log t d
+      → (tell (L .rows) (L .changed) (length log) Greeted (record { message = m; buffer = buffer })) .answer .number ≡ 0
+      → Known (next archive L (tell (L .rows) (L .changed) (length log) Greeted (record { message = m; buffer = buffer })))
+  known-told L m buffer log W = rw (write-decision (intact archive L) (end archive L) m buffer log W) (write-kept L (length log) m buffer)

@@ -1,0 +1,19 @@
+-- The archive keeps the ledger's laws, and what follows of it.
+pub mod Tests
+pub mod LookUp
+pub mod First
+pub mod Seen
+pub mod Read
+pub mod Write
+pub mod Step
+pub mod TellAdds
+pub mod Laws
+pub mod Theorem
+pub mod Greeted
+pub mod Outcomes
+pub mod Uncovered
+pub mod Known
+pub mod Reflected
+pub mod Lost
+pub mod Hurt
+pub mod Corollaries

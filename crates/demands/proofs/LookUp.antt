@@ -1,0 +1,64 @@
+-- The log's words and the ledger's for the same things: the blocks, the first of a type and score, what is uncovered.
+use mathlib.Core.Path.{_≡_, refl, ap}
+use mathlib.Core.Bool.{Bool, true, false, cond, not, _&&_, _||_}
+use mathlib.Core.List.{List, [], _∷_}
+use mathlib.Core.Option.{Option, none, some}
+use Prim.Native.Nat.{ℕ, zero, suc, _+_}
+use native.Mathlib.Omega.{arith}
+use lib.Dec.{leb, ltb, eqb}
+use lib.ListN.{length}
+use borrow.Author.Tests.{ne-eqb}
+use Rattle.buffer.specs.Bytes.{Bytes, same}
+use Rattle.refusal.specs.declared.Refusal.the-variants.{NotHeld, NotKnown}
+use Rattle.block.specs.Block.{Row, parts}
+use Rattle.block.specs.Log.{sectors, used, sound}
+use Rattle.log.specs.LookUp as look
+use Rattle.ledger.specs.Archive.{on}
+use Rattle.ledger.specs.Ledger.{blocksFrom, blocks}
+use Rattle.demands.specs.Ledger.{coveredBy, anyUncovered, firstRow}
+use Rattle.demands.specs.Instance.{archive}
+
+from-same : (log : Bytes) (k n : ℕ) → look.blocksFrom log k n ≡ blocksFrom archive log k n
+unfolding look.blocksFrom
+from-same log zero n = refl
+from-same log (suc k) n = go (sound log n) (from-same log k (suc n))
+  where
+    go : (o : Option Row) → look.blocksFrom log k (suc n) ≡ blocksFrom archive log k (suc n)
+        → look.on o (look.blocksFrom log k (suc n)) (λ r. r ∷ look.blocksFrom log k (suc n)) ≡ on o (blocksFrom archive log k (suc n)) (λ r. r ∷ blocksFrom archive log k (suc n))
+    go none e = e
+    go (some r) e = ap (λ (l : List Row). r ∷ l) e
+
+pub blocks-same : (log : Bytes) → look.blocks log ≡ blocks archive log
+unfolding look.blocks blocks
+blocks-same log = from-same log (sectors (length log)) 0
+
+pub first-same : (t : ℕ) (s : Bytes) (rows : List Row) → look.firstOf t s rows ≡ firstRow t s rows
+unfolding look.firstOf firstRow
+first-same t s [] = refl
+first-same t s (r ∷ rows) = ap (λ (o : Option Row). cond (eqb (r .kind) t && same (r .score) s) (some r) o) (first-same t s rows)
+
+in-same : (rows : List Row) (n : ℕ) → look.inBlock rows n ≡ coveredBy rows n
+unfolding look.inBlock coveredBy
+in-same [] n = refl
+in-same (r ∷ rows) n = ap (λ (b : Bool). (leb (r .first) n && ltb n (r .first + parts r)) || b) (in-same rows n)
+
+pub outside-none : (rows : List Row) (k : ℕ) → eqb (look.outside rows k) 0 ≡ not (anyUncovered rows k)
+unfolding look.outside anyUncovered
+outside-none rows zero = refl
+outside-none rows (suc k) = go (look.inBlock rows k) (coveredBy rows k) (in-same rows k) (outside-none rows k)
+  where
+    go : (a b : Bool) → a ≡ b → eqb (look.outside rows k) 0 ≡ not (anyUncovered rows k)
+        → eqb (cond a (look.outside rows k) (suc (look.outside rows k))) 0 ≡ not (not b || anyUncovered rows k)
+    go true true e h = h
+    go false false e h = ne-eqb (suc (look.outside rows k)) 0 (λ z. omega arith)
+    go true false e h = cc
+    go false true e h = cc
+
+-- why a block is not found
+pub absence-same : (log : Bytes) → look.absence log ≡ cond (anyUncovered (look.blocks log) (used log)) NotKnown NotHeld
+unfolding look.absence look.doubtful
+absence-same log = rw (outside-none (look.blocks log) (used log)) (turned (anyUncovered (look.blocks log) (used log)))
+  where
+    turned : (b : Bool) → cond (not b) NotHeld NotKnown ≡ cond b NotKnown NotHeld
+    turned true = refl
+    turned false = refl

@@ -1,0 +1,50 @@
+-- A read: the archive answers it as the ledger does.
+use mathlib.Core.Path.{_≡_, refl}
+use mathlib.Core.Bool.{Bool, true, false, cond, not}
+use mathlib.Core.List.{List}
+use mathlib.Core.Option.{Option, none, some}
+use Prim.Native.Nat.{ℕ}
+use native.Mathlib.Omega.{arith}
+use lib.Dec.{leb, ltb}
+use lib.ListN.{length}
+use borrow.Author.Tests.{le-ltb}
+use Rattle.buffer.specs.Bytes.{Bytes, same}
+use Rattle.refusal.specs.declared.Refusal.the-variants.{BlockType, OverCount, NotKnown, NotHeld}
+use Rattle.message.specs.Message.{tagOf}
+use Rattle.message.specs.Reply.{readReply}
+use Rattle.kind.specs.Kind.{lawful, zeroScore}
+use Rattle.block.specs.Block.{Row}
+use Rattle.log.specs.LookUp as look
+use Rattle.archive.specs.Step as steps
+use Rattle.archive.specs.declared.Session.the-variants.{Greeted}
+use Rattle.ledger.specs.Archive.{on}
+use Rattle.demands.specs.Ledger.{Decision, refusal, reply, anyUncovered, firstRow, readRow}
+use Rattle.demands.proofs.Tests.{contrary, ltb-not}
+use Rattle.demands.proofs.Seen.{given, seen, view, Mirrors, held-zero, held-other, absence-is}
+
+module _ (log : Bytes) (rows : List Row) (end : ℕ) (M : Mirrors log rows end) (m buffer : Bytes) (t count : ℕ) (score : Bytes) where
+  -- what the ledger decides, by its first row
+  abbrev decided : Option Row → Decision
+  decided o =
+      on o (cond (anyUncovered rows end) (refusal NotKnown) (refusal NotHeld))
+      (λ r. cond (leb (length (r .bytes)) count) (reply (readReply (tagOf m) (r .bytes)) Greeted none) (refusal OverCount))
+
+  by-row : (o : Option Row) → seen (given log m buffer count o) ≡ view log Greeted m buffer (decided o)
+  by-row none = rw (absence-is log rows end M) (go (anyUncovered rows end))
+    where
+      go : (b : Bool) → seen (steps.refused (cond b NotKnown NotHeld) (tagOf m) Greeted log buffer) ≡ view log Greeted m buffer (cond b (refusal NotKnown) (refusal NotHeld))
+      go true = refl
+      go false = refl
+  by-row (some r) =
+      contrary seen (view log Greeted m buffer) (ltb count (length (r .bytes))) (leb (length (r .bytes)) count) (ltb-not count (length (r .bytes))) (λ _. refl) (λ _. refl)
+
+  found : lawful t ≡ true → seen (given log m buffer count (look.held log t score)) ≡ view log Greeted m buffer (readRow rows end (length log) t count score (tagOf m))
+  found l = go (same score zeroScore) refl
+    where
+      go : (b : Bool) → same score zeroScore ≡ b → seen (given log m buffer count (look.held log t score)) ≡ view log Greeted m buffer (readRow rows end (length log) t count score (tagOf m))
+      go true q = rw (held-zero log t score l q, q, le-ltb count 0 (omega arith))
+      go false q = rw (held-other log rows end M t score q, q) (by-row (firstRow t score rows))
+
+  pub read-agrees : seen (steps.read t count (tagOf m) score log buffer) ≡ view log Greeted m buffer (cond (lawful t) (readRow rows end (length log) t count score (tagOf m)) (refusal BlockType))
+  unfolding steps.read
+  read-agrees = contrary seen (view log Greeted m buffer) (not (lawful t)) (lawful t) refl found (λ _. refl)

@@ -1,0 +1,84 @@
+-- A request as the archive answers it and as the ledger does, in the same terms; and when the two can be compared.
+use mathlib.Core.Path.{_≡_, ap, _∙_}
+use mathlib.Core.Bool.{Bool, true, false, cond, _&&_}
+use mathlib.Core.List.{List, []}
+use mathlib.Core.Option.{Option, none, some}
+use Prim.Native.Nat.{ℕ}
+use lib.Dec.{ltb}
+use lib.ListN.{length}
+use Rattle.buffer.specs.Bytes.{Bytes, same}
+use Rattle.buffer.proofs.Bytes.{same-refl}
+use Rattle.sha1.specs.Sha1.{sha1Of}
+use Rattle.refusal.specs.declared.Refusal.the-variants.{NotHeld, NotKnown, OverCount, NoRoom, Clash}
+use Rattle.message.specs.Message.{tagOf}
+use Rattle.message.specs.Reply.{readReply}
+use Rattle.kind.specs.Kind.{lawful, zeroScore}
+use Rattle.block.specs.Block.{Row, written}
+use Rattle.block.specs.Log.{used}
+use Rattle.log.specs.LookUp as look
+use Rattle.log.specs.Store as shelf
+use Rattle.log.specs.declared.Stored.the-variants.{New, Duplicate, Refused}
+use Rattle.archive.specs.Step as steps
+use Rattle.archive.specs.declared.Session.{Session}
+use Rattle.archive.specs.declared.Session.the-variants.{Greeted}
+use Rattle.ledger.specs.Archive.{Seen}
+use Rattle.ledger.specs.Ledger.{shown}
+use Rattle.demands.specs.Ledger.{Answer, Decision, outcome, anyUncovered, firstRow}
+use Rattle.demands.specs.Instance.{archive}
+use Rattle.demands.proofs.LookUp.{first-same, absence-same}
+
+-- what the archive answers of a read, by what is held
+abbrev pub given : Bytes → Bytes → Bytes → ℕ → Option Row → steps.Outcome
+given log m buffer count o =
+    look.on o (steps.refused (look.absence log) (tagOf m) Greeted log buffer)
+    (λ r. cond (ltb count (length (r .bytes))) (steps.refused OverCount (tagOf m) Greeted log buffer) (steps.granted (readReply (tagOf m) (r .bytes)) Greeted log buffer))
+
+-- what a store gives, by what is held
+abbrev pub shelved : Bytes → ℕ → Bytes → Option Row → shelf.After
+shelved log t d o =
+    look.on o
+    (cond (shelf.roomFor log d)
+    (shelf.after (shelf.receipt (sha1Of d) (New (record { 0 = used log }))) (written log (shelf.newRow log t d)))
+    (shelf.after (shelf.receipt (sha1Of d) (Refused NoRoom)) log))
+    (λ r. cond (same (r .bytes) d)
+    (shelf.after (shelf.receipt (sha1Of d) (Duplicate (record { 0 = r .first }))) log)
+    (shelf.after (shelf.receipt (sha1Of d) (Refused Clash)) log))
+
+-- what the archive answers of a store
+abbrev pub kept : Bytes → Bytes → shelf.After → steps.Outcome
+kept m buffer a = steps.written (a .receipt .stored) (tagOf m) (a .receipt .score) (a .log) buffer
+
+-- what is seen of the archive's outcome
+abbrev pub seen : steps.Outcome → Seen Answer Session Bytes
+seen o = record { answer = record { number = o .number; buffer = o .reply }; session = o .session; log = o .log }
+
+-- what is seen of the ledger's decision
+abbrev pub view : Bytes → Session → Bytes → Bytes → Decision → Seen Answer Session Bytes
+view log s m buffer d = shown archive log (outcome s m buffer d)
+
+-- a log's sound blocks are these rows, none of them of the zero score, and its used part ends here
+pub record Mirrors (log : Bytes) (rows : List Row) (end : ℕ) : Type 0 where
+  pub blocks : look.blocks log ≡ rows
+  pub ends : used log ≡ end
+  pub no-zero : (t : ℕ) → firstRow t zeroScore rows ≡ none
+
+pub held-zero : (log : Bytes) (t : ℕ) (s : Bytes) → lawful t ≡ true → same s zeroScore ≡ true → look.held log t s ≡ some (look.emptyRow t)
+unfolding look.held
+held-zero log t s l z = rw (l, z)
+
+-- the score of no bytes is the zero score
+pub empty-score : same (sha1Of []) zeroScore ≡ true
+unfolding zeroScore
+empty-score = same-refl (sha1Of [])
+
+module _ (log : Bytes) (rows : List Row) (end : ℕ) (M : Mirrors log rows end) where
+  pub held-other : (t : ℕ) (s : Bytes) → same s zeroScore ≡ false → look.held log t s ≡ firstRow t s rows
+  unfolding look.held
+  held-other t s z = rw z (go (lawful t))
+    where
+      go : (b : Bool) → cond (b && false) (some (look.emptyRow t)) (look.firstOf t s (look.blocks log)) ≡ firstRow t s rows
+      go true = first-same t s (look.blocks log) ∙ ap (firstRow t s) (M .blocks)
+      go false = first-same t s (look.blocks log) ∙ ap (firstRow t s) (M .blocks)
+
+  pub absence-is : look.absence log ≡ cond (anyUncovered rows end) NotKnown NotHeld
+  absence-is = rw (← M .blocks, ← M .ends) (absence-same log)

@@ -1,0 +1,67 @@
+-- A write: the archive answers it and stores as the ledger does.
+use mathlib.Core.Path.{_≡_, refl, sym}
+use mathlib.Core.Bool.{Bool, true, false, cond, not}
+use mathlib.Core.List.{List, [], _∷_}
+use mathlib.Core.Option.{Option, none, some}
+use Prim.Native.Nat.{ℕ, suc, _+_}
+use native.Mathlib.Omega.{arith}
+use lib.Dec.{leb, ltb}
+use lib.ListN.{length}
+use borrow.Author.Tests.{ne-eqb}
+use Rattle.buffer.specs.Bytes.{Bytes, same}
+use Rattle.buffer.proofs.Bytes.{same-refl, same-true}
+use Rattle.sha1.specs.Sha1.{sha1Of}
+use Rattle.refusal.specs.declared.Refusal.the-variants.{BlockType, DataLength, Clash}
+use Rattle.message.specs.Message.{tagOf}
+use Rattle.message.specs.Reply.{writeReply}
+use Rattle.kind.specs.Kind.{lawful, longest, zeroScore}
+use Rattle.block.specs.Block.{Row, partsOf}
+use Rattle.block.specs.Log.{sectors}
+use Rattle.log.specs.LookUp as look
+use Rattle.log.specs.Store as shelf
+use Rattle.archive.specs.Step as steps
+use Rattle.archive.specs.declared.Session.{Session}
+use Rattle.archive.specs.declared.Session.the-variants.{Greeted}
+use Rattle.ledger.specs.Archive.{Seen, on}
+use Rattle.demands.specs.Ledger.{Answer, Decision, refusal, reply, firstRow, newRow, writeRow}
+use Rattle.demands.proofs.Tests.{alike, contrary, ltb-not}
+use Rattle.demands.proofs.Seen.{shelved, kept, seen, view, Mirrors, held-zero, empty-score, held-other}
+
+module _ (log : Bytes) (rows : List Row) (end : ℕ) (M : Mirrors log rows end) (m buffer : Bytes) (t : ℕ) where
+  -- what is seen of a store
+  abbrev view-kept : shelf.After → Seen Answer Session Bytes
+  view-kept a = seen (kept m buffer a)
+
+  -- what the ledger decides of data that is not empty, by its first row
+  abbrev decided : Bytes → Option Row → Decision
+  decided d o =
+      on o (newRow rows end (length log) t d (tagOf m))
+      (λ r. cond (same (r .bytes) d) (reply (writeReply (tagOf m) (sha1Of d)) Greeted none) (refusal Clash))
+
+  by-row : (d : Bytes) (o : Option Row) → same (sha1Of d) zeroScore ≡ false → view-kept (shelved log t d o) ≡ view log Greeted m buffer (decided d o)
+  unfolding shelf.roomFor
+  by-row d none z = rw (z, M .ends)
+      (sym (contrary (view log Greeted m buffer) view-kept (ltb (sectors (length log)) (end + partsOf (length d))) (leb (end + partsOf (length d)) (sectors (length log)))
+      (ltb-not (sectors (length log)) (end + partsOf (length d))) (λ _. refl) (λ _. refl)))
+  by-row d (some r) z = alike view-kept (view log Greeted m buffer) (same (r .bytes) d) (λ _. refl) (λ _. refl)
+
+  -- data of the zero score that is not empty: the empty block is found, of other bytes
+  clash : (a : ℕ) (x : Bytes) → same (sha1Of (a ∷ x)) zeroScore ≡ true
+      → view-kept (shelved log t (a ∷ x) (some (look.emptyRow t))) ≡ view log Greeted m buffer (decided (a ∷ x) (firstRow t (sha1Of (a ∷ x)) rows))
+  clash a x z = rw (same-true (sha1Of (a ∷ x)) zeroScore z, M .no-zero t, same-refl zeroScore)
+
+  stored : (d : Bytes) → lawful t ≡ true → view-kept (shelf.store log t d) ≡ view log Greeted m buffer (writeRow rows end (length log) t d (tagOf m))
+  unfolding shelf.store
+  stored [] l = rw (held-zero log t (sha1Of []) l empty-score)
+  stored (a ∷ x) l = rw (ne-eqb (suc (length x)) 0 (λ z. omega arith)) (go (same (sha1Of (a ∷ x)) zeroScore) refl)
+    where
+      go : (b : Bool) → same (sha1Of (a ∷ x)) zeroScore ≡ b → view-kept (shelved log t (a ∷ x) (look.held log t (sha1Of (a ∷ x)))) ≡ view log Greeted m buffer (decided (a ∷ x) (firstRow t (sha1Of (a ∷ x)) rows))
+      go true q = rw (held-zero log t (sha1Of (a ∷ x)) l q) (clash a x q)
+      go false q = rw (held-other log rows end M t (sha1Of (a ∷ x)) q) (by-row (a ∷ x) (firstRow t (sha1Of (a ∷ x)) rows) q)
+
+  pub write-agrees : (d : Bytes) → seen (steps.write t (tagOf m) d log buffer)
+      ≡ view log Greeted m buffer (cond (lawful t) (cond (leb (length d) longest) (writeRow rows end (length log) t d (tagOf m)) (refusal DataLength)) (refusal BlockType))
+  unfolding steps.write
+  write-agrees d = contrary seen (view log Greeted m buffer) (not (lawful t)) (lawful t) refl
+      (λ l. contrary seen (view log Greeted m buffer) (ltb longest (length d)) (leb (length d) longest) (ltb-not longest (length d)) (λ _. stored d l) (λ _. refl))
+      (λ _. refl)

@@ -1,0 +1,137 @@
+-- "The ledger of demands 2 and 3": how it answers a request from its rows, the changed sectors and the log's length. It decides
+-- nothing from log bytes. With the archive's step it shares how a message is taken apart and a reply put together, SHA-1, the
+-- sectors of a row, and constants; each decision is written here anew.
+use mathlib.Core.Bool.{Bool, true, false, cond, not, _&&_, _||_}
+use mathlib.Core.List.{List, [], _∷_}
+use mathlib.Core.Option.{Option, none, some}
+use Prim.Native.Nat.{ℕ, zero, suc, _+_, max}
+use lib.Dec.{leb, ltb, eqb}
+use lib.ListN.{length}
+use Rattle.buffer.specs.Bytes.{Bytes, same}
+use Rattle.sha1.specs.Sha1.{sha1Of}
+use Rattle.refusal.specs.Number.{numberOf}
+use Rattle.refusal.specs.declared.Refusal.{Refusal}
+use Rattle.refusal.specs.declared.Refusal.the-variants.{Frame, Buffer, LogLength, Closed, MessageType, Body, NoHello, Hello as BadHello, BlockType, DataLength, NotHeld, NotKnown, OverCount, NoRoom, Clash}
+use Rattle.message.specs.Message.{framed, tagOf, versionOf, scoreOf, dataOf, requestOf}
+use Rattle.message.specs.Reply.{answered, errorReply, pingReply, helloReply, readReply, writeReply, syncReply}
+use Rattle.message.specs.declared.Request.{Request}
+use Rattle.message.specs.declared.Request.the-variants.{Ping, Hello, Goodbye, Read, Write, Sync, Unknown, Ill}
+use Rattle.kind.specs.Kind.{lawful, longest, zeroScore}
+use Rattle.block.specs.Block.{Row, partsOf, parts}
+use Rattle.block.specs.Log.{sectors}
+use Rattle.log.specs.LookUp.{logAllowed}
+use Rattle.archive.specs.Step.{replyRoom, version}
+use Rattle.archive.specs.declared.Session.{Session}
+use Rattle.archive.specs.declared.Session.the-variants.{Fresh, Greeted, Closed as Shut}
+use Rattle.ledger.specs.Archive.{Outcome, on}
+use Rattle.ledger.specs.Ledger.{intactRows, rowsEnd, changedEnd}
+
+-- "a message, the reply buffer" lent with it
+pub record Item : Type 0 where
+  pub message : Bytes
+  pub buffer : Bytes
+
+-- what is answered: the number, 0 for none, and the reply buffer to its last byte
+pub record Answer : Type 0 where
+  pub number : ℕ
+  pub buffer : Bytes
+
+-- "an uncovered sector is before it [the end] and in no intact row": whether there is one
+unfoldable pub coveredBy : List Row → ℕ → Bool
+coveredBy [] n = false
+coveredBy (r ∷ rows) n = (leb (r .first) n && ltb n (r .first + parts r)) || coveredBy rows n
+
+unfoldable pub anyUncovered : List Row → ℕ → Bool
+anyUncovered rows zero = false
+anyUncovered rows (suc e) = not (coveredBy rows e) || anyUncovered rows e
+
+-- "the first intact row of its type and score"
+unfoldable pub firstRow : ℕ → Bytes → List Row → Option Row
+firstRow t s [] = none
+firstRow t s (r ∷ rows) = cond (eqb (r .kind) t && same (r .score) s) (some r) (firstRow t s rows)
+
+-- what the ledger decides of a request: refused without a reply, refused with one, answered (with the session that it leaves and
+-- the row that it adds), or closed without a reply
+pub data Decision : Type 0 where
+  silence : Refusal → Decision
+  refusal : Refusal → Decision
+  reply : Bytes → Session → Option Row → Decision
+  close : Decision
+
+-- "a refusal ... has its outcome from the table and adds no row"
+abbrev pub outcome : Session → Bytes → Bytes → Decision → Outcome Answer Session Row
+outcome s m buffer (silence w) = record { answer = record { number = numberOf w; buffer = buffer }; session = s; adds = none }
+outcome s m buffer (refusal w) = record { answer = record { number = numberOf w; buffer = answered buffer (errorReply (tagOf m) w) }; session = s; adds = none }
+outcome s m buffer (reply b s′ a) = record { answer = record { number = 0; buffer = answered buffer b }; session = s′; adds = a }
+outcome s m buffer close = record { answer = record { number = 0; buffer = buffer }; session = Shut; adds = none }
+
+-- "session closed"
+abbrev pub isShut : Session → Bool
+isShut Fresh = false
+isShut Greeted = false
+isShut Shut = true
+
+-- intact: the intact rows; end: "one past the last sector covered or changed, else 0"; size: the log's length
+module _ (intact : List Row) (end size : ℕ) where
+  -- "A read of the zero score gives no bytes. Another takes the first intact row of its type and score: 13 if longer than count, else
+  -- its bytes; with none, 12 if a sector is uncovered, else 11"
+  abbrev pub readRow : ℕ → ℕ → Bytes → ℕ → Decision
+  readRow t count s tag =
+      cond (same s zeroScore) (reply (readReply tag []) Greeted none)
+      (on (firstRow t s intact) (cond (anyUncovered intact end) (refusal NotKnown) (refusal NotHeld))
+      (λ r. cond (leb (length (r .bytes)) count) (reply (readReply tag (r .bytes)) Greeted none) (refusal OverCount)))
+
+  -- "if that row has other bytes or data has the zero score, it is 15; if the log has too few sectors from the end on, 14. Else its row
+  -- is added, starting at the end"
+  abbrev pub newRow : ℕ → Bytes → ℕ → Decision
+  newRow t d tag =
+      cond (same (sha1Of d) zeroScore) (refusal Clash)
+      (cond (ltb (sectors size) (end + partsOf (length d))) (refusal NoRoom)
+      (reply (writeReply tag (sha1Of d)) Greeted (some (record { kind = t; score = sha1Of d; bytes = d; first = end }))))
+
+  -- "A write of no bytes, or of those in the first intact row of its type and SHA-1, adds no row"
+  abbrev pub writeRow : ℕ → Bytes → ℕ → Decision
+  writeRow t d tag =
+      cond (eqb (length d) 0) (reply (writeReply tag (sha1Of d)) Greeted none)
+      (on (firstRow t (sha1Of d) intact) (newRow t d tag)
+      (λ r. cond (same (r .bytes) d) (reply (writeReply tag (sha1Of d)) Greeted none) (refusal Clash)))
+
+  -- tests 5 to 10 in their order, in an open session; what each request does
+  abbrev pub decide : Session → Request → Bytes → Decision
+  decide s Unknown m = refusal MessageType
+  decide s Ill m = refusal Body
+  decide s Goodbye m = close
+  decide Fresh Hello m = cond (same (versionOf m) version) (reply (helloReply (tagOf m)) Greeted none) (refusal BadHello)
+  decide Fresh Ping m = refusal NoHello
+  decide Fresh Sync m = refusal NoHello
+  decide Fresh (Read t c) m = refusal NoHello
+  decide Fresh (Write t) m = refusal NoHello
+  decide Greeted Hello m = refusal BadHello
+  decide Greeted Ping m = reply (pingReply (tagOf m)) Greeted none
+  decide Greeted Sync m = reply (syncReply (tagOf m)) Greeted none
+  decide Greeted (Read t c) m = cond (lawful t) (readRow t c (scoreOf m) (tagOf m)) (refusal BlockType)
+  decide Greeted (Write t) m =
+      cond (lawful t) (cond (leb (length (dataOf m)) longest) (writeRow t (dataOf m) (tagOf m)) (refusal DataLength)) (refusal BlockType)
+  decide Shut Hello m = silence Closed
+  decide Shut Ping m = silence Closed
+  decide Shut Sync m = silence Closed
+  decide Shut (Read t c) m = silence Closed
+  decide Shut (Write t) m = silence Closed
+
+  -- "Tests 1 to 10 come first": 1 to 4
+  unfoldable pub decision : Session → Item → Decision
+  decision s q =
+      cond (framed (q .message))
+      (cond (leb replyRoom (length (q .buffer)))
+      (cond (logAllowed size)
+      (cond (isShut s) (silence Closed) (decide s (requestOf (q .message)) (q .message)))
+      (silence LogLength))
+      (silence Buffer))
+      (silence Frame)
+
+-- "It keeps ... the changed sectors ... and rows": one request by the ledger, told the rows, the changed sectors and the log's length
+abbrev pub tell : List Row → List ℕ → ℕ → Session → Item → Outcome Answer Session Row
+tell rows changed size s q =
+    let intact = intactRows (λ (r : Row). r .first) parts changed rows in
+    let end = max (rowsEnd (λ (r : Row). r .first) parts rows) (changedEnd changed) in
+    outcome s (q .message) (q .buffer) (decision intact end size s q)

@@ -1,0 +1,4 @@
+pub mod Ledger
+pub mod Instance
+pub mod Demand3
+pub mod Corollaries
