@@ -1,7 +1,6 @@
 -- One request: session, message, log and reply buffer -> number, session, log and reply buffer. "When the desk says no".
-use mathlib.Core.Bool.{Bool, true, false, cond, not, _||_}
-use mathlib.Core.List.{List, [], _∷_}
-use mathlib.Core.Option.{Option, none, some}
+use mathlib.Core.Bool.{cond, not}
+use mathlib.Core.List.{[], _∷_}
 use Prim.Native.Nat.{ℕ}
 use lib.Dec.{ltb}
 use lib.ListN.{length}
@@ -14,9 +13,8 @@ use Rattle.message.specs.Reply.{answered, errorReply, pingReply, helloReply, re
 use Rattle.message.specs.declared.Request.{Request}
 use Rattle.message.specs.declared.Request.the-variants.{Ping, Hello, Goodbye, Read, Write, Sync, Unknown, Ill}
 use Rattle.kind.specs.Kind.{lawful, longest}
-use Rattle.block.specs.Block.{Row}
 use Rattle.log.specs.LookUp.{on, logAllowed, held, absence}
-use Rattle.log.specs.Store.{store, After}
+use Rattle.log.specs.Store.{store}
 use Rattle.log.specs.declared.Stored.{Stored}
 use Rattle.log.specs.declared.Stored.the-variants.{New, Duplicate, Refused}
 use Rattle.archive.specs.declared.Session.{Session}

@@ -1,4 +1,28 @@
-// One request: a session, a message, the lent log and the lent reply buffer.
+// One request: a session, a message, the lent log and the lent reply buffer. Any bytes are answered.
+use log::Look;
+use log::Receipt;
+use log::Stored;
+use message::Request;
+use refusal::Refusal;
+use sector::SectorNumber;
+ghost use mathlib.Core.Path.{_≡_};
+ghost use mathlib.Core.Bool.{true};
+ghost use mathlib.Core.List.{[]};
+ghost use Prim.Native.Nat.{_+_, _≤_};
+ghost use lib.ListN.{length};
+ghost use Rattle.buffer.specs.Bytes.{Bytes};
+ghost use Rattle.refusal.specs.declared.Refusal.{Refusal as Why};
+ghost use Rattle.log.specs.declared.Look.the-variants.{Refused};
+ghost use Rattle.log.specs.LookUp.{logAllowed};
+ghost use Rattle.block.specs.Block.{partsOf};
+ghost use Rattle.block.specs.Log.{sectors};
+ghost use Rattle.reader.specs.Reader.{bytesAt};
+ghost use Rattle.message.specs.Message.{tagOf, scoreOf, dataOf, requestOf};
+ghost use Rattle.message.specs.Reply.{readReply};
+ghost use Rattle.message.specs.Reply.{reply as replyOf};
+ghost use Rattle.message.specs.declared.Request.the-variants.{Hello, Read, Write};
+ghost use Rattle.archive.specs.declared.Session.the-variants.{Greeted, Closed as Shut};
+ghost use Rattle.archive.specs.Step.{whole, silent, refused, granted, read, written, write, fresh, greeted, step};
 
 // A session: open with no hello yet, greeted, or closed.
 pub enum Session {
@@ -11,4 +35,204 @@ pub enum Session {
 pub struct Answer {
     pub number: u8,
     pub session: Session,
+}
+
+// A refusal without a reply.
+fn refuse_silently(why: Refusal, session: Session) -> Answer
+    ensures { λ r. ⌜ ((log buffer : Bytes) → whole r log buffer ≡ silent why session log buffer) ⌝ }
+{
+    Answer {
+        number: refusal::number(why),
+        session: session,
+    }
+}
+
+// A refusal with its error reply.
+fn refuse(why: Refusal, tag: u8, session: Session, reply: &mut [u8]) -> Answer
+    requires { ⌜ 57348 ≤ length (now reply) ⌝ }
+    ensures { λ r. ⌜ ((log : Bytes) → whole r log (now (reply .exit)) ≡ refused why tag session log (now (reply .entry))) ⌝ }
+{
+    message::write_error(reply, tag, why);
+    Answer {
+        number: refusal::number(why),
+        session: session,
+    }
+}
+
+// The refusal of a look-up that found nothing.
+fn refuse_look(look: Look, tag: u8, reply: &mut [u8]) -> Answer
+    requires { ⌜ 57348 ≤ length (now reply) ⌝ }
+    ensures { λ r. ⌜ ((why : Why) (log : Bytes) → look ≡ Refused why → whole r log (now (reply .exit)) ≡ refused why tag Greeted log (now (reply .entry))) ⌝ }
+{
+    match look {
+        Look::Refused(why) => refuse(why, tag, Session::Greeted, reply),
+        Look::Found { first: _, size: _ } => refuse(
+            Refusal::NotKnown,
+            tag,
+            Session::Greeted,
+            reply,
+        ),
+    }
+}
+
+// A reply that has no body, in a greeted session.
+fn acknowledge(kind: u8, tag: u8, reply: &mut [u8]) -> Answer
+    requires { ⌜ 57348 ≤ length (now reply) ⌝ }
+    ensures { λ r. ⌜ ((log : Bytes) → whole r log (now (reply .exit)) ≡ granted (replyOf kind tag []) Greeted log (now (reply .entry))) ⌝ }
+{
+    message::write_head(reply, kind, tag, 0);
+    Answer {
+        number: 0,
+        session: Session::Greeted,
+    }
+}
+
+// A goodbye: no reply, and the session is closed.
+fn close() -> Answer
+    ensures { λ r. ⌜ ((log buffer : Bytes) → whole r log buffer ≡ record { number = 0; session = Shut; log = log; reply = buffer }) ⌝ }
+{
+    Answer {
+        number: 0,
+        session: Session::Closed,
+    }
+}
+
+// A hello in a fresh session.
+fn greet(message: &[u8], reply: &mut [u8]) -> Answer
+    requires { ⌜ (4 ≤ length (now message)) × (57348 ≤ length (now reply)) ⌝ }
+    ensures { λ r. ⌜ ((log : Bytes) → whole r log (now (reply .exit)) ≡ fresh Hello (tagOf (now (message .entry))) (now (message .entry)) log (now (reply .entry))) ⌝ }
+{
+    let tag = message[3];
+    if !message::is_version(message) {
+        return refuse(Refusal::Hello, tag, Session::Fresh, reply);
+    }
+    let body = [0u8; 4];
+    message::write_reply(reply, 5, tag, &body);
+    Answer {
+        number: 0,
+        session: Session::Greeted,
+    }
+}
+
+// A request in a fresh session.
+fn serve_fresh(message: &[u8], reply: &mut [u8]) -> Answer
+    requires { ⌜ (4 ≤ length (now message)) × (57348 ≤ length (now reply)) ⌝ }
+    ensures { λ r. ⌜ ((log : Bytes) → whole r log (now (reply .exit)) ≡ fresh (requestOf (now (message .entry))) (tagOf (now (message .entry))) (now (message .entry)) log (now (reply .entry))) ⌝ }
+{
+    let tag = message[3];
+    let request = message::parse(message);
+    match request {
+        Request::Unknown => refuse(Refusal::MessageType, tag, Session::Fresh, reply),
+        Request::Ill => refuse(Refusal::Body, tag, Session::Fresh, reply),
+        Request::Goodbye => close(),
+        Request::Hello => greet(message, reply),
+        Request::Ping => refuse(Refusal::NoHello, tag, Session::Fresh, reply),
+        Request::Sync => refuse(Refusal::NoHello, tag, Session::Fresh, reply),
+        Request::Read { kind: _, count: _ } => refuse(Refusal::NoHello, tag, Session::Fresh, reply),
+        Request::Write { kind: _ } => refuse(Refusal::NoHello, tag, Session::Fresh, reply),
+    }
+}
+
+// The reply to a read of the block at a place.
+fn answer_read(log: &[u8], first: SectorNumber, size: usize, tag: u8, reply: &mut [u8]) -> Answer
+    requires { ⌜ (first .0 + partsOf size ≤ sectors (length (now log))) × (size ≤ 57344) × (57348 ≤ length (now reply)) ⌝ }
+    ensures { λ r. ⌜ whole r (now (log .entry)) (now (reply .exit)) ≡ granted (readReply tag (bytesAt (now (log .entry)) (first .0) size)) Greeted (now (log .entry)) (now (reply .entry)) ⌝ }
+{
+    message::write_head(reply, 13, tag, size);
+    reader::copy_out(log, first, size, &mut reply[4..]);
+    Answer {
+        number: 0,
+        session: Session::Greeted,
+    }
+}
+
+// A read: test 9, the look-up, test 13.
+fn serve_read(message: &[u8], log: &[u8], reply: &mut [u8], kind: u8, count: usize) -> Answer
+    requires { ⌜ (requestOf (now message) ≡ Read kind count) × (logAllowed (length (now log)) ≡ true) × (57348 ≤ length (now reply)) ⌝ }
+    ensures { λ r. ⌜ whole r (now (log .entry)) (now (reply .exit)) ≡ read kind count (tagOf (now (message .entry))) (scoreOf (now (message .entry))) (now (log .entry)) (now (reply .entry)) ⌝ }
+{
+    let tag = message[3];
+    if !kind::is_lawful(kind) {
+        return refuse(Refusal::BlockType, tag, Session::Greeted, reply);
+    }
+    let look = lookup::look_up(log, kind, &message[4..24]);
+    let Look::Found { first, size } = look else {
+        return refuse_look(look, tag, reply);
+    };
+    if count < size {
+        return refuse(Refusal::OverCount, tag, Session::Greeted, reply);
+    }
+    answer_read(log, first, size, tag, reply)
+}
+
+// The reply to a write, by what the store did.
+fn answer_store(receipt: Receipt, tag: u8, reply: &mut [u8]) -> Answer
+    requires { ⌜ 57348 ≤ length (now reply) ⌝ }
+    ensures { λ r. ⌜ ((log : Bytes) → whole r log (now (reply .exit)) ≡ written (receipt .stored) tag (receipt .score) log (now (reply .entry))) ⌝ }
+{
+    let score = receipt.score;
+    let stored = receipt.stored;
+    if let Stored::Refused(why) = stored {
+        return refuse(why, tag, Session::Greeted, reply);
+    }
+    message::write_reply(reply, 15, tag, &score);
+    Answer {
+        number: 0,
+        session: Session::Greeted,
+    }
+}
+
+// A write: tests 9 and 10, then the store.
+fn serve_write(message: &[u8], log: &mut [u8], reply: &mut [u8], kind: u8) -> Answer
+    requires { ⌜ (requestOf (now message) ≡ Write kind) × (logAllowed (length (now log)) ≡ true) × (57348 ≤ length (now reply)) ⌝ }
+    ensures { λ r. ⌜ whole r (now (log .exit)) (now (reply .exit)) ≡ write kind (tagOf (now (message .entry))) (dataOf (now (message .entry))) (now (log .entry)) (now (reply .entry)) ⌝ }
+{
+    let tag = message[3];
+    if !kind::is_lawful(kind) {
+        return refuse(Refusal::BlockType, tag, Session::Greeted, reply);
+    }
+    if 57344 < message.len() - 8 {
+        return refuse(Refusal::DataLength, tag, Session::Greeted, reply);
+    }
+    let receipt = store::store(log, kind, &message[8..]);
+    answer_store(receipt, tag, reply)
+}
+
+// A request in a greeted session.
+fn serve_greeted(message: &[u8], log: &mut [u8], reply: &mut [u8]) -> Answer
+    requires { ⌜ (4 ≤ length (now message)) × (logAllowed (length (now log)) ≡ true) × (57348 ≤ length (now reply)) ⌝ }
+    ensures { λ r. ⌜ whole r (now (log .exit)) (now (reply .exit)) ≡ greeted (requestOf (now (message .entry))) (tagOf (now (message .entry))) (now (message .entry)) (now (log .entry)) (now (reply .entry)) ⌝ }
+{
+    let tag = message[3];
+    let request = message::parse(message);
+    match request {
+        Request::Unknown => refuse(Refusal::MessageType, tag, Session::Greeted, reply),
+        Request::Ill => refuse(Refusal::Body, tag, Session::Greeted, reply),
+        Request::Goodbye => close(),
+        Request::Hello => refuse(Refusal::Hello, tag, Session::Greeted, reply),
+        Request::Ping => acknowledge(3, tag, reply),
+        Request::Sync => acknowledge(17, tag, reply),
+        Request::Read { kind, count } => serve_read(message, log, reply, kind, count),
+        Request::Write { kind } => serve_write(message, log, reply, kind),
+    }
+}
+
+// Answers a request: tests 1 to 4, then what the session allows.
+pub fn serve(session: Session, message: &[u8], log: &mut [u8], reply: &mut [u8]) -> Answer
+    ensures { λ r. ⌜ whole r (now (log .exit)) (now (reply .exit)) ≡ step session (now (message .entry)) (now (log .entry)) (now (reply .entry)) ⌝ }
+{
+    if !message::is_framed(message) {
+        return refuse_silently(Refusal::Frame, session);
+    }
+    if reply.len() < 57348 {
+        return refuse_silently(Refusal::Buffer, session);
+    }
+    if !lookup::is_allowed(log.len()) {
+        return refuse_silently(Refusal::LogLength, session);
+    }
+    match session {
+        Session::Closed => refuse_silently(Refusal::Closed, session),
+        Session::Fresh => serve_fresh(message, reply),
+        Session::Greeted => serve_greeted(message, log, reply),
+    }
 }

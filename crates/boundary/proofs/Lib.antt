@@ -1,2 +1,3 @@
 -- What the proofs of the exported functions cite.
 pub mod Laws
+pub mod ServeLaws

@@ -1,2 +1,3 @@
 -- What the clauses of `boundary` cite.
 pub mod Digest
+pub mod Serve

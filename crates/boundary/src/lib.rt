@@ -1,8 +1,11 @@
 // The functions that other languages call: numbers and byte slices only, and none with a `requires`.
 // A slice is a pointer and a length. `host/include/skywimple.h` declares them for C.
+use archive::Session;
 ghost use mathlib.Core.Path.{_≡_};
 ghost use Rattle.crc32.specs.Crc32.{crc32Of};
+ghost use Rattle.archive.specs.Step.{step};
 ghost use Rattle.boundary.specs.Digest.{digestNumber, digestBuffer};
+ghost use Rattle.boundary.specs.Serve.{sessionOf, sessionNumber, served, outcome};
 
 // The CRC-32 of s.
 #[no_mangle]
@@ -24,4 +27,42 @@ pub extern "C" fn skywimple_sha1(s: &[u8], out: &mut [u8]) -> u32
     let digest = sha1::sha1(s);
     buffer::copy_at(out, 0, &digest);
     0
+}
+
+// A session as a number: 0 is fresh, 1 greeted, and anything else closed.
+fn session_of(n: u8) -> Session
+    ensures { λ r. ⌜ r ≡ sessionOf n ⌝ }
+{
+    if n == 0 {
+        return Session::Fresh;
+    }
+    if n == 1 {
+        return Session::Greeted;
+    }
+    Session::Closed
+}
+
+fn session_number(s: Session) -> u32
+    ensures { λ r. ⌜ r ≡ sessionNumber s ⌝ }
+{
+    match s {
+        Session::Fresh => 0,
+        Session::Greeted => 1,
+        Session::Closed => 2,
+    }
+}
+
+// One request. The result is the number of the refusal, 0 for none, and 256 times the session afterwards.
+#[no_mangle]
+pub extern "C" fn skywimple_serve(
+    session: u8,
+    message: &[u8],
+    log: &mut [u8],
+    reply: &mut [u8],
+) -> u32
+    ensures { λ r. ⌜ served r (now (log .exit)) (now (reply .exit)) ≡ outcome (step (sessionOf session) (now (message .entry)) (now (log .entry)) (now (reply .entry))) ⌝ }
+{
+    let answer = archive::serve(session_of(session), message, log, reply);
+    let after = answer.session;
+    (answer.number as u32) + 256 * session_number(after)
 }

@@ -1,0 +1,172 @@
+-- The cases of a request, one for each return of the code.
+use mathlib.Core.Path.{_≡_, refl, sym, ap, _∙_}
+use mathlib.Core.Bool.{Bool, true, false}
+use mathlib.Core.List.{[], _∷_, _++_, append-nil}
+use mathlib.Core.Logic.{inl, inr}
+use Prim.Native.Nat.{ℕ, _-_, _≤_, _<_}
+use native.Mathlib.Nat.{zero-add}
+use native.Mathlib.Omega.{arith}
+use lib.Dec.{ltb}
+use types.Run.{OneOf}
+use denote.Enum.Declared.{tagOf as variant}
+use borrow.Author.Tests.{lt-ltb, le-ltb}
+use lib.ListN.{length, take, drop, length-drop, drop-of-length-le}
+use lib.Seq.{take-length, drop-drop}
+use Rattle.buffer.specs.Bytes.{Bytes, same, put}
+use Rattle.refusal.specs.declared.Refusal.{Refusal}
+use Rattle.refusal.specs.declared.Refusal.the-variants.{Frame, Buffer, LogLength, Hello as BadHello, BlockType, DataLength, OverCount}
+use Rattle.sector.specs.declared.SectorNumber.{SectorNumber}
+use Rattle.kind.specs.Kind.{lawful, longest}
+use Rattle.log.specs.declared.Look.{Look}
+use Rattle.log.specs.declared.Look.the-variants.{Found, Refused}
+use Rattle.log.specs.declared.Stored.{Stored}
+use Rattle.log.specs.declared.Stored.the-variants.{New, Duplicate, Refused as StoreRefused}
+use Rattle.log.specs.declared.Receipt.{Receipt}
+use Rattle.log.specs.LookUp.{logAllowed, lookUp}
+use Rattle.log.specs.Store.{After, after, store}
+use Rattle.log.proofs.Stored.{the-type}
+use Rattle.reader.specs.Reader.{bytesAt}
+use Rattle.reader.proofs.Pieces.{length-bytes}
+use Rattle.message.specs.Message.{framed, tagOf, versionOf, requestOf}
+use Rattle.message.specs.Reply.{reply, answered, helloReply, readReply, writeReply}
+use Rattle.message.specs.declared.Request.{Request}
+use Rattle.message.specs.declared.Request.the-variants.{Hello}
+use Rattle.message.proofs.Put.{put-none}
+use Rattle.message.proofs.Replies.{head, head-body}
+use Rattle.archive.specs.declared.Session.{Session}
+use Rattle.archive.specs.declared.Session.the-variants.{Fresh, Greeted}
+use Rattle.archive.specs.Step.{Outcome, whole, silent, refused, granted, replyRoom, version, read, written, write, fresh, greeted, inSession, step}
+use Rattle.archive.proofs.Held.{look-absent, look-found, found-bytes}
+
+-- an outcome by its parts
+pub outcome : (n k : ℕ) (s : Session) (log x y : Bytes) → n ≡ k → x ≡ y
+    → whole (record { number = n; session = s }) log x ≡ record { number = k; session = s; log = log; reply = y }
+outcome n k s log x y p q = λ i. record { number = p i; session = s; log = log; reply = q i }
+
+-- a head and nothing after it
+pub bodiless : (buffer x : Bytes) (kind tag : ℕ) → x ≡ put buffer 0 (head kind tag 0) → x ≡ answered buffer (reply kind tag [])
+bodiless buffer x kind tag e = e ∙ sym (put-none (put buffer 0 (head kind tag 0)) 4) ∙ head-body buffer kind tag []
+
+-- what lies from k on, as a part up to the end
+pub part-rest : (b : Bytes) (k : ℕ) → take (length b - k) (drop k b) ≡ drop k b
+part-rest b k = rw (← length-drop k b) (take-length (drop k b))
+
+-- bytes written to the front of what lies from k on
+put-after : (b s : Bytes) (k : ℕ) → take k b ++ (put (take (length b - k) (drop k b)) 0 s ++ drop (length b - k) (drop k b)) ≡ put b k s
+put-after b s k =
+    let l : length (drop k b) ≡ length b - k = length-drop k b in
+    let h : length (drop k b) ≤ length b - k = omega (arith, l) in
+    let d : drop (length b - k) (drop k b) ≡ [] = drop-of-length-le (drop k b) h in
+    rw (part-rest b k, d, append-nil, zero-add, drop-drop)
+
+-- a head, and the bytes of a block after it
+pub head-block : (buffer x y log : Bytes) (tag first size : ℕ) → x ≡ put buffer 0 (head 13 tag size) → y ≡ put (take (length x - 4) (drop 4 x)) 0 (bytesAt log first size)
+    → take 4 x ++ (y ++ drop (length x - 4) (drop 4 x)) ≡ answered buffer (readReply tag (bytesAt log first size))
+head-block buffer x y log tag first size p q =
+    let s = bytesAt log first size in
+    ap (λ (z : Bytes). take 4 x ++ (z ++ drop (length x - 4) (drop 4 x))) q
+    ∙ put-after x s 4
+    ∙ ap (λ (z : Bytes). put z 4 s) p
+    ∙ ap (λ (k : ℕ). put (put buffer 0 (head 13 tag k)) 4 s) (sym (length-bytes log first size))
+    ∙ head-body buffer 13 tag s
+
+-- the reason that a look-up gives
+pub one-reason : (l : Look) (w v : Refusal) → l ≡ Refused w → l ≡ Refused v → w ≡ v
+one-reason l w v p q = cc
+
+pub not-refused : (l : Look) (f : SectorNumber) (n : ℕ) (v : Refusal) → l ≡ Found f n → l ≡ Refused v → ⊥
+not-refused l f n v p q = let y : _≡_ {A = ℕ} 0 1 = cc in omega arith
+
+-- ---- a hello in a fresh session
+
+module _ (m log buffer : Bytes) (tag : ℕ) (b : Bool) (e : b ≡ same (versionOf m) version) where
+  pub hello-other : b ≡ false → refused BadHello tag Fresh log buffer ≡ fresh Hello tag m log buffer
+  unfolding fresh
+  hello-other q = rw (sym e ∙ q)
+
+  pub hello-right : b ≡ true → granted (helloReply tag) Greeted log buffer ≡ fresh Hello tag m log buffer
+  unfolding fresh
+  hello-right q = rw (sym e ∙ q)
+
+-- ---- a read
+
+module _ (kind count tag : ℕ) (score log buffer : Bytes) (b : Bool) (e : b ≡ lawful kind) where
+  pub read-kind : b ≡ false → refused BlockType tag Greeted log buffer ≡ read kind count tag score log buffer
+  unfolding read
+  read-kind q = rw (sym e ∙ q)
+
+  module _ (q : b ≡ true) (l : Look) (g : l ≡ lookUp log kind score) where
+    pub read-absent : (w : Refusal) → l ≡ Refused w → refused w tag Greeted log buffer ≡ read kind count tag score log buffer
+    unfolding read
+    read-absent w d =
+        let a = look-absent log kind score w (sym g ∙ d) in
+        rw (sym e ∙ q, a .0, a .1)
+
+    module _ (f : SectorNumber) (n : ℕ) (d : l ≡ Found f n) where
+      pub read-over : count < n → refused OverCount tag Greeted log buffer ≡ read kind count tag score log buffer
+      unfolding read
+      read-over h =
+          let s = look-found log kind score f n (sym g ∙ d) in
+          let z : ltb count (length (s .row .bytes)) ≡ true = rw (← s .size) (lt-ltb count n h) in
+          rw (sym e ∙ q, s .is-held, z)
+
+      pub read-found : n ≤ count → granted (readReply tag (bytesAt log (f .0) n)) Greeted log buffer ≡ read kind count tag score log buffer
+      unfolding read
+      read-found h =
+          let s = look-found log kind score f n (sym g ∙ d) in
+          let z : ltb count (length (s .row .bytes)) ≡ false = rw (← s .size) (le-ltb count n h) in
+          rw (sym e ∙ q, s .is-held, z) (ap (λ (x : Bytes). granted (readReply tag x) Greeted log buffer) (sym (found-bytes log kind score f n (sym g ∙ d))))
+
+-- ---- a write
+
+-- what the store did, if it did not refuse
+pub kept : (s : Stored) (tag : ℕ) (score log buffer : Bytes) → OneOf (0 ∷ 1 ∷ []) (variant the-type s) → granted (writeReply tag score) Greeted log buffer ≡ written s tag score log buffer
+kept (New at) tag score log buffer k = refl
+kept (Duplicate at) tag score log buffer k = refl
+kept (StoreRefused w) tag score log buffer (inl e) = absurd (omega arith)
+kept (StoreRefused w) tag score log buffer (inr e) = absurd (omega arith)
+
+module _ (kind tag : ℕ) (d log buffer : Bytes) (b : Bool) (e : b ≡ lawful kind) where
+  pub write-kind : b ≡ false → refused BlockType tag Greeted log buffer ≡ write kind tag d log buffer
+  unfolding write
+  write-kind q = rw (sym e ∙ q)
+
+  module _ (q : b ≡ true) where
+    pub write-long : longest < length d → refused DataLength tag Greeted log buffer ≡ write kind tag d log buffer
+    unfolding write
+    write-long h = rw (sym e ∙ q, lt-ltb longest (length d) h)
+
+    pub write-stored : (r : Receipt) (log′ : Bytes) (o : Outcome) → length d ≤ longest → after r log′ ≡ store log kind d → o ≡ written (r .stored) tag (r .score) log′ buffer → o ≡ write kind tag d log buffer
+    unfolding write
+    write-stored r log′ o h s p =
+        rw (sym e ∙ q, le-ltb longest (length d) h)
+        (p ∙ ap (λ (a : After). written (a .receipt .stored) tag (a .receipt .score) (a .log) buffer) s)
+
+-- ---- tests 1 to 4
+
+module _ (s : Session) (m log buffer : Bytes) (b : Bool) (e : b ≡ framed m) where
+  pub step-frame : b ≡ false → silent Frame s log buffer ≡ step s m log buffer
+  unfolding step
+  step-frame q = rw (sym e ∙ q)
+
+  module _ (q : b ≡ true) where
+    pub step-buffer : length buffer < replyRoom → silent Buffer s log buffer ≡ step s m log buffer
+    unfolding step
+    step-buffer h = rw (sym e ∙ q, lt-ltb (length buffer) replyRoom h)
+
+    module _ (h : replyRoom ≤ length buffer) (a : Bool) (g : a ≡ logAllowed (length log)) where
+      pub step-log : a ≡ false → silent LogLength s log buffer ≡ step s m log buffer
+      unfolding step
+      step-log p = rw (sym e ∙ q, le-ltb (length buffer) replyRoom h, sym g ∙ p)
+
+      pub step-in : a ≡ true → (t : Session) (o : Outcome) → s ≡ t → o ≡ inSession t m log buffer → o ≡ step s m log buffer
+      unfolding step
+      step-in p t o d z = rw (sym e ∙ q, le-ltb (length buffer) replyRoom h, sym g ∙ p) (z ∙ ap (λ (x : Session). inSession x m log buffer) (sym d))
+
+-- ---- by what a message asks
+
+pub fresh-as : (m log buffer : Bytes) (q p : Request) (o : Outcome) → q ≡ requestOf m → q ≡ p → o ≡ fresh p (tagOf m) m log buffer → o ≡ fresh (requestOf m) (tagOf m) m log buffer
+fresh-as m log buffer q p o e d h = h ∙ ap (λ (x : Request). fresh x (tagOf m) m log buffer) (sym d ∙ e)
+
+pub greeted-as : (m log buffer : Bytes) (q p : Request) (o : Outcome) → q ≡ requestOf m → q ≡ p → o ≡ greeted p (tagOf m) m log buffer → o ≡ greeted (requestOf m) (tagOf m) m log buffer
+greeted-as m log buffer q p o e d h = h ∙ ap (λ (x : Request). greeted x (tagOf m) m log buffer) (sym d ∙ e)

@@ -1,0 +1,15 @@
+-- `archive::refuse_silently` meets its contract.
+use mathlib.Core.Path.{refl}
+use Rattle.archive.proofs.Laws.{outcome}
+use borrow.Author.Needs.{needs}
+use Rattle.archive.proofs.refuse_silently.Statement.{statement}
+use Rattle.archive.proofs.refuse_silently.Tie as tie
+
+number-requires : tie.Need-number-requires
+number-requires c κs = search needs
+
+returns : tie.Need-returns
+returns c = λ log buffer. outcome _ _ _ log buffer buffer (c .number .ensures) refl
+
+pub refuse-silently-spec : {M : Type 1} → statement M
+refuse-silently-spec = tie.close (tie.spec number-requires returns)

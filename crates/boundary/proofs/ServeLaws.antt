@@ -1,0 +1,32 @@
+-- Sessions as numbers, and a request's outcome.
+use mathlib.Core.Path.{_≡_, refl, sym, ap, _∙_}
+use Prim.Native.Nat.{ℕ, _+_, _*_, _≤_}
+use native.Mathlib.Omega.{arith}
+use lib.Dec.{eqb}
+use borrow.Author.Tests.{eq-eqb, ne-eqb}
+use Rattle.buffer.specs.Bytes.{Bytes}
+use Rattle.archive.specs.Step.{Outcome, whole}
+use Rattle.archive.specs.declared.Session.{Session}
+use Rattle.archive.specs.declared.Session.the-variants.{Fresh, Greeted, Closed}
+use Rattle.archive.specs.declared.Answer.{Answer}
+use Rattle.boundary.specs.Serve.{sessionOf, sessionNumber, served, outcome}
+
+pub is-fresh : (n : ℕ) → n ≡ 0 → Fresh ≡ sessionOf n
+unfolding sessionOf
+is-fresh n e = rw (eq-eqb n 0 e)
+
+pub is-greeted : (n : ℕ) → (n ≡ 0 → ⊥) → n ≡ 1 → Greeted ≡ sessionOf n
+unfolding sessionOf
+is-greeted n z e = rw (ne-eqb n 0 z, eq-eqb n 1 e)
+
+pub is-closed : (n : ℕ) → (n ≡ 0 → ⊥) → (n ≡ 1 → ⊥) → Closed ≡ sessionOf n
+unfolding sessionOf
+is-closed n z e = rw (ne-eqb n 0 z, ne-eqb n 1 e)
+
+pub session-most : (s : Session) (k : ℕ) → k ≡ sessionNumber s → k ≤ 2
+session-most Fresh k e = omega arith
+session-most Greeted k e = omega arith
+session-most Closed k e = omega arith
+
+pub served-so : (a : Answer) (log reply : Bytes) (o : Outcome) (k : ℕ) → whole a log reply ≡ o → k ≡ sessionNumber (a .session) → served (a .number + 256 * k) log reply ≡ outcome o
+served-so a log reply o k e f = ap (λ (x : ℕ). served (a .number + 256 * x) log reply) f ∙ ap outcome e

@@ -1,0 +1,30 @@
+-- A request's outcome in numbers and byte strings.
+use mathlib.Core.Bool.{cond}
+use Prim.Native.Nat.{ℕ, _+_, _*_}
+use lib.Dec.{eqb}
+use Rattle.buffer.specs.Bytes.{Bytes}
+use Rattle.archive.specs.Step.{Outcome}
+use Rattle.archive.specs.declared.Session.{Session}
+use Rattle.archive.specs.declared.Session.the-variants.{Fresh, Greeted, Closed}
+
+-- a session as a number: 0 is fresh, 1 greeted, and anything else closed
+unfoldable pub sessionOf : ℕ → Session
+sessionOf n = cond (eqb n 0) Fresh (cond (eqb n 1) Greeted Closed)
+
+abbrev pub sessionNumber : Session → ℕ
+sessionNumber Fresh = 0
+sessionNumber Greeted = 1
+sessionNumber Closed = 2
+
+-- what the call gives: its result, and what both lent buffers then hold
+pub record Served : Type 0 where
+  pub result : ℕ
+  pub log : Bytes
+  pub reply : Bytes
+
+abbrev pub served : ℕ → Bytes → Bytes → Served
+served r log reply = record { result = r; log = log; reply = reply }
+
+-- the same of the archive's step: the number, and 256 times the session
+abbrev pub outcome : Outcome → Served
+outcome o = record { result = o .number + 256 * sessionNumber (o .session); log = o .log; reply = o .reply }
