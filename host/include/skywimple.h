@@ -18,6 +18,12 @@ uint32_t skywimple_crc32(const uint8_t *s, size_t s_len);
    Where out is shorter it writes nothing and returns 2. */
 uint32_t skywimple_sha1(const uint8_t *s, size_t s_len, uint8_t *out, size_t out_len);
 
+/* Answers one request. session: 0 fresh, 1 greeted, anything else closed. The result is the number
+   of the refusal, 0 for none, and 256 times the session afterwards. A reply stands at the front of
+   reply, which needs 57,348 bytes; a stored block is appended in log. */
+uint32_t skywimple_serve(uint8_t session, const uint8_t *message, size_t message_len,
+                         uint8_t *log, size_t log_len, uint8_t *reply, size_t reply_len);
+
 #ifdef __cplusplus
 }
 #endif

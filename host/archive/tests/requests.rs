@@ -1,0 +1,244 @@
+//! The paper's examples about messages, and each refusal of a request, through the proved call.
+
+use skywimple_archive::Session::{self, Closed, Fresh, Greeted};
+use skywimple_archive::{crc32, serve, sha1};
+
+const REPLY: usize = 57_348;
+
+/// A log and a reply buffer, with the session that the last request left.
+struct Archive {
+    log: Vec<u8>,
+    reply: Vec<u8>,
+    session: Session,
+}
+
+impl Archive {
+    fn new(sectors: usize) -> Archive {
+        Archive {
+            log: vec![0; 512 * sectors],
+            reply: vec![0xee; REPLY],
+            session: Fresh,
+        }
+    }
+
+    fn greeted(sectors: usize) -> Archive {
+        let mut a = Archive::new(sectors);
+        assert_eq!(a.ask(&HELLO), 0);
+        a
+    }
+
+    /// The number of the answer. The reply buffer is filled anew before.
+    fn ask(&mut self, message: &[u8]) -> u8 {
+        self.reply.fill(0xee);
+        let (number, session) = serve(self.session, message, &mut self.log, &mut self.reply);
+        self.session = session;
+        number
+    }
+
+    /// The reply, by its size; nothing past it was written.
+    fn answer(&self) -> &[u8] {
+        let size = 2 + usize::from(self.reply[0]) * 256 + usize::from(self.reply[1]);
+        assert!(self.reply[size..].iter().all(|b| *b == 0xee));
+        &self.reply[..size]
+    }
+
+    fn untouched(&self) -> bool {
+        self.reply.iter().all(|b| *b == 0xee)
+    }
+}
+
+const HELLO: [u8; 13] = [0, 11, 4, 0, 0, 2, 0x30, 0x32, 0, 0, 0, 0, 0];
+
+fn message(kind: u8, tag: u8, body: &[u8]) -> Vec<u8> {
+    let size = (body.len() + 2) as u16;
+    [&size.to_be_bytes()[..], &[kind, tag], body].concat()
+}
+
+fn write(kind: u8, tag: u8, data: &[u8]) -> Vec<u8> {
+    message(14, tag, &[&[kind, 1, 2, 3], data].concat())
+}
+
+fn read(kind: u8, tag: u8, score: [u8; 20], count: u16) -> Vec<u8> {
+    message(
+        12,
+        tag,
+        &[&score[..], &[kind, 9], &count.to_be_bytes()].concat(),
+    )
+}
+
+fn refused(tag: u8, number: u8) -> Vec<u8> {
+    let digits = [b'0' + number / 10, b'0' + number % 10];
+    message(1, tag, &[&[0, 6][..], b"why=", &digits].concat())
+}
+
+#[test]
+fn marked_examples() {
+    let mut a = Archive::new(1);
+    assert_eq!(a.ask(&HELLO), 0);
+    assert_eq!(a.answer(), [0, 6, 5, 0, 0, 0, 0, 0]);
+    assert_eq!(a.ask(&[0, 2, 2, 7]), 0);
+    assert_eq!(a.answer(), [0, 2, 3, 7]);
+    assert_eq!(a.ask(&read(13, 9, [7; 20], 100)), 11);
+    assert_eq!(
+        a.answer(),
+        [0, 0x0a, 1, 9, 0, 6, 0x77, 0x68, 0x79, 0x3d, 0x31, 0x31]
+    );
+}
+
+#[test]
+fn count_and_length() {
+    let mut a = Archive::greeted(4);
+    assert_eq!(a.ask(&write(13, 1, b"hello world")), 0);
+    let score = sha1(b"hello world");
+    assert_eq!(a.answer(), message(15, 1, &score));
+    assert_eq!(a.ask(&read(13, 2, score, 11)), 0);
+    assert_eq!(a.answer(), message(13, 2, b"hello world"));
+    assert_eq!(a.ask(&read(13, 3, score, 10)), 13);
+    assert_eq!(a.answer(), refused(3, 13));
+    assert_eq!(a.ask(&read(2, 3, score, 11)), 11, "another type");
+}
+
+#[test]
+fn a_log_of_no_sectors() {
+    let mut a = Archive::greeted(0);
+    assert_eq!(a.ask(&write(13, 1, b"")), 0);
+    assert_eq!(a.answer(), message(15, 1, &sha1(b"")));
+    assert_eq!(a.ask(&write(13, 1, b"x")), 14);
+    assert_eq!(a.ask(&read(13, 1, sha1(b""), 0)), 0);
+    assert_eq!(a.answer(), message(13, 1, b""));
+}
+
+#[test]
+fn refusals_without_a_reply() {
+    let mut a = Archive::greeted(1);
+    for bad in [&b""[..], &[0, 1, 2], &[0, 3, 2, 7], &[0, 1, 2, 7]] {
+        assert_eq!(a.ask(bad), 1);
+        assert!(a.untouched() && a.session == Greeted);
+    }
+    a.reply.truncate(REPLY - 1);
+    assert_eq!(a.ask(&[0, 2, 2, 7]), 2);
+    assert!(a.untouched());
+    assert_eq!(a.ask(&[0, 3, 2, 7]), 1, "1 before 2");
+    a.log.push(0);
+    assert_eq!(a.ask(&[0, 2, 2, 7]), 2, "2 before 3");
+    a.reply.resize(REPLY, 0xee);
+    assert_eq!(a.ask(&[0, 2, 2, 7]), 3);
+    assert!(a.untouched() && a.session == Greeted);
+    a.session = Closed;
+    assert_eq!(a.ask(&[0, 2, 2, 7]), 3, "3 before 4");
+    a.log = vec![0; 512 * 131_073];
+    assert_eq!(a.ask(&[0, 2, 2, 7]), 3, "over the limit");
+    a.log.truncate(512);
+    assert_eq!(a.ask(&[0, 2, 99, 7]), 4, "4 before 5");
+    assert!(a.untouched() && a.session == Closed);
+}
+
+#[test]
+fn refusals_by_order() {
+    let mut a = Archive::new(1);
+    let asked = [
+        (message(3, 5, b""), 5),
+        (message(99, 5, b"body"), 5),
+        (message(2, 5, b"b"), 6),
+        (message(6, 5, b"b"), 6),
+        (read(13, 5, [1; 20], 1)[..27].to_vec(), 1),
+        (message(12, 5, &[0; 23]), 6),
+        (message(12, 5, &[0; 25]), 6),
+        (message(14, 5, &[0; 3]), 6),
+        (message(4, 5, &[0, 2, b'0', 0, 0, 0, 0, 0, 0]), 6),
+        (message(4, 5, &[0, 2, b'0', b'2', 0, 0, 0, 0]), 6),
+        (message(4, 5, &[0, 2, b'0', b'2', 0, 0, 0, 0, 0, 0]), 6),
+        (message(2, 5, b""), 7),
+        (message(16, 5, b""), 7),
+        (read(99, 5, [1; 20], 1), 7),
+        (write(99, 5, &[0; 57_345]), 7),
+        (message(4, 5, &[0, 2, b'0', b'3', 0, 0, 0, 0, 0]), 8),
+        (message(4, 5, &[0, 0, 0, 0, 0, 0, 0]), 8),
+    ];
+    for (m, number) in asked {
+        assert_eq!(a.ask(&m), number, "{m:02x?}");
+        assert_eq!(a.session, Fresh);
+        if number == 1 {
+            assert!(a.untouched());
+        } else {
+            assert_eq!(a.answer(), refused(5, number));
+        }
+    }
+    assert_eq!(a.ask(&HELLO), 0);
+    let asked = [
+        (HELLO.to_vec(), 8, 0),
+        (message(4, 5, &[0, 2, b'0', b'3', 0, 0, 0, 0, 0]), 8, 5),
+        (message(4, 5, &[9]), 6, 5),
+        (read(0, 5, [1; 20], 1), 9, 5),
+        (read(10, 5, sha1(b""), 1), 9, 5),
+        (write(12, 5, b""), 9, 5),
+        (write(14, 5, &[0; 57_345]), 9, 5),
+        (write(13, 5, &[0; 57_345]), 10, 5),
+        (write(13, 5, &[1; 404]), 14, 5),
+        (read(13, 5, [1; 20], 1), 11, 5),
+    ];
+    for (m, number, tag) in asked {
+        assert_eq!(a.ask(&m), number);
+        assert_eq!(
+            (a.answer(), a.session),
+            (&refused(tag, number)[..], Greeted)
+        );
+    }
+    assert!(a.log.iter().all(|b| *b == 0), "nothing was stored");
+    assert_eq!(a.ask(&message(16, 5, b"")), 0);
+    assert_eq!(a.answer(), message(17, 5, b""));
+    assert_eq!(a.ask(&message(6, 5, b"")), 0);
+    assert!(a.untouched() && a.session == Closed);
+    assert_eq!(a.ask(&message(2, 5, b"")), 4);
+}
+
+/// Three blocks, damage of each allowed kind, and what is answered then.
+#[test]
+fn a_history_with_damage() {
+    let mut a = Archive::greeted(12);
+    let blocks: [&[u8]; 3] = [&[1; 404], &[2; 10], &[3; 403]];
+    for b in blocks {
+        assert_eq!(a.ask(&write(13, 1, b)), 0);
+    }
+    let before = a.log.clone();
+    assert_eq!(a.ask(&write(13, 1, blocks[1])), 0, "a duplicate");
+    assert_eq!(a.log, before, "adds nothing");
+    assert_eq!(a.ask(&read(13, 1, [9; 20], 1)), 11, "not held");
+    a.log[512 + 300] ^= 1; // within four neighbouring bytes of the first block's second sector
+    a.log[512 * 5..512 * 6].fill(7); // a blank sector that now fits no check
+    assert_eq!(a.ask(&read(13, 1, sha1(blocks[0]), 999)), 12, "lost");
+    assert_eq!(a.ask(&read(13, 1, [9; 20], 1)), 12, "never stored");
+    assert_eq!(
+        a.ask(&read(13, 1, sha1(b""), 0)),
+        0,
+        "the empty block stays known"
+    );
+    for b in &blocks[1..] {
+        assert_eq!(a.ask(&read(13, 1, sha1(b), 999)), 0);
+        assert_eq!(a.answer(), message(13, 1, b));
+    }
+    assert_eq!(a.ask(&write(13, 1, blocks[0])), 0, "stored again");
+    assert_eq!(
+        &a.log[512 * 6..512 * 6 + 13],
+        b"rec=00000006\n",
+        "after the changed sectors"
+    );
+    assert_eq!(a.ask(&read(13, 1, sha1(blocks[0]), 999)), 0, "healed");
+    assert_eq!(a.answer(), message(13, 1, blocks[0]));
+    assert_eq!(
+        a.ask(&read(13, 1, [9; 20], 1)),
+        12,
+        "not known while a sector is doubtful"
+    );
+}
+
+/// One sector as the paper has it, byte for byte.
+#[test]
+fn sector_bytes() {
+    let mut a = Archive::greeted(1);
+    assert_eq!(a.ask(&write(2, 1, b"abc")), 0);
+    let label = b"rec=00000000\npart=0000\nof=0001\ntype=02\nsize=0003\nscore=a9993e364706816aba3e25717850c26c9cd0d89d\n";
+    let body = [&label[..], b"abc", &[0; 400]].concat();
+    let check = format!("crc={:08x}\n", crc32(&body));
+    assert_eq!(a.log, [&body[..], check.as_bytes()].concat());
+}
