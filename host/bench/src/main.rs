@@ -1,6 +1,8 @@
 //! The speed of the proved functions beside ordinary Rust: same machine, same input, both built for
 //! release. Prints a table, and stops before it where two results differ.
 
+mod log;
+
 use plain::random::Random;
 use std::fmt::Debug;
 use std::hint::black_box;
@@ -21,6 +23,7 @@ fn main() {
     );
     compare("sha1", skywimple_archive::sha1, plain::sha1::sha1);
     compare("crc32", skywimple_archive::crc32, plain::crc32::crc32);
+    log::run();
 }
 
 /// Compares the results on random inputs, then the speed.

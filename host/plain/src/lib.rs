@@ -2,5 +2,6 @@
 //! the proved code: to compare results and speed with.
 
 pub mod crc32;
+pub mod log;
 pub mod random;
 pub mod sha1;

@@ -1,0 +1,227 @@
+//! The log in ordinary Rust: blocks in labelled, checked sectors, found by looking through them.
+
+use crate::crc32::crc32;
+use crate::sha1::sha1;
+
+pub type Score = [u8; 20];
+
+const SECTOR: usize = 512;
+const LABEL: usize = 96;
+const PAYLOAD: usize = 403;
+const CHECK: usize = LABEL + PAYLOAD;
+const MOST_SECTORS: usize = 131_072;
+const MOST_DATA: usize = 57_344;
+
+/// The SHA-1 of no bytes.
+const ZERO_SCORE: Score = [
+    0xda, 0x39, 0xa3, 0xee, 0x5e, 0x6b, 0x4b, 0x0d, 0x32, 0x55, 0xbf, 0xef, 0x95, 0x60, 0x18, 0x90,
+    0xaf, 0xd8, 0x07, 0x09,
+];
+
+/// The places of the label's values.
+const REC: usize = 4;
+const PART: usize = 18;
+const OF: usize = 26;
+const KIND: usize = 36;
+const SIZE: usize = 44;
+const SCORE: usize = 55;
+
+/// A label with all its values still to be filled in.
+const LINES: &[u8; LABEL] = b"rec=--------\npart=----\nof=----\ntype=--\nsize=----\n\
+    score=----------------------------------------\n";
+
+/// What became of data to be stored.
+#[derive(Clone, Copy, Debug, PartialEq, Eq)]
+pub enum Stored {
+    /// Appended.
+    New(Score),
+    /// Empty or held already: nothing was written.
+    Held(Score),
+    /// The number of the refusal: 3, 9, 10, 14 or 15.
+    Refused(u8),
+}
+
+/// A sound block's place.
+struct Block {
+    first: usize,
+    size: usize,
+}
+
+/// Appends data to the log unless it is held.
+pub fn store(log: &mut [u8], kind: u8, data: &[u8]) -> Stored {
+    if !well_sized(log) {
+        return Stored::Refused(3);
+    }
+    if !lawful(kind) {
+        return Stored::Refused(9);
+    }
+    if data.len() > MOST_DATA {
+        return Stored::Refused(10);
+    }
+    let score = sha1(data);
+    if data.is_empty() {
+        return Stored::Held(score);
+    }
+    if score == ZERO_SCORE {
+        return Stored::Refused(15);
+    }
+    let mut held = Vec::new();
+    if find(log, kind, &score, &mut held).is_some() {
+        return if held == data {
+            Stored::Held(score)
+        } else {
+            Stored::Refused(15)
+        };
+    }
+    let first = used(log);
+    let rest = &mut log[first * SECTOR..];
+    if rest.len() / SECTOR < data.len().div_ceil(PAYLOAD) {
+        return Stored::Refused(14);
+    }
+    append(rest, first, kind, &score, data);
+    Stored::New(score)
+}
+
+/// Copies the data of a score and type to the front of out and gives its length. Refuses 3, 9,
+/// 11, 12 and, if out is too short, 13.
+pub fn read(log: &[u8], kind: u8, score: &Score, out: &mut [u8]) -> Result<usize, u8> {
+    if !well_sized(log) {
+        return Err(3);
+    }
+    if !lawful(kind) {
+        return Err(9);
+    }
+    if *score == ZERO_SCORE {
+        return Ok(0);
+    }
+    let mut data = Vec::new();
+    if find(log, kind, score, &mut data).is_none() {
+        return Err(if doubtful(log, &mut data) { 12 } else { 11 });
+    }
+    let out = out.get_mut(..data.len()).ok_or(13)?;
+    out.copy_from_slice(&data);
+    Ok(data.len())
+}
+
+fn well_sized(log: &[u8]) -> bool {
+    log.len().is_multiple_of(SECTOR) && log.len() / SECTOR <= MOST_SECTORS
+}
+
+fn lawful(kind: u8) -> bool {
+    matches!(kind, 1..=9 | 13)
+}
+
+/// The first sound block of a type and score; data is then its bytes.
+fn find(log: &[u8], kind: u8, score: &Score, data: &mut Vec<u8>) -> Option<Block> {
+    let mut wanted = *LINES;
+    put(&mut wanted, KIND, &[kind]);
+    put(&mut wanted, SCORE, score);
+    log.chunks_exact(SECTOR)
+        .enumerate()
+        .filter(|(_, sector)| {
+            sector[SCORE..LABEL] == wanted[SCORE..] && sector[KIND..SIZE] == wanted[KIND..SIZE]
+        })
+        .find_map(|(first, _)| sound(log, first, data))
+}
+
+/// Whether a sector of the used part is in no sound block.
+fn doubtful(log: &[u8], data: &mut Vec<u8>) -> bool {
+    let used = used(log);
+    let mut at = 0;
+    while at < used {
+        match sound(log, at, data) {
+            Some(block) => at = block.first + block.size.div_ceil(PAYLOAD),
+            None => return true,
+        }
+    }
+    false
+}
+
+/// The sectors up to the last that isn't all zeros.
+fn used(log: &[u8]) -> usize {
+    log.chunks_exact(SECTOR)
+        .rposition(|sector| *sector != [0; SECTOR])
+        .map_or(0, |last| last + 1)
+}
+
+/// The sound block that starts at a sector; data is then its bytes.
+fn sound(log: &[u8], first: usize, data: &mut Vec<u8>) -> Option<Block> {
+    let start = first * SECTOR;
+    let label = &log[start..start + LABEL];
+    let [kind] = take(label, KIND)?;
+    let size = usize::from(u16::from_be_bytes(take(label, SIZE)?));
+    let score: Score = take(label, SCORE)?;
+    let count = size.div_ceil(PAYLOAD);
+    if !lawful(kind) || !(1..=MOST_DATA).contains(&size) {
+        return None;
+    }
+    let run = log.get(start..start + count * SECTOR)?;
+
+    let mut expected = block_label(first, kind, size, &score);
+    data.clear();
+    for (part, sector) in run.chunks_exact(SECTOR).enumerate() {
+        put(&mut expected, PART, &(part as u16).to_be_bytes());
+        if sector[..LABEL] != expected || sector[CHECK..] != check_line(&sector[..CHECK]) {
+            return None;
+        }
+        data.extend_from_slice(&sector[LABEL..CHECK]);
+    }
+    if data[size..].iter().any(|&byte| byte != 0) {
+        return None;
+    }
+    data.truncate(size);
+    (sha1(data) == score).then_some(Block { first, size })
+}
+
+/// Writes a block's sectors to the front of the log's rest, which starts at sector `first`.
+fn append(rest: &mut [u8], first: usize, kind: u8, score: &Score, data: &[u8]) {
+    let mut label = block_label(first, kind, data.len(), score);
+    let parts = data.chunks(PAYLOAD).enumerate();
+    for ((part, payload), sector) in parts.zip(rest.chunks_exact_mut(SECTOR)) {
+        put(&mut label, PART, &(part as u16).to_be_bytes());
+        sector[..LABEL].copy_from_slice(&label);
+        sector[LABEL..LABEL + payload.len()].copy_from_slice(payload);
+        sector[LABEL + payload.len()..CHECK].fill(0);
+        let line = check_line(&sector[..CHECK]);
+        sector[CHECK..].copy_from_slice(&line);
+    }
+}
+
+/// The label of a block's first part.
+fn block_label(first: usize, kind: u8, size: usize, score: &Score) -> [u8; LABEL] {
+    let mut label = *LINES;
+    put(&mut label, REC, &(first as u32).to_be_bytes());
+    put(&mut label, PART, &[0, 0]);
+    let count = size.div_ceil(PAYLOAD) as u16;
+    put(&mut label, OF, &count.to_be_bytes());
+    put(&mut label, KIND, &[kind]);
+    put(&mut label, SIZE, &(size as u16).to_be_bytes());
+    put(&mut label, SCORE, score);
+    label
+}
+
+fn check_line(checked: &[u8]) -> [u8; SECTOR - CHECK] {
+    let mut line = *b"crc=--------\n";
+    put(&mut line, 4, &crc32(checked).to_be_bytes());
+    line
+}
+
+/// Writes a value in lower-case hex.
+fn put(text: &mut [u8], at: usize, value: &[u8]) {
+    const DIGITS: &[u8; 16] = b"0123456789abcdef";
+    for (pair, byte) in text[at..].chunks_exact_mut(2).zip(value) {
+        pair[0] = DIGITS[usize::from(byte >> 4)];
+        pair[1] = DIGITS[usize::from(byte & 15)];
+    }
+}
+
+/// Reads a value in hex.
+fn take<const N: usize>(text: &[u8], at: usize) -> Option<[u8; N]> {
+    let mut value = [0; N];
+    for (byte, pair) in value.iter_mut().zip(text[at..].chunks_exact(2)) {
+        let high = (pair[0] as char).to_digit(16)?;
+        let low = (pair[1] as char).to_digit(16)?;
+        *byte = (high << 4 | low) as u8;
+    }
+    Some(value)
+}
