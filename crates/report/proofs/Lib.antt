@@ -1,0 +1,4 @@
+pub mod Decimal
+pub mod Laws
+pub mod Answer
+pub mod Examples
