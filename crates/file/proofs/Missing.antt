@@ -1,0 +1,56 @@
+-- "A missing block is refused, never zero": reading answers, zeros or stored bytes, only where no block on the path is missing.
+use mathlib.Core.Path.{_≡_, refl}
+use mathlib.Core.Bool.{Bool, true, false, cond, true≢false}
+use mathlib.Core.Option.{Option, none, some}
+use Prim.Native.Nat.{ℕ, zero, suc, _+_, _%_}
+use lib.Dec.{leb, ltb, eqb}
+use lib.ListN.{length}
+use Rattle.buffer.specs.Bytes.{Bytes, same}
+use Rattle.kind.specs.Kind.{zeroScore}
+use Rattle.refusal.specs.declared.Refusal.{Refusal}
+use Rattle.refusal.specs.declared.Refusal.the-variants as why
+use Rattle.block.specs.Block.{Row}
+use Rattle.log.specs.LookUp.{on, held, absence, logAllowed}
+use Rattle.entry.specs.declared.Entry.{Entry}
+use Rattle.entry.specs.Entry.{entryOf, scoreOf}
+use Rattle.file.specs.declared.Located.{Located}
+use Rattle.file.specs.declared.Located.the-variants.{Refused}
+use Rattle.file.specs.File.{zeroRun, leafRun, fetched, pointer, pointerIndex, leafType, under, pageAllowed, entryReadable, located}
+use Rattle.file.specs.Path.{Whole, Answers}
+
+-- a test that answers was passed
+passed : (b : Bool) (x : Located) (w : Refusal) → Answers (cond b x (Refused w)) → Answers x
+passed true x w a = a
+passed false x w a = absurd a
+
+-- a score that isn't zero is looked up
+looked : (b : Bool) (x y : Located) → b ≡ false → Answers (cond b x y) → Answers y
+looked true x y q a = absurd (true≢false q)
+looked false x y q a = a
+
+-- a look-up that answers found a block
+held-if : (log : Bytes) (t : ℕ) (s : Bytes) (count : ℕ) (f : Row → Located) → Answers (fetched log t s count f) → (r : Row) × (held log t s ≡ some r) × Answers (f r)
+held-if log t s count f a = go (held log t s) refl a
+  where
+    go : (o : Option Row) → held log t s ≡ o → Answers (on o (Refused (absence log)) (λ (r : Row). cond (leb (length (r .bytes)) count) (f r) (Refused why.OverCount)))
+        → (r : Row) × (held log t s ≡ some r) × Answers (f r)
+    go none q x = absurd x
+    go (some r) q x = (r, q, passed (leb (length (r .bytes)) count) (f r) why.OverCount x)
+
+pub under-whole : (log : Bytes) (page : ℕ) (e : Entry) (offset level : ℕ) (s : Bytes) → Answers (under log page e offset level s) → Whole log e offset level s
+unfolding under Whole
+under-whole log page e offset zero s a =
+    λ z. let h = held-if log (leafType e) s (e .dsize) (λ (r : Row). leafRun page e offset (r .first) (length (r .bytes))) (looked (same s zeroScore) (zeroRun page e offset) _ z a) in
+    (h .0, h .1)
+under-whole log page e offset (suc d) s a =
+    λ z. let f : Row → Located = λ r. cond (eqb (length (r .bytes) % 20) 0) (under log page e offset d (pointer (r .bytes) (pointerIndex e offset d))) (Refused why.Pointers) in
+    let h = held-if log (2 + suc d) s (e .psize) f (looked (same s zeroScore) (zeroRun page e offset) _ z a) in
+    (h .0, h .1, under-whole log page e offset d _ (passed (eqb (length ((h .0) .bytes) % 20) 0) _ why.Pointers (h .2)))
+
+pub read-whole : (log page b : Bytes) (offset : ℕ) → Answers (located log page b offset)
+    → Whole log (entryOf b) offset ((entryOf b) .depth) (scoreOf b)
+unfolding located
+read-whole log page b offset a =
+    under-whole log (length page) (entryOf b) offset ((entryOf b) .depth) (scoreOf b)
+    (passed (ltb offset ((entryOf b) .size)) _ why.Offset
+    (passed (entryReadable b) _ why.Entry (passed (pageAllowed page) _ why.Page (passed (logAllowed (length log)) _ why.LogLength a))))

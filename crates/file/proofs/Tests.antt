@@ -1,0 +1,107 @@
+-- The tests before the tree, one after the other, and what they show.
+use mathlib.Core.Path.{_≡_, refl, sym, ap, _∙_}
+use mathlib.Core.Bool.{Bool, true, false, _&&_}
+use Prim.Native.Nat.{ℕ, _/_, _≤_, _<_}
+use native.Mathlib.Omega.{arith}
+use lib.Dec.{leb, eqb}
+use borrow.Author.Tests.{lt-ltb, le-ltb, eq-eqb, ne-eqb, leb-true, eqb-true}
+use lib.ListN.{length, take, drop}
+use lib.Seq.{take-all}
+use Rattle.buffer.specs.Bytes.{Bytes, zeros}
+use Rattle.buffer.proofs.Bytes.{and-true}
+use Rattle.refusal.specs.declared.Refusal.the-variants as why
+use Rattle.log.specs.LookUp.{logAllowed}
+use Rattle.lookup.proofs.Laws.{allowed-sectors}
+use Rattle.entry.specs.declared.Entry.{Entry}
+use Rattle.entry.specs.Entry.{entryOf, wellFormed, scoreOf}
+use Rattle.file.specs.declared.Located.the-variants.{Refused}
+use Rattle.file.specs.File.{pageAllowed, entryReadable, under, located}
+use Rattle.file.specs.Fetch.{Open}
+
+-- ---- the page
+
+pub page-none : (page : Bytes) → length page ≡ 0 → false ≡ pageAllowed page
+unfolding pageAllowed
+page-none page h = rw (eq-eqb (length page) 0 h)
+
+pub page-some : (page : Bytes) → (length page ≡ 0 → ⊥) → zeros page ≡ pageAllowed page
+unfolding pageAllowed
+page-some page h = rw (ne-eqb (length page) 0 h)
+
+-- ---- the entry
+
+pub entry-whole : (b : Bytes) (e : Entry) → length b ≡ 40 → e ≡ entryOf (take 40 (drop 0 b)) → e ≡ entryOf b
+entry-whole b e l h = h ∙ ap entryOf (take-all 40 b (omega arith))
+
+pub entry-length : (b : Bytes) → (length b ≡ 40 → ⊥) → false ≡ entryReadable b
+unfolding entryReadable
+entry-length b h = rw (ne-eqb (length b) 40 h)
+
+pub entry-inactive : (b : Bytes) (e : Entry) → length b ≡ 40 → e ≡ entryOf b → e .active ≡ false → false ≡ entryReadable b
+unfolding entryReadable
+entry-inactive b e l h a = rw (eq-eqb (length b) 40 l, ← h, a)
+
+pub entry-active : (b : Bytes) (e : Entry) (r : Bool) → length b ≡ 40 → e ≡ entryOf b → e .active ≡ true → r ≡ wellFormed e → r ≡ entryReadable b
+unfolding entryReadable
+entry-active b e r l h a w =
+    let t : (entryOf b) .active ≡ true = ap (λ (x : Entry). x .active) (sym h) ∙ a in
+    w ∙ ap wellFormed h ∙ sym (rw (eq-eqb (length b) 40 l, t) refl)
+
+pub readable-length : (b : Bytes) (r : Bool) → r ≡ entryReadable b → r ≡ true → length b ≡ 40
+unfolding entryReadable
+readable-length b r p q = eqb-true (length b) 40 ((and-true (eqb (length b) 40) _ (sym p ∙ q)) .0)
+
+formed : (b : Bytes) → entryReadable b ≡ true → wellFormed (entryOf b) ≡ true
+unfolding entryReadable
+formed b e = (and-true ((entryOf b) .active) _ ((and-true (eqb (length b) 40) _ e) .1)) .1
+
+depth-few : (b : Bytes) → (entryOf b) .depth < 8
+unfolding entryOf
+depth-few b = omega arith
+
+bounds : (m : ℕ) (e : Entry) (offset : ℕ) → wellFormed e ≡ true → e .depth < 8 → m / 512 ≤ 131072 → offset < e .size → Open m e offset
+unfolding wellFormed
+bounds m e offset w d a o =
+    let p = and-true (leb 40 (e .psize) && leb (e .psize) 57344) _ w in
+    let ps = and-true (leb 40 (e .psize)) _ (p .0) in
+    let ds = and-true (leb 1 (e .dsize)) _ ((and-true (leb 1 (e .dsize) && leb (e .dsize) 57344) _ (p .1)) .0) in
+    record {
+      log = omega arith;
+      psize-from = leb-true 40 (e .psize) (ps .0);
+      psize-to = leb-true (e .psize) 57344 (ps .1);
+      dsize-from = leb-true 1 (e .dsize) (ds .0);
+      dsize-to = leb-true (e .dsize) 57344 (ds .1);
+      depth = d;
+      inside = o;
+    }
+
+pub opened : (m : ℕ) (b : Bytes) (e : Entry) (offset : ℕ) (a r : Bool) → a ≡ logAllowed m → a ≡ true → r ≡ entryReadable b → r ≡ true
+    → e ≡ entryOf b → offset < e .size → Open m e offset
+opened m b e offset a r p q u v h o =
+    rw h (bounds m (entryOf b) offset (formed b (sym u ∙ v)) (depth-few b) (allowed-sectors m a p q) (rw h at o))
+
+-- ---- all four
+
+module _ (log page b : Bytes) (offset : ℕ) (a : Bool) (ea : a ≡ logAllowed (length log)) where
+  pub stops-log : a ≡ false → Refused why.LogLength ≡ located log page b offset
+  unfolding located
+  stops-log q = rw (sym ea ∙ q)
+
+  module _ (ta : a ≡ true) (g : Bool) (eg : g ≡ pageAllowed page) where
+    pub stops-page : g ≡ false → Refused why.Page ≡ located log page b offset
+    unfolding located
+    stops-page q = rw (sym ea ∙ ta, sym eg ∙ q)
+
+    module _ (tg : g ≡ true) (r : Bool) (er : r ≡ entryReadable b) where
+      pub stops-entry : r ≡ false → Refused why.Entry ≡ located log page b offset
+      unfolding located
+      stops-entry q = rw (sym ea ∙ ta, sym eg ∙ tg, sym er ∙ q)
+
+      module _ (tr : r ≡ true) (e : Entry) (ee : e ≡ entryOf b) where
+        pub stops-offset : e .size ≤ offset → Refused why.Offset ≡ located log page b offset
+        unfolding located
+        stops-offset h = rw (sym ea ∙ ta, sym eg ∙ tg, sym er ∙ tr, ← ee, le-ltb offset (e .size) h)
+
+        pub goes-down : offset < e .size → under log (length page) e offset (e .depth) (scoreOf b) ≡ located log page b offset
+        unfolding located
+        goes-down h = rw (sym ea ∙ ta, sym eg ∙ tg, sym er ∙ tr, ← ee, lt-ltb offset (e .size) h)

@@ -1,0 +1,39 @@
+-- `file::leaf_run` meets its contract: stored bytes, or zeros past the end of the block.
+use mathlib.Core.Path.{ap₂, _∙_}
+use native.Mathlib.Nat.{mod-lt}
+use native.Mathlib.Omega.{arith}
+use Rattle.file.specs.declared.Located.the-variants.{Stored}
+use Rattle.file.proofs.Steps.{leaf-past, leaf-in}
+use borrow.Author.Needs.{needs}
+use Rattle.file.proofs.leaf_run.Statement.{statement}
+use Rattle.file.proofs.leaf_run.Tie as tie
+
+rem-k : tie.Need-rem-k
+rem-k c = search needs
+
+zero-run-requires : tie.Need-zero-run-requires
+zero-run-requires c κs = search needs
+
+returns : tie.Need-returns
+returns c = (c .zero-run .ensures) ∙ leaf-past (c .before .before .args .page) (c .before .before .args .e) (c .before .before .args .offset) (c .before .before .args .first .0) (c .before .before .args .size) (c .before .if1 .taken)
+
+place-in-requires : tie.Need-place-in-requires
+place-in-requires c κs = omega (arith, mod-lt (c .before .args .offset) (c .before .pre .0))
+
+sub-least : tie.Need-sub-least
+sub-least c = search needs
+
+sub-least-2 : tie.Need-sub-least-2
+sub-least-2 c = search needs
+
+sub-least-3 : tie.Need-sub-least-3
+sub-least-3 c = search needs
+
+least-requires : tie.Need-least-requires
+least-requires c κs = search needs
+
+returns-2 : tie.Need-returns-2
+returns-2 c = ap₂ Stored (c .before .before .place-in .ensures) (c .least .ensures) ∙ leaf-in (c .before .before .before .before .args .page) (c .before .before .before .before .args .e) (c .before .before .before .before .args .offset) (c .before .before .before .before .args .first .0) (c .before .before .before .before .args .size) (c .before .before .before .if1 .left)
+
+pub leaf-run-spec : {M : Type 1} → statement M
+leaf-run-spec = tie.close (tie.spec rem-k zero-run-requires returns place-in-requires sub-least sub-least-2 sub-least-3 least-requires returns-2)

@@ -1,0 +1,66 @@
+-- `file::read` meets its contract: the part that `locate` names.
+use mathlib.Core.Path.{refl, sym}
+use native.Mathlib.Nat.{add-sub-cancel-left, zero-add}
+use native.Mathlib.Omega.{arith}
+use lib.ListN.{length-take}
+use Rattle.file.proofs.Inside.{stored-in, zeros-in}
+use borrow.Author.Needs.{needs}
+use Rattle.file.proofs.read.Statement.{statement}
+use Rattle.file.proofs.read.Tie as tie
+
+locate-requires : tie.Need-locate-requires
+locate-requires c κs = search needs
+
+enum-known-run : tie.Need-enum-known-run
+enum-known-run c = search needs
+
+add-end : tie.Need-add-end
+add-end c = omega (arith, stored-in (c .before .before .before .before .before .before .before .args .log .now) (c .before .before .before .before .before .before .before .args .page .now) (c .before .before .before .before .before .before .before .args .entry .now) (c .before .before .before .before .before .before .before .args .offset) _ (c .before .before .before .locate .ensures) _ _ (c .before .run .given .1))
+
+sub-result : tie.Need-sub-result
+sub-result c = search needs
+
+part-result-start : tie.Need-part-result-start
+part-result-start c = search needs
+
+part-result-end : tie.Need-part-result-end
+part-result-end c = omega (arith, stored-in (c .before .before .before .before .before .before .before .args .log .now) (c .before .before .before .before .before .before .before .args .page .now) (c .before .before .before .before .before .before .before .args .entry .now) (c .before .before .before .before .before .before .before .args .offset) _ (c .before .before .before .locate .ensures) _ _ (c .before .run .given .1))
+
+returns : tie.Need-returns
+returns c = rw (← (c .before .before .before .before .locate .ensures), (c .before .before .run .given .1)) (record { bytes = rw (add-sub-cancel-left _ _); block = refl; place = refl })
+
+enum-known-run-2 : tie.Need-enum-known-run-2
+enum-known-run-2 c = search needs
+
+slice-aggregate-result : tie.Need-slice-aggregate-result
+slice-aggregate-result c = simp length-take (omega (arith, zeros-in (c .before .before .before .before .before .before .before .before .args .log .now) (c .before .before .before .before .before .before .before .before .args .page .now) (c .before .before .before .before .before .before .before .before .args .entry .now) (c .before .before .before .before .before .before .before .before .args .offset) _ (c .before .before .before .before .locate .ensures) _ (c .before .before .run2 .given .1)))
+
+returns-2 : tie.Need-returns-2
+returns-2 c = rw (← (c .before .before .before .before .locate .ensures), (c .before .before .run2 .given .1)) (record { bytes = refl; block = refl; place = sym (zero-add _) })
+
+enum-told : tie.Need-enum-told
+enum-told c = search needs
+
+slice-aggregate-result-2 : tie.Need-slice-aggregate-result-2
+slice-aggregate-result-2 c = search needs
+
+returns-3 : tie.Need-returns-3
+returns-3 c = rw (← (c .before .before .before .locate .ensures), (c .before .enum-told .given .1)) refl
+
+pub read-spec : {M : Type 1} → statement M
+read-spec =
+    tie.close
+    (tie.spec
+    locate-requires
+    enum-known-run
+    add-end
+    sub-result
+    part-result-start
+    part-result-end
+    returns
+    enum-known-run-2
+    slice-aggregate-result
+    returns-2
+    enum-told
+    slice-aggregate-result-2
+    returns-3)

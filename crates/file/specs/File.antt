@@ -1,0 +1,90 @@
+-- "Reading a file": where the bytes at an offset lie, by look-up's definition alone.
+use mathlib.Core.Bool.{Bool, not, cond, _&&_}
+use Prim.Native.Nat.{ℕ, zero, suc, _+_, _-_, _*_, _/_, _%_, _^_, min}
+use lib.Dec.{leb, ltb, eqb}
+use lib.ListN.{length, take, drop}
+use Rattle.buffer.specs.Bytes.{Bytes, same, zeros}
+use Rattle.kind.specs.Kind.{zeroScore}
+use Rattle.refusal.specs.declared.Refusal.{Refusal}
+use Rattle.refusal.specs.declared.Refusal.the-variants as why
+use Rattle.refusal.specs.Number.{numberOf}
+use Rattle.block.specs.Block.{Row}
+use Rattle.log.specs.LookUp.{on, held, absence, logAllowed}
+use Rattle.entry.specs.declared.Entry.{Entry}
+use Rattle.entry.specs.Entry.{entryOf, entryAllowed, scoreOf, pointers}
+use Rattle.file.specs.declared.Located.{Located}
+use Rattle.file.specs.declared.Located.the-variants.{Stored, Zeros, Refused}
+
+-- "from zeros, the page's front, up to the end of page, dsize or file"; page is the page's length
+abbrev pub zeroRun : ℕ → Entry → ℕ → Located
+zeroRun page e offset = Zeros (min page (min (e .dsize - offset % e .dsize) (e .size - offset)))
+
+-- where byte k of the block that starts at sector n lies in the log: in one sector, behind its 96 bytes of label
+abbrev pub placeIn : ℕ → ℕ → ℕ
+placeIn n k = 512 * (n + k / 403) + (96 + k % 403)
+
+-- "from stored data, up to the end of payload, block or file"; the leaf is the block of `size` bytes that starts at sector n
+abbrev pub storedRun : Entry → ℕ → ℕ → ℕ → Located
+storedRun e offset n size =
+    Stored (placeIn n (offset % e .dsize))
+    (min (403 - offset % e .dsize % 403) (min (size - offset % e .dsize) (e .size - offset)))
+
+-- what a leaf lacks up to dsize is zeros
+unfoldable pub leafRun : ℕ → Entry → ℕ → ℕ → ℕ → Located
+leafRun page e offset n size = cond (ltb (offset % e .dsize) size) (storedRun e offset n size) (zeroRun page e offset)
+
+-- "A missing block is refused, never zero"; 13 is "block longer than count"
+abbrev pub fetched : Bytes → ℕ → Bytes → ℕ → (Row → Located) → Located
+fetched log t s count f =
+    on (held log t s) (Refused (absence log)) (λ r. cond (leb (length (r .bytes)) count) (f r) (Refused why.OverCount))
+
+-- "A pointer past the end of its block is the zero score"
+unfoldable pub pointer : Bytes → ℕ → Bytes
+pointer b i = cond (leb (length b) (20 * i)) zeroScore (take 20 (drop (20 * i) b))
+
+-- which pointer of a block of level d + 1 leads to the offset: a digit of the leaf's number, in base p
+abbrev pub pointerIndex : Entry → ℕ → ℕ → ℕ
+pointerIndex e offset d = offset / e .dsize / pointers e ^ d % pointers e
+
+-- "the leaf 13 or 2"
+abbrev pub leafType : Entry → ℕ
+leafType e = cond (e .directory) 2 13
+
+-- the run under a score at a level. "Level d is type 2+d, the leaf 13 or 2. Look-up count is psize for pointers, dsize for leaves; then 18";
+-- "below a zero score all is zero"
+unfoldable pub under : Bytes → ℕ → Entry → ℕ → ℕ → Bytes → Located
+under log page e offset zero s =
+    cond (same s zeroScore) (zeroRun page e offset)
+    (fetched log (leafType e) s (e .dsize) (λ r. leafRun page e offset (r .first) (length (r .bytes))))
+under log page e offset (suc d) s =
+    cond (same s zeroScore) (zeroRun page e offset)
+    (fetched log (2 + suc d) s (e .psize)
+    (λ r. cond (eqb (length (r .bytes) % 20) 0)
+    (under log page e offset d (pointer (r .bytes) (pointerIndex e offset d)))
+    (Refused why.Pointers)))
+
+-- 19 is "blank page empty or not all zeros"
+unfoldable pub pageAllowed : Bytes → Bool
+pageAllowed page = not (eqb (length page) 0) && zeros page
+
+-- 16 is "an inactive entry or one not of 40 bytes too"
+unfoldable pub entryReadable : Bytes → Bool
+entryReadable b = eqb (length b) 40 && ((entryOf b) .active && entryAllowed b)
+
+-- a test, which refuses or lets through
+abbrev pub test : Bool → Refusal → Located → Located
+test b w x = cond b x (Refused w)
+
+-- "Tests: 3, 19, 16, 17, then the tree"
+unfoldable pub located : Bytes → Bytes → Bytes → ℕ → Located
+located log page entry offset =
+    test (logAllowed (length log)) why.LogLength
+    (test (pageAllowed page) why.Page (test (entryReadable entry) why.Entry
+    (test (ltb offset ((entryOf entry) .size)) why.Offset
+    (under log (length page) (entryOf entry) offset ((entryOf entry) .depth) (scoreOf entry)))))
+
+-- "a second answer gives the number, 0 for none"
+abbrev pub answerOf : Located → ℕ
+answerOf (Stored at length) = 0
+answerOf (Zeros length) = 0
+answerOf (Refused w) = numberOf w

@@ -1,0 +1,8 @@
+-- The laws of the walk's definitions.
+pub mod Bytes
+pub mod Visits
+pub mod Orders
+pub mod Cases
+pub mod Tops
+pub mod Fuel
+pub mod Examples

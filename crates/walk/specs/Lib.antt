@@ -1,0 +1,3 @@
+-- What the clauses of `walk` cite.
+pub mod Walk
+pub mod Met
