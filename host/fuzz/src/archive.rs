@@ -1,0 +1,85 @@
+//! What an archive under test has to offer.
+
+use second::tree::Run;
+use second::{Score, Session};
+
+/// The archive's calls. Numbers are the description's refusals, 0 for none.
+pub trait Archive {
+    /// One request: the number and the session afterwards.
+    fn serve(
+        &mut self,
+        session: Session,
+        message: &[u8],
+        log: &mut [u8],
+        reply: &mut [u8],
+    ) -> (u8, Session);
+
+    /// The report's length, or the number.
+    fn report(&mut self, log: &[u8], buffer: &mut [u8]) -> Result<usize, u8>;
+
+    /// The length of a block cut by its zeros, or the number.
+    fn cut(&mut self, kind: u8, block: &[u8]) -> Result<usize, u8>;
+
+    /// Pads the block at the buffer's front; gives the number.
+    fn pad(&mut self, kind: u8, buffer: &mut [u8], block_len: usize, target: usize) -> u8;
+
+    /// Where a file's bytes at an offset are, or the number.
+    fn locate(&mut self, log: &[u8], page: &[u8], entry: &[u8], offset: u64) -> Result<Run, u8>;
+
+    /// The number and the visits spent.
+    fn walk(&mut self, log: &[u8], score: &Score, allowance: u64) -> (u8, u64);
+
+    /// The wire type of a number of the enumeration, or the number 9.
+    fn wire_type(&mut self, number: u64) -> Result<u8, u8>;
+
+    fn sha1(&mut self, bytes: &[u8]) -> Score;
+
+    fn crc32(&mut self, bytes: &[u8]) -> u32;
+}
+
+/// The second program as an archive under test.
+pub struct Second;
+
+impl Archive for Second {
+    fn serve(
+        &mut self,
+        session: Session,
+        message: &[u8],
+        log: &mut [u8],
+        reply: &mut [u8],
+    ) -> (u8, Session) {
+        second::request::serve(session, message, log, reply)
+    }
+
+    fn report(&mut self, log: &[u8], buffer: &mut [u8]) -> Result<usize, u8> {
+        second::report::report(log, buffer)
+    }
+
+    fn cut(&mut self, kind: u8, block: &[u8]) -> Result<usize, u8> {
+        second::zeros::cut(kind, block)
+    }
+
+    fn pad(&mut self, kind: u8, buffer: &mut [u8], block_len: usize, target: usize) -> u8 {
+        second::zeros::pad(kind, buffer, block_len, target)
+    }
+
+    fn locate(&mut self, log: &[u8], page: &[u8], entry: &[u8], offset: u64) -> Result<Run, u8> {
+        second::tree::locate(log, page, entry, offset)
+    }
+
+    fn walk(&mut self, log: &[u8], score: &Score, allowance: u64) -> (u8, u64) {
+        second::walk::walk(log, score, allowance)
+    }
+
+    fn wire_type(&mut self, number: u64) -> Result<u8, u8> {
+        second::kind::wire_type(number)
+    }
+
+    fn sha1(&mut self, bytes: &[u8]) -> Score {
+        second::sha1::sha1(bytes)
+    }
+
+    fn crc32(&mut self, bytes: &[u8]) -> u32 {
+        second::crc32::crc32(bytes)
+    }
+}

@@ -1,0 +1,186 @@
+//! Asking the archive under test and the second program alike, and comparing.
+
+use second::ledger::Prediction;
+use second::Session;
+
+use crate::archive::Archive;
+
+/// The longest reply buffer that is lent.
+pub const LONGEST_REPLY: usize = 65_600;
+
+/// The steps of a case, written down only if wanted.
+pub struct Trace {
+    pub on: bool,
+    pub steps: Vec<String>,
+}
+
+impl Trace {
+    pub fn note(&mut self, step: impl FnOnce() -> String) {
+        if self.on {
+            let step = step();
+            self.steps.push(step);
+        }
+    }
+}
+
+/// Reply buffers that go on from case to case. Each lent one holds the pattern beforehand; only
+/// what a reply has overwritten is restored.
+pub struct Compare {
+    pattern: Vec<u8>,
+    tested: Vec<u8>,
+    second: Vec<u8>,
+    /// How often each number was the answer, to requests and to other calls.
+    pub requests: [u64; 24],
+    pub calls: [u64; 24],
+}
+
+impl Compare {
+    pub fn new() -> Compare {
+        let mut pattern = crate::random::Random::new(&[0]).bytes(LONGEST_REPLY);
+        // No reply starts with this byte: it would be longer than any.
+        pattern[0] = 0xff;
+        Compare {
+            tested: pattern.clone(),
+            second: pattern.clone(),
+            pattern,
+            requests: [0; 24],
+            calls: [0; 24],
+        }
+    }
+
+    /// One request, with a reply buffer of this length. `logs` are the log of the archive under
+    /// test and that of the second program.
+    pub fn request(
+        &mut self,
+        archive: &mut dyn Archive,
+        session: Session,
+        message: &[u8],
+        reply_len: usize,
+        logs: (&mut [u8], &mut [u8]),
+        expected: Option<&Prediction>,
+    ) -> Result<Session, String> {
+        let (tested_log, second_log) = logs;
+        let (number, after) =
+            archive.serve(session, message, tested_log, &mut self.tested[..reply_len]);
+        let second =
+            second::request::serve(session, message, second_log, &mut self.second[..reply_len]);
+        self.requests[usize::from(second.0)] += 1;
+
+        let written = match self.second[0] {
+            0xff => 0,
+            _ => second::message::number(&self.second[..2]) + 2,
+        };
+        let same_reply = self.tested[..written] == self.second[..written]
+            && self.tested[written..] == self.pattern[written..];
+        let result = if (number, after) != second {
+            Err(format!(
+                "number and session are {number}, {after:?}, the second program's {}, {:?}",
+                second.0, second.1
+            ))
+        } else if !same_reply {
+            let at = (0..LONGEST_REPLY)
+                .find(|&at| self.tested[at] != self.second[at])
+                .unwrap_or(0);
+            Err(format!(
+                "the reply buffer differs from the second program's, first at byte {at}; number {number}"
+            ))
+        } else if tested_log != second_log {
+            Err(difference("the log", tested_log, second_log))
+        } else {
+            match expected {
+                Some(expected) => against_ledger(expected, second, &self.second[..written]),
+                None => Ok(after),
+            }
+        };
+        if result.is_err() {
+            self.restore();
+        } else {
+            self.tested[..written].copy_from_slice(&self.pattern[..written]);
+            self.second[..written].copy_from_slice(&self.pattern[..written]);
+        }
+        result
+    }
+
+    /// Puts the pattern back.
+    pub fn restore(&mut self) {
+        self.tested.copy_from_slice(&self.pattern);
+        self.second.copy_from_slice(&self.pattern);
+    }
+
+    /// Two answers to another call, the number of the right one being told for counting.
+    pub fn call<T: PartialEq + std::fmt::Debug>(
+        &mut self,
+        name: &str,
+        number: u8,
+        tested: T,
+        second: T,
+    ) -> Result<(), String> {
+        self.calls[usize::from(number)] += 1;
+        if tested == second {
+            Ok(())
+        } else {
+            Err(format!(
+                "{name} gives {tested:?}, the second program {second:?}"
+            ))
+        }
+    }
+}
+
+/// A lent buffer after a call.
+pub fn buffer(what: &str, tested: &[u8], right: &[u8]) -> Result<(), String> {
+    if tested == right {
+        Ok(())
+    } else {
+        Err(difference(what, tested, right))
+    }
+}
+
+fn against_ledger(
+    expected: &Prediction,
+    second: (u8, Session),
+    reply: &[u8],
+) -> Result<Session, String> {
+    if (expected.number, expected.session) != second {
+        return Err(format!(
+            "number and session are {}, {:?}, the ledger's {}, {:?}",
+            second.0, second.1, expected.number, expected.session
+        ));
+    }
+    if expected.reply != reply {
+        return Err("the reply buffer differs from the ledger's".to_string());
+    }
+    Ok(second.1)
+}
+
+/// Says where two runs of bytes differ.
+pub fn difference(what: &str, tested: &[u8], right: &[u8]) -> String {
+    match tested.iter().zip(right).position(|(a, b)| a != b) {
+        Some(at) => format!(
+            "{what} differs, first at byte {at} (sector {}, byte {} of it)",
+            at / 512,
+            at % 512
+        ),
+        None => format!("{what} differs"),
+    }
+}
+
+/// The number of an answer that is a value or a number.
+pub fn number<T>(answer: &Result<T, u8>) -> u8 {
+    match answer {
+        Ok(_) => 0,
+        Err(number) => *number,
+    }
+}
+
+/// The front of some bytes in hex.
+pub fn hex(bytes: &[u8]) -> String {
+    let mut text: String = bytes
+        .iter()
+        .take(48)
+        .map(|byte| format!("{byte:02x}"))
+        .collect();
+    if bytes.len() > 48 {
+        text.push_str("..");
+    }
+    text
+}

@@ -1,0 +1,241 @@
+//! Logs that nobody wrote honestly: labels that lie, blocks that overlap, sectors out of place.
+
+use second::kind::KINDS;
+use second::message::LEAST_REPLY;
+use second::sector::{check, encode, sectors_for, Label, CHECK, PAYLOAD, SECTOR};
+use second::Session;
+
+use crate::archive::Archive;
+use crate::compare::{buffer, hex, number, Compare, Trace};
+use crate::messages::Pool;
+use crate::random::Random;
+
+pub fn run(
+    archive: &mut dyn Archive,
+    compare: &mut Compare,
+    random: &mut Random,
+    trace: &mut Trace,
+) -> Result<(), String> {
+    let mut pool = Pool::new(random);
+    let mut tested = log(random, &mut pool, trace);
+    let mut second = tested.clone();
+    report(archive, compare, &tested, trace)?;
+    for _ in 0..random.between(2, 8) {
+        let message = match random.below(10) {
+            0..=5 => pool.read(random),
+            6..=8 => pool.write(random),
+            _ => pool.message(random),
+        };
+        trace.note(|| format!("message of {}: {}", message.len(), hex(&message)));
+        compare.request(
+            archive,
+            Session::Ready,
+            &message,
+            LEAST_REPLY,
+            (&mut tested, &mut second),
+            None,
+        )?;
+    }
+    for _ in 0..2 {
+        let entry = leaf_entry(random, &pool);
+        let offset = random.below(1000) as u64;
+        trace.note(|| format!("locate {} at {offset}", hex(&entry)));
+        let page = [0; 100];
+        let right = second::tree::locate(&tested, &page, &entry, offset);
+        let answer = archive.locate(&tested, &page, &entry, offset);
+        compare.call("locate", number(&right), answer, right)?;
+    }
+    report(archive, compare, &tested, trace)
+}
+
+fn report(
+    archive: &mut dyn Archive,
+    compare: &mut Compare,
+    log: &[u8],
+    trace: &mut Trace,
+) -> Result<(), String> {
+    trace.note(|| "report".to_string());
+    let mut tested = [0xaa; 200];
+    let mut second = [0xaa; 200];
+    let right = second::report::report(log, &mut second);
+    let answer = archive.report(log, &mut tested);
+    compare.call("report", number(&right), answer, right)?;
+    buffer("the report's buffer", &tested, &second)
+}
+
+/// An entry of depth 0 whose score is the pool's.
+fn leaf_entry(random: &mut Random, pool: &Pool) -> Vec<u8> {
+    let (score, _) = pool.score(random);
+    let mut bytes = vec![0; 4];
+    bytes.extend([0, 40, 5, 120, random.pick(&[1, 1, 3]), 0, 0, 0, 0, 0]);
+    bytes.extend([0, 0, 0, 0, 4, 0]);
+    bytes.extend(score);
+    bytes
+}
+
+/// A log of a few sectors, laid out piece by piece.
+fn log(random: &mut Random, pool: &mut Pool, trace: &mut Trace) -> Vec<u8> {
+    let sectors = random.between(1, 16);
+    let mut log = vec![0; sectors * SECTOR];
+    let used = random.between(1, sectors);
+    let mut at = 0;
+    while at < used {
+        let (data, score) = pool.blocks[random.below(pool.blocks.len())].clone();
+        let kind = random.pick(&pool.kinds);
+        pool.stored.push((kind, data.clone(), score));
+        let choice = random.below(12);
+        trace.note(|| format!("sector {at}: piece {choice}, {} bytes", data.len()));
+        let piece = match choice {
+            0..=3 => honest(at, kind, &data),
+            4..=8 => lying(random, pool, at, kind, &data),
+            9 => vec![[0; SECTOR]],
+            10 => vec![garbage(random)],
+            _ => {
+                let mut piece = honest(at, kind, &data);
+                piece[0].rotate_right(random.between(1, SECTOR - 1));
+                piece
+            }
+        };
+        for (sector, room) in piece.iter().zip(log[at * SECTOR..].chunks_mut(SECTOR)) {
+            room.copy_from_slice(sector);
+        }
+        // Sometimes the next piece starts inside this one.
+        at += if random.percent(12) { 1 } else { piece.len() };
+    }
+    if random.percent(20) {
+        let at = random.below(log.len());
+        log[at] ^= 1 << random.below(8);
+    }
+    log
+}
+
+fn garbage(random: &mut Random) -> [u8; SECTOR] {
+    let mut sector = [0; SECTOR];
+    sector.copy_from_slice(&random.bytes(SECTOR));
+    if random.percent(50) {
+        refit(&mut sector);
+    }
+    sector
+}
+
+fn refit(sector: &mut [u8; SECTOR]) {
+    let line = check(&sector[..CHECK]);
+    sector[CHECK..].copy_from_slice(&line);
+}
+
+/// The labels and payloads of a block.
+fn parts(at: usize, kind: u8, data: &[u8]) -> Vec<(Label, Vec<u8>)> {
+    let head = Label {
+        rec: at as u32,
+        part: 0,
+        of: sectors_for(data.len()) as u16,
+        kind,
+        size: data.len() as u16,
+        score: second::sha1::sha1(data),
+    };
+    data.chunks(PAYLOAD)
+        .enumerate()
+        .map(|(part, payload)| {
+            let part = part as u16;
+            (Label { part, ..head }, payload.to_vec())
+        })
+        .collect()
+}
+
+fn sectors(parts: &[(Label, Vec<u8>)]) -> Vec<[u8; SECTOR]> {
+    parts
+        .iter()
+        .map(|(label, payload)| encode(label, payload))
+        .collect()
+}
+
+fn honest(at: usize, kind: u8, data: &[u8]) -> Vec<[u8; SECTOR]> {
+    sectors(&parts(at, kind, data))
+}
+
+/// A block with one lie, in one of its sectors or in all.
+fn lying(random: &mut Random, pool: &Pool, at: usize, kind: u8, data: &[u8]) -> Vec<[u8; SECTOR]> {
+    let mut parts = parts(at, kind, data);
+    let one = random.below(parts.len());
+    let all = random.percent(60);
+    let lie = random.below(16);
+    let step = random.pick(&[1, 0xffff]);
+    let other = random.pick(&KINDS);
+    let odd = random.pick(&[0, 10, 11, 12, 14, 255]);
+    let score = match random.below(3) {
+        0 => random.score(),
+        1 => second::sha1::ZERO_SCORE,
+        _ => pool.score(random).0,
+    };
+    let size = random.pick(&[0, 1, 402, 403, 404, 57_344, 57_345, 65_535]);
+    if lie == 8 {
+        // One sector more than the size needs, or one less.
+        if random.percent(50) {
+            let (mut label, _) = parts[0].clone();
+            label.part = parts.len() as u16;
+            parts.push((label, Vec::new()));
+        } else if parts.len() > 1 {
+            parts.pop();
+        }
+    }
+    let count = parts.len();
+    for (i, (label, payload)) in parts.iter_mut().enumerate() {
+        if !all && i != one {
+            continue;
+        }
+        match lie {
+            0 => label.rec = label.rec.wrapping_add(random.pick(&[1, u32::MAX, 0x100])),
+            1 => label.part = label.part.wrapping_add(step),
+            2 => label.of = label.of.wrapping_add(step),
+            3 => label.size = label.size.wrapping_add(step),
+            4 => label.size = size,
+            5 => label.kind = other,
+            6 => label.kind = odd,
+            7 => label.score = score,
+            8 => label.of = count as u16,
+            9 => label.score[i % 20] ^= 1,
+            10 => {
+                payload.resize(PAYLOAD, 0);
+                payload[PAYLOAD - 1] ^= random.mark();
+            }
+            11 => {
+                let at = random.below(payload.len().max(1));
+                payload.resize(payload.len().max(1), 0);
+                payload[at] ^= 1 << random.below(8);
+            }
+            _ => {}
+        }
+    }
+    let mut sectors = sectors(&parts);
+    for (i, sector) in sectors.iter_mut().enumerate() {
+        if lie < 12 || (!all && i != one) {
+            continue;
+        }
+        match lie {
+            12 => sector[..96].make_ascii_uppercase(),
+            13 => {
+                // Capital digits, the names as they are.
+                for digit in sector[55..95].iter_mut() {
+                    digit.make_ascii_uppercase();
+                }
+            }
+            14 => {
+                let any = random.below(96);
+                let at = random.pick(&[0, 3, 12, 22, 30, 38, 48, 95, any]);
+                sector[at] = random.pick(b" \r\n=0aR");
+            }
+            _ => {
+                sector[CHECK..].make_ascii_uppercase();
+                continue;
+            }
+        }
+        if random.percent(85) {
+            refit(sector);
+        }
+    }
+    if random.percent(8) {
+        let last = sectors.len() - 1;
+        sectors[one.min(last)][random.between(CHECK, SECTOR - 1)] ^= 1;
+    }
+    sectors
+}

@@ -1,0 +1,74 @@
+//! The longest blocks in trees: a directory, a pointer block and a leaf.
+
+use second::log::write;
+use second::sector::{sectors_for, SECTOR};
+use second::sha1::{sha1, Score, ZERO_SCORE};
+
+use crate::archive::Archive;
+use crate::compare::{hex, number, Compare, Trace};
+use crate::random::Random;
+use crate::shape::Shape;
+
+const LONGEST: usize = 57_344;
+
+pub fn run(
+    archive: &mut dyn Archive,
+    compare: &mut Compare,
+    random: &mut Random,
+    trace: &mut Trace,
+) -> Result<(), String> {
+    let mut log = vec![0; 440 * SECTOR];
+    let mut used = 0;
+    let mut store = |kind: u8, data: &[u8]| -> Score {
+        write(&mut log, used, kind, data);
+        used += sectors_for(data.len());
+        sha1(data)
+    };
+
+    let leaf = store(13, &random.bytes(LONGEST));
+    let mut pointers = ZERO_SCORE.repeat(LONGEST / 20);
+    for _ in 0..3 {
+        let at = random.below(LONGEST / 20) * 20;
+        pointers[at..at + 20].copy_from_slice(&leaf);
+    }
+    let end = pointers.len();
+    pointers[end - 20..].copy_from_slice(&leaf);
+    let top = store(3, &pointers);
+    let shape = Shape {
+        psize: LONGEST,
+        dsize: LONGEST,
+        directory: false,
+        depth: 1,
+    };
+    let entry = shape.bytes(&top, (end / 20 * LONGEST) as u64);
+
+    // The directory ends inside an entry: what its score lacks is zero bytes.
+    let mut directory = vec![0; LONGEST];
+    let at = random.below(LONGEST / 40) * 40;
+    let small = Shape { depth: 0, ..shape };
+    directory[at..at + 40].copy_from_slice(&small.bytes(&leaf, 1));
+    if random.percent(50) {
+        let last = LONGEST / 40 * 40;
+        directory[last..].copy_from_slice(&small.bytes(&leaf, 1)[..LONGEST - last]);
+    }
+    let mut root = vec![0, 2];
+    root.resize(258, 0);
+    root.extend(store(2, &directory));
+    let root = store(1, &root);
+
+    let page = vec![0; random.pick(&[1, 60_000])];
+    for _ in 0..4 {
+        let pointer = match random.below(3) {
+            0 => end / 20 - 1,
+            _ => random.below(end / 20),
+        };
+        let offset = (pointer * LONGEST + random.below(LONGEST)) as u64;
+        trace.note(|| format!("locate {} at {offset}", hex(&entry)));
+        let right = second::tree::locate(&log, &page, &entry, offset);
+        let answer = archive.locate(&log, &page, &entry, offset);
+        compare.call("locate", number(&right), answer, right)?;
+    }
+    trace.note(|| format!("walk {}", hex(&root)));
+    let right = second::walk::walk(&log, &root, 100);
+    compare.call("walk", right.0, archive.walk(&log, &root, 100), right)
+}

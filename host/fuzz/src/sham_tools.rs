@@ -1,0 +1,185 @@
+//! What the shams are made with.
+
+use second::kind::lawful;
+use second::log::{Block, Contents};
+use second::message::{number, refusal};
+use second::sector::{
+    blank, check, fits, label, sectors_for, Label, CHECK, LABEL, PAYLOAD, SECTOR,
+};
+use second::sha1::sha1;
+use second::Session;
+
+use crate::archive::{Archive, Second};
+
+/// Puts a message's error reply in the place of its reply.
+pub fn refuse(refused: u8, message: &[u8], reply: &mut [u8]) {
+    let text = refusal(refused, message[3]);
+    reply[..text.len()].copy_from_slice(&text);
+}
+
+/// Serves on an altered copy of the log and takes over what was appended.
+pub fn serve_altered(
+    alter: impl Fn(&mut [u8]),
+    session: Session,
+    message: &[u8],
+    log: &mut [u8],
+    reply: &mut [u8],
+) -> (u8, Session) {
+    let mut copy = log.to_vec();
+    for sector in copy.chunks_exact_mut(SECTOR) {
+        alter(sector);
+    }
+    let before = copy.clone();
+    let answer = Second.serve(session, message, &mut copy, reply);
+    for at in 0..log.len() {
+        if copy[at] != before[at] {
+            log[at] = copy[at];
+        }
+    }
+    answer
+}
+
+/// Makes the check of a sector fit, unless it is blank.
+pub fn refit(sector: &mut [u8]) {
+    if !blank(sector) {
+        let line = check(&sector[..CHECK]);
+        sector[CHECK..].copy_from_slice(&line);
+    }
+}
+
+/// Writes the label of a sector whose check fits in small letters.
+pub fn lower_label(sector: &mut [u8]) {
+    if fits(sector) {
+        sector[..LABEL].make_ascii_lowercase();
+        refit(sector);
+    }
+}
+
+/// Whether all doubtful sectors are blank.
+pub fn only_blank_doubts(log: &[u8]) -> bool {
+    let contents = Contents::of(log);
+    (0..contents.used).all(|at| {
+        blank(&log[at * SECTOR..(at + 1) * SECTOR])
+            || contents
+                .blocks
+                .iter()
+                .any(|block| (block.first..block.first + block.sectors()).contains(&at))
+    })
+}
+
+/// The bytes of data in a read's reply.
+pub fn reply_data(reply: &[u8]) -> usize {
+    number(&reply[..2]) - 2
+}
+
+/// A hello with other bytes for the zeros in its texts.
+pub fn without_zeros(message: &[u8]) -> Vec<u8> {
+    let mut patched = message.to_vec();
+    let mut at = 4;
+    for _ in 0..2 {
+        if at + 2 > patched.len() {
+            break;
+        }
+        let count = number(&patched[at..at + 2]);
+        let end = (at + 2 + count).min(patched.len());
+        for byte in &mut patched[at + 2..end] {
+            *byte = (*byte).max(1);
+        }
+        at = end;
+    }
+    patched
+}
+
+/// The tests of a sound block, each of which can be left out.
+#[derive(Clone, Copy)]
+pub struct Tests {
+    pub place: bool,
+    pub parts: bool,
+    pub count: bool,
+    pub kind: bool,
+    pub agreement: bool,
+    pub rest: bool,
+    pub check: bool,
+    pub score: bool,
+}
+
+impl Tests {
+    pub const ALL: Tests = Tests {
+        place: true,
+        parts: true,
+        count: true,
+        kind: true,
+        agreement: true,
+        rest: true,
+        check: true,
+        score: true,
+    };
+}
+
+/// The block that starts at a sector, sound by these tests.
+fn sound_at(log: &[u8], first: usize, tests: Tests) -> Option<Block> {
+    let sector = |at: usize| log.get(at * SECTOR..(at + 1) * SECTOR);
+    let head = label(sector(first)?)?;
+    let block = Block {
+        kind: head.kind,
+        score: head.score,
+        first,
+        size: usize::from(head.size),
+    };
+    let good = (!tests.place || head.rec as usize == first)
+        && (!tests.count || usize::from(head.of) == sectors_for(block.size))
+        && (!tests.kind || lawful(head.kind))
+        && (1..=57_344).contains(&block.size);
+    if !good {
+        return None;
+    }
+    for part in 0..sectors_for(block.size) {
+        let sector = sector(first + part)?;
+        let mut expected = Label {
+            part: part as u16,
+            ..head
+        };
+        let found = label(sector)?;
+        if !tests.parts {
+            expected.part = found.part;
+        }
+        if !tests.agreement {
+            let part = expected.part;
+            expected = Label { part, ..found };
+        }
+        let here = (block.size - part * PAYLOAD).min(PAYLOAD);
+        let rest = &sector[CHECK - PAYLOAD + here..CHECK];
+        if found != expected
+            || (tests.check && !fits(sector))
+            || (tests.rest && rest.iter().any(|&byte| byte != 0))
+        {
+            return None;
+        }
+    }
+    (!tests.score || sha1(&block.data(log)) == block.score).then_some(block)
+}
+
+/// How many blocks are sound by these tests, and how many sectors are in none of them.
+pub fn records_and_doubtful(log: &[u8], tests: Tests) -> (usize, usize) {
+    let used = second::log::used(log);
+    let mut covered = vec![false; used];
+    let mut records = 0;
+    for first in 0..used {
+        if let Some(block) = sound_at(log, first, tests) {
+            let end = (first + block.sectors()).min(used);
+            covered[first..end].fill(true);
+            records += 1;
+        }
+    }
+    (records, covered.iter().filter(|&&covered| !covered).count())
+}
+
+/// A report with these numbers.
+pub fn report_text(log: &[u8], records: usize, doubtful: usize) -> String {
+    let sectors = log.len() / SECTOR;
+    let used = second::log::used(log);
+    let verdict = if doubtful == 0 { "sound" } else { "notknown" };
+    format!(
+        "sectors={sectors}\nused={used}\nrecords={records}\ndoubtful={doubtful}\nverdict={verdict}\n"
+    )
+}

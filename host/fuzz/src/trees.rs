@@ -1,0 +1,296 @@
+//! Trees with holes, zero scores and scores that come back, for reading files and walking.
+
+use second::kind::KINDS;
+use second::log::write;
+use second::sector::{sectors_for, SECTOR};
+use second::sha1::{sha1, Score, ZERO_SCORE};
+
+use crate::archive::Archive;
+use crate::compare::{hex, number, Compare, Trace};
+use crate::random::Random;
+use crate::shape::Shape;
+
+/// The most visits a walk may take here, since some archives look through the log at each.
+const FEW_VISITS: u64 = 150;
+
+/// A log that grows, and what is in it.
+struct Forest {
+    log: Vec<u8>,
+    used: usize,
+    held: Vec<(u8, Score)>,
+    entries: Vec<Vec<u8>>,
+    /// How many more blocks the trees may have.
+    left: usize,
+}
+
+pub fn run(
+    archive: &mut dyn Archive,
+    compare: &mut Compare,
+    random: &mut Random,
+    trace: &mut Trace,
+) -> Result<(), String> {
+    let chained = random.percent(12);
+    let sizes: &[usize] = if chained { &[24, 30] } else { &[8, 16, 24, 40] };
+    let mut forest = Forest {
+        log: vec![0; random.pick(sizes) * SECTOR],
+        used: 0,
+        held: Vec::new(),
+        entries: Vec::new(),
+        left: random.pick(&[6, 12, 25]),
+    };
+    let directory = if chained {
+        forest.chain(random)
+    } else {
+        forest.directory(random, 0)
+    };
+    let root = forest.root(random, &directory);
+    if random.percent(25) {
+        let at = random.below(forest.log.len());
+        forest.log[at] ^= random.mark();
+        trace.note(|| format!("byte {at} changed"));
+    }
+    if random.percent(2) {
+        forest.log.pop();
+    }
+    trace.note(|| {
+        let held: Vec<String> = forest
+            .held
+            .iter()
+            .map(|(kind, score)| format!("{kind}:{}", &hex(score)[..6]))
+            .collect();
+        format!("a log of {} with {}", forest.log.len(), held.join(" "))
+    });
+    for _ in 0..6 {
+        forest.locate(archive, compare, random, trace)?;
+    }
+    for _ in 0..2 {
+        forest.walk(archive, compare, random, trace, &root)?;
+    }
+    Ok(())
+}
+
+impl Forest {
+    /// Stores a block, unless it is one of the holes, and gives its score.
+    fn store(&mut self, random: &mut Random, kind: u8, data: &[u8]) -> Score {
+        let score = sha1(data);
+        let kind = if random.percent(2) {
+            random.pick(&KINDS)
+        } else {
+            kind
+        };
+        let sectors = sectors_for(data.len());
+        let room = self.used + sectors <= self.log.len() / SECTOR;
+        let hole = random.percent(4);
+        if room && !hole && !data.is_empty() && !self.held.contains(&(kind, score)) {
+            write(&mut self.log, self.used, kind, data);
+            self.used += sectors;
+            self.held.push((kind, score));
+        }
+        score
+    }
+
+    /// A score for a block of this type that isn't made now: zero, missing or held.
+    fn cheap(&self, random: &mut Random, kind: u8) -> Score {
+        let same: Vec<Score> = self
+            .held
+            .iter()
+            .filter(|held| held.0 == kind)
+            .map(|held| held.1)
+            .collect();
+        match random.below(24) {
+            0 => random.score(),
+            1 => [0; 20],
+            2..=9 => ZERO_SCORE,
+            10 if !self.held.is_empty() => random.pick(&self.held).1,
+            _ if !same.is_empty() => random.pick(&same),
+            _ => ZERO_SCORE,
+        }
+    }
+
+    /// The top score of a tree.
+    fn tree(&mut self, random: &mut Random, shape: &Shape, level: usize, nest: usize) -> Score {
+        let kind = if level > 0 {
+            2 + level as u8
+        } else if shape.directory {
+            2
+        } else {
+            13
+        };
+        if self.left == 0 || random.percent(25) {
+            return self.cheap(random, kind);
+        }
+        self.left -= 1;
+        if level > 0 {
+            let mut block = Vec::new();
+            for _ in 0..random.between(1, (shape.psize / 20).min(4)) {
+                block.extend(self.tree(random, shape, level - 1, nest));
+            }
+            match random.below(30) {
+                0 => block.extend(random.bytes(7)),
+                1 => block.extend(ZERO_SCORE.repeat(shape.psize / 20)),
+                2..=10 => {}
+                _ => {
+                    while block.ends_with(&ZERO_SCORE) {
+                        block.truncate(block.len() - 20);
+                    }
+                }
+            }
+            return self.store(random, kind, &block);
+        }
+        if shape.directory {
+            return self.directory(random, nest);
+        }
+        let mut size = random.between(0, shape.dsize.min(900));
+        if random.percent(10) {
+            size = random
+                .between(shape.dsize.saturating_sub(1), shape.dsize + 1)
+                .min(900);
+        }
+        let data = random.bytes(size);
+        self.store(random, kind, &data)
+    }
+
+    /// The score of a directory block.
+    fn directory(&mut self, random: &mut Random, nest: usize) -> Score {
+        let mut block = Vec::new();
+        for _ in 0..random.between(1, 3) {
+            block.extend(self.entry(random, nest + 1));
+        }
+        if random.percent(20) {
+            block.truncate(block.len() - random.between(1, 30));
+        }
+        self.store(random, 2, &block)
+    }
+
+    /// An entry with a tree below it.
+    fn entry(&mut self, random: &mut Random, nest: usize) -> Vec<u8> {
+        let directory = nest < 4 && random.percent(40);
+        let shape = Shape {
+            psize: random.pick(&[40, 40, 59, 60, 100, 57_344]),
+            dsize: if directory {
+                random.pick(&[40, 80, 120, 400, 57_320])
+            } else {
+                random.pick(&[1, 7, 40, 402, 403, 404, 807, 1024, 57_344])
+            },
+            directory,
+            depth: random.pick(&[0, 0, 0, 1, 1, 2, 2, 3, 7]),
+        };
+        let score = self.tree(random, &shape, shape.depth, nest);
+        let entry = shape.entry(random, &score);
+        self.entries.push(entry.clone());
+        entry
+    }
+
+    /// Directories nested around the deepest that is allowed.
+    fn chain(&mut self, random: &mut Random) -> Score {
+        let shape = Shape {
+            psize: 40,
+            dsize: 40,
+            directory: true,
+            depth: 0,
+        };
+        let mut inner = self.cheap(random, 13);
+        let mut directory = random.percent(30);
+        for _ in 0..random.between(13, 18) {
+            let shape = Shape { directory, ..shape };
+            let block = shape.bytes(&inner, 40);
+            inner = sha1(&block);
+            if self.used < self.log.len() / SECTOR {
+                write(&mut self.log, self.used, 2, &block);
+                self.held.push((2, inner));
+                self.used += 1;
+            }
+            directory = true;
+        }
+        inner
+    }
+
+    fn root(&mut self, random: &mut Random, directory: &Score) -> Score {
+        let mut root = vec![0, if random.percent(97) { 2 } else { 1 }];
+        root.resize(258, 0);
+        root.extend(directory);
+        match random.below(12) {
+            0 => root.resize(301, 1),
+            1 => root.resize(300, 1),
+            2 => root.truncate(random.between(1, 278)),
+            _ => {}
+        }
+        self.store(random, 1, &root)
+    }
+
+    fn locate(
+        &self,
+        archive: &mut dyn Archive,
+        compare: &mut Compare,
+        random: &mut Random,
+        trace: &mut Trace,
+    ) -> Result<(), String> {
+        let mut entry = match self.entries.len() {
+            0 => random.bytes(40),
+            count => self.entries[random.below(count)].clone(),
+        };
+        if random.percent(3) {
+            entry.push(0);
+        } else if random.percent(3) {
+            entry.truncate(39);
+        }
+        let psize = second::message::number(&entry[4..6]);
+        let dsize = second::message::number(&entry[6..8]).max(1);
+        let size = second::message::number(&entry[14..20]);
+        let offset = match random.below(8) {
+            0 => size as u64,
+            1 => size.saturating_sub(1) as u64,
+            2 => random.number() >> random.below(64),
+            3..=5 => (random.below(10) * dsize + random.below(dsize)) as u64,
+            6 => (random.below(psize.max(1)) * dsize) as u64,
+            _ => random.below(size.max(1)) as u64,
+        };
+        let mut page = vec![0; random.pick(&[1, 7, 403, 1024, 4000])];
+        match random.below(30) {
+            0 => page.clear(),
+            1 => {
+                let at = random.below(page.len());
+                page[at] = random.mark();
+            }
+            _ => {}
+        }
+        trace.note(|| format!("locate {} at {offset}, page of {}", hex(&entry), page.len()));
+        let right = second::tree::locate(&self.log, &page, &entry, offset);
+        let answer = archive.locate(&self.log, &page, &entry, offset);
+        compare.call("locate", number(&right), answer, right)
+    }
+
+    fn walk(
+        &self,
+        archive: &mut dyn Archive,
+        compare: &mut Compare,
+        random: &mut Random,
+        trace: &mut Trace,
+        root: &Score,
+    ) -> Result<(), String> {
+        let score = match random.below(12) {
+            0 => ZERO_SCORE,
+            1 if !self.held.is_empty() => random.pick(&self.held).1,
+            _ => *root,
+        };
+        let mut allowance = match random.below(10) {
+            0 => 0,
+            1 => 1_000_001,
+            2 => random.number(),
+            3..=5 => random.below(20) as u64,
+            _ => 1_000_000,
+        };
+        let bounded = second::walk::walk(&self.log, &score, allowance.min(FEW_VISITS));
+        if bounded.0 == 21 && allowance <= 1_000_000 {
+            allowance = allowance.min(FEW_VISITS);
+        }
+        if random.percent(30) {
+            // Just what the walk needs, or one visit less.
+            allowance = bounded.1.saturating_sub(random.below(2) as u64);
+        }
+        trace.note(|| format!("walk {} with allowance {allowance}", hex(&score)));
+        let right = second::walk::walk(&self.log, &score, allowance);
+        let answer = archive.walk(&self.log, &score, allowance);
+        compare.call("walk", right.0, answer, right)
+    }
+}

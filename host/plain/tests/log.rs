@@ -1,0 +1,66 @@
+//! The log beside the second program's: the same answers and the same bytes.
+
+use plain::log::{read, store, Stored};
+use plain::random::Random;
+use plain::sha1::sha1;
+use second::message::whole;
+use second::request::serve;
+use second::Session;
+
+/// The second program's number and reply.
+fn ask(log: &mut [u8], message: &[u8]) -> (u8, Vec<u8>) {
+    let mut reply = vec![0; 57_348];
+    let (number, _) = serve(Session::Ready, message, log, &mut reply);
+    let size = second::message::number(&reply[..2]) + 2;
+    reply.truncate(size);
+    (number, reply)
+}
+
+#[test]
+fn same_as_second() {
+    let mut random = Random::new(7);
+    let mut below = |limit: usize| (random.number() >> 32) as usize % limit;
+    let mut bytes = Random::new(9);
+    for _ in 0..300 {
+        let mut log = vec![0; below(20) * 512];
+        let mut twin = log.clone();
+        let pool: Vec<Vec<u8>> = (0..5).map(|_| bytes.bytes(below(1300))).collect();
+        for _ in 0..30 {
+            let kind = [1, 2, 13, 13, 9, 12][below(6)];
+            let data = &pool[below(5)];
+            let count = if below(4) == 0 { below(1300) } else { 1300 };
+            match below(8) {
+                0..=2 => {
+                    let message = whole(14, 0, &[&[kind, 0, 0, 0], &data[..]].concat());
+                    let (number, _) = ask(&mut twin, &message);
+                    match store(&mut log, kind, data) {
+                        Stored::New(score) | Stored::Held(score) => {
+                            assert_eq!((number, score), (0, sha1(data)));
+                        }
+                        Stored::Refused(refused) => assert_eq!(number, refused),
+                    }
+                }
+                3 if !log.is_empty() && below(4) == 0 => {
+                    let at = below(log.len());
+                    log[at] ^= 1 << below(8);
+                    twin[at] = log[at];
+                }
+                _ => {
+                    let score = sha1(data);
+                    let end = [kind, 0, (count >> 8) as u8, count as u8];
+                    let (number, reply) =
+                        ask(&mut twin, &whole(12, 0, &[&score[..], &end].concat()));
+                    let mut out = vec![0; count];
+                    match read(&log, kind, &score, &mut out) {
+                        Ok(size) => {
+                            assert_eq!(number, 0);
+                            assert_eq!(out[..size], reply[4..]);
+                        }
+                        Err(refused) => assert_eq!(number, refused),
+                    }
+                }
+            }
+            assert!(log == twin);
+        }
+    }
+}

@@ -1,0 +1,173 @@
+//! The log: sound blocks, the used part, doubtful sectors, look-up and storing.
+
+use crate::kind::lawful;
+use crate::sector::{blank, encode, fits, label, sectors_for, Label, LABEL, PAYLOAD, SECTOR};
+use crate::sha1::{sha1, Score, ZERO_SCORE};
+
+/// The most sectors a log may have.
+pub const MOST_SECTORS: usize = 131_072;
+/// The most bytes a block may have.
+pub const MOST_DATA: usize = 57_344;
+
+/// A block's place in the log and what its label says.
+#[derive(Clone, Copy, Debug, PartialEq, Eq)]
+pub struct Block {
+    pub kind: u8,
+    pub score: Score,
+    /// Its first sector.
+    pub first: usize,
+    /// Its bytes of data.
+    pub size: usize,
+}
+
+impl Block {
+    /// The sectors it takes.
+    pub fn sectors(&self) -> usize {
+        sectors_for(self.size)
+    }
+
+    /// Its data.
+    pub fn data(&self, log: &[u8]) -> Vec<u8> {
+        let mut data = Vec::with_capacity(self.sectors() * PAYLOAD);
+        for part in 0..self.sectors() {
+            data.extend(payload(sector(log, self.first + part)));
+        }
+        data.truncate(self.size);
+        data
+    }
+}
+
+/// Test 3: whole sectors, and not too many.
+pub fn well_sized(log_len: usize) -> bool {
+    log_len.is_multiple_of(SECTOR) && log_len / SECTOR <= MOST_SECTORS
+}
+
+/// A sector by its number.
+pub fn sector(log: &[u8], number: usize) -> &[u8] {
+    &log[number * SECTOR..(number + 1) * SECTOR]
+}
+
+fn payload(sector: &[u8]) -> &[u8] {
+    &sector[LABEL..LABEL + PAYLOAD]
+}
+
+/// The block that starts at a sector and is sound but for its SHA-1, which isn't looked at.
+pub fn shaped_at(log: &[u8], first: usize) -> Option<Block> {
+    let head = label(sector(log, first))?;
+    let size = usize::from(head.size);
+    let block = Block {
+        kind: head.kind,
+        score: head.score,
+        first,
+        size,
+    };
+    let lawful = head.rec as usize == first
+        && (1..=MOST_DATA).contains(&size)
+        && usize::from(head.of) == sectors_for(size)
+        && lawful(head.kind)
+        && first + sectors_for(size) <= log.len() / SECTOR;
+    if !lawful {
+        return None;
+    }
+    for part in 0..head.of {
+        let sector = sector(log, first + usize::from(part));
+        let expected = Label { part, ..head };
+        if label(sector) != Some(expected) || !fits(sector) {
+            return None;
+        }
+        let here = (size - usize::from(part) * PAYLOAD).min(PAYLOAD);
+        if payload(sector)[here..].iter().any(|&byte| byte != 0) {
+            return None;
+        }
+    }
+    Some(block)
+}
+
+/// The sound block that starts at a sector.
+pub fn sound_at(log: &[u8], first: usize) -> Option<Block> {
+    let block = shaped_at(log, first)?;
+    (sha1(&block.data(log)) == block.score).then_some(block)
+}
+
+/// The sectors of the used part.
+pub fn used(log: &[u8]) -> usize {
+    let mut used = log.len() / SECTOR;
+    while used > 0 && blank(sector(log, used - 1)) {
+        used -= 1;
+    }
+    used
+}
+
+/// What a log holds.
+#[derive(Clone, Debug)]
+pub struct Contents {
+    /// The sound blocks, by their place.
+    pub blocks: Vec<Block>,
+    /// The sectors of the used part.
+    pub used: usize,
+    /// How many sectors of the used part are in no sound block.
+    pub doubtful: usize,
+}
+
+/// What a look-up gives.
+#[derive(Clone, Copy, Debug, PartialEq, Eq)]
+pub enum Lookup {
+    /// The empty block, which is always held.
+    Empty,
+    Found(Block),
+    /// Refused: 11 or 12.
+    Missing(u8),
+}
+
+impl Contents {
+    /// Reads the whole log.
+    pub fn of(log: &[u8]) -> Contents {
+        let used = used(log);
+        let mut blocks = Vec::new();
+        let mut covered = vec![false; used];
+        for first in 0..used {
+            if let Some(block) = sound_at(log, first) {
+                covered[first..first + block.sectors()].fill(true);
+                blocks.push(block);
+            }
+        }
+        Contents {
+            blocks,
+            used,
+            doubtful: covered.iter().filter(|&&covered| !covered).count(),
+        }
+    }
+
+    /// Looks up a score and a lawful type.
+    pub fn lookup(&self, kind: u8, score: &Score) -> Lookup {
+        if *score == ZERO_SCORE {
+            return Lookup::Empty;
+        }
+        let found = self
+            .blocks
+            .iter()
+            .find(|block| block.kind == kind && block.score == *score);
+        match found {
+            Some(block) => Lookup::Found(*block),
+            None if self.doubtful > 0 => Lookup::Missing(12),
+            None => Lookup::Missing(11),
+        }
+    }
+}
+
+/// Writes a block's sectors from a sector on. There must be room.
+pub fn write(log: &mut [u8], first: usize, kind: u8, data: &[u8]) {
+    let score = sha1(data);
+    for (part, payload) in data.chunks(PAYLOAD).enumerate() {
+        let label = Label {
+            rec: first as u32,
+            part: part as u16,
+            of: sectors_for(data.len()) as u16,
+            kind,
+            size: data.len() as u16,
+            score,
+        };
+        let start = (first + part) * SECTOR;
+        log[start..start + SECTOR].copy_from_slice(&encode(&label, payload));
+    }
+}

@@ -1,0 +1,100 @@
+//! Walking a tree from its root.
+
+use crate::kind;
+use crate::log::{well_sized, Contents};
+use crate::tree::{active, entry, find, root, Entry, ENTRY, ROOT};
+use crate::Score;
+
+/// The most visits a walk may be allowed.
+pub const MOST_VISITS: u64 = 1_000_000;
+/// The deepest nest of directories.
+pub const MOST_NESTED: u32 = 16;
+
+/// Walks from a root score. Gives the number, 0 for none, and the visits spent.
+pub fn walk(log: &[u8], score: &Score, allowance: u64) -> (u8, u64) {
+    if !well_sized(log.len()) {
+        return (3, 0);
+    }
+    if allowance > MOST_VISITS {
+        return (23, 0);
+    }
+    let mut walk = Walk {
+        log,
+        contents: Contents::of(log),
+        allowance,
+        spent: 0,
+    };
+    let number = match walk.root_and_below(score) {
+        Ok(()) => 0,
+        Err(number) => number,
+    };
+    (number, walk.spent)
+}
+
+struct Walk<'a> {
+    log: &'a [u8],
+    contents: Contents,
+    allowance: u64,
+    spent: u64,
+}
+
+impl Walk<'_> {
+    /// A visit: the data of a block.
+    fn visit(&mut self, kind: u8, score: &Score, count: usize, nest: u32) -> Result<Vec<u8>, u8> {
+        if nest > MOST_NESTED {
+            return Err(20);
+        }
+        if self.spent == self.allowance {
+            return Err(21);
+        }
+        self.spent += 1;
+        Ok(match find(&self.contents, kind, score, count)? {
+            Some(block) => block.data(self.log),
+            None => Vec::new(),
+        })
+    }
+
+    fn root_and_below(&mut self, score: &Score) -> Result<(), u8> {
+        let mut bytes = self.visit(kind::ROOT, score, ROOT, 1)?;
+        bytes.resize(ROOT, 0);
+        let top = root(&bytes)?;
+        let directory = self.visit(kind::DIRECTORY, &top, 57_344, 1)?;
+        self.entries(directory, 1)
+    }
+
+    /// The entries of a directory block that lies at this nest.
+    fn entries(&mut self, mut block: Vec<u8>, nest: u32) -> Result<(), u8> {
+        block.resize(block.len().next_multiple_of(ENTRY), 0);
+        for bytes in block.chunks(ENTRY) {
+            if !active(bytes) {
+                continue;
+            }
+            let entry = entry(bytes)?;
+            let nest = if entry.directory { nest + 1 } else { nest };
+            self.below(&entry, entry.depth, &entry.score, nest)?;
+        }
+        Ok(())
+    }
+
+    /// All that lies below a score of an entry's tree, the score's own block first.
+    fn below(&mut self, entry: &Entry, level: u32, score: &Score, nest: u32) -> Result<(), u8> {
+        if level == 0 {
+            let leaf = self.visit(entry.leaf(), score, entry.dsize, nest)?;
+            return if entry.directory {
+                self.entries(leaf, nest)
+            } else {
+                Ok(())
+            };
+        }
+        let pointers = self.visit(2 + level as u8, score, entry.psize, nest)?;
+        if !pointers.len().is_multiple_of(20) {
+            return Err(18);
+        }
+        for bytes in pointers.chunks(20) {
+            let mut score = [0; 20];
+            score.copy_from_slice(bytes);
+            self.below(entry, level - 1, &score, nest)?;
+        }
+        Ok(())
+    }
+}
