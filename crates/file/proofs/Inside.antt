@@ -11,15 +11,16 @@ use Rattle.kind.specs.Kind.{zeroScore}
 use Rattle.block.specs.Block.{Row, partsOf}
 use Rattle.block.specs.Log.{sectors}
 use Rattle.block.proofs.Cases.{cond-ind}
-use Rattle.log.specs.LookUp.{held, logAllowed}
+use Rattle.log.specs.LookUp.{held}
 use Rattle.log.proofs.Cases.{on-ind}
 use Rattle.entry.specs.declared.Entry.{Entry}
-use Rattle.entry.specs.Entry.{entryOf}
+use Rattle.entry.specs.Entry.{entryOf, scoreOf}
 use Rattle.file.specs.declared.Located.{Located}
 use Rattle.file.specs.declared.Located.the-variants.{Stored, Zeros, Refused}
-use Rattle.file.specs.File.{zeroRun, placeIn, leafRun, fetched, under, pageAllowed, entryReadable, located}
+use Rattle.file.specs.File.{zeroRun, placeIn, leafRun, fetched, under, located}
 use Rattle.file.proofs.Counted.{Place, held-place}
 use Rattle.file.proofs.Places.{parts-over}
+use Rattle.file.proofs.Tests.{located-ind}
 
 -- within a log of l bytes and a page of p
 abbrev pub Inside : ℕ → ℕ → Located → Type 0
@@ -66,14 +67,9 @@ module _ (log : Bytes) (page : ℕ) (e : Entry) (offset : ℕ) where
       (λ r P. cond-ind (Inside (length log) page) (eqb (length (r .bytes) % 20) 0) _ _ (λ _. under-in d _) (λ _. tt)))
 
 pub located-in : (log page b : Bytes) (offset : ℕ) → Inside (length log) (length page) (located log page b offset)
-unfolding located In
+unfolding In
 located-in log page b offset =
-    cond-ind (Inside (length log) (length page)) (logAllowed (length log)) _ _
-    (λ _. cond-ind (Inside (length log) (length page)) (pageAllowed page) _ _
-    (λ _. cond-ind (Inside (length log) (length page)) (entryReadable b) _ _
-    (λ _. cond-ind (Inside (length log) (length page)) (ltb offset ((entryOf b) .size)) _ _
-    (λ _. under-in log (length page) (entryOf b) offset ((entryOf b) .depth) _)
-    (λ _. tt)) (λ _. tt)) (λ _. tt)) (λ _. tt)
+    located-ind log page b offset (Inside (length log) (length page)) (λ w. tt) (under-in log (length page) (entryOf b) offset ((entryOf b) .depth) (scoreOf b))
 
 module _ (log page b : Bytes) (offset : ℕ) (w : Located) (e : w ≡ located log page b offset) where
   pub stored-in : (at n : ℕ) → w ≡ Stored at n → at + n ≤ length log

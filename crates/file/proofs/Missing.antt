@@ -3,23 +3,24 @@ use mathlib.Core.Path.{_≡_, refl}
 use mathlib.Core.Bool.{Bool, true, false, cond, true≢false}
 use mathlib.Core.Option.{Option, none, some}
 use Prim.Native.Nat.{ℕ, zero, suc, _+_, _%_}
-use lib.Dec.{leb, ltb, eqb}
+use lib.Dec.{leb, eqb}
 use lib.ListN.{length}
 use Rattle.buffer.specs.Bytes.{Bytes, same}
 use Rattle.kind.specs.Kind.{zeroScore}
 use Rattle.refusal.specs.declared.Refusal.{Refusal}
 use Rattle.refusal.specs.declared.Refusal.the-variants as why
 use Rattle.block.specs.Block.{Row}
-use Rattle.log.specs.LookUp.{on, held, absence, logAllowed}
+use Rattle.log.specs.LookUp.{on, held, absence}
 use Rattle.entry.specs.declared.Entry.{Entry}
 use Rattle.entry.specs.Entry.{entryOf, scoreOf}
 use Rattle.file.specs.declared.Located.{Located}
 use Rattle.file.specs.declared.Located.the-variants.{Refused}
-use Rattle.file.specs.File.{zeroRun, leafRun, fetched, pointer, pointerIndex, leafType, under, pageAllowed, entryReadable, located}
+use Rattle.file.specs.File.{zeroRun, leafRun, fetched, pointer, pointerIndex, leafType, under, test, located}
 use Rattle.file.specs.Path.{Whole, Answers}
+use Rattle.file.proofs.Tests.{located-ind}
 
 -- a test that answers was passed
-passed : (b : Bool) (x : Located) (w : Refusal) → Answers (cond b x (Refused w)) → Answers x
+passed : (b : Bool) (x : Located) (w : Refusal) → Answers (test b w x) → Answers x
 passed true x w a = a
 passed false x w a = absurd a
 
@@ -49,8 +50,6 @@ under-whole log page e offset (suc d) s a =
 
 pub read-whole : (log page b : Bytes) (offset : ℕ) → Answers (located log page b offset)
     → Whole log (entryOf b) offset ((entryOf b) .depth) (scoreOf b)
-unfolding located
-read-whole log page b offset a =
-    under-whole log (length page) (entryOf b) offset ((entryOf b) .depth) (scoreOf b)
-    (passed (ltb offset ((entryOf b) .size)) _ why.Offset
-    (passed (entryReadable b) _ why.Entry (passed (pageAllowed page) _ why.Page (passed (logAllowed (length log)) _ why.LogLength a))))
+read-whole log page b offset =
+    located-ind log page b offset (λ (x : Located). Answers x → Whole log (entryOf b) offset ((entryOf b) .depth) (scoreOf b)) (λ w a. absurd a)
+    (under-whole log (length page) (entryOf b) offset ((entryOf b) .depth) (scoreOf b))

@@ -3,19 +3,21 @@ use mathlib.Core.Path.{_≡_, refl, sym, ap, _∙_}
 use mathlib.Core.Bool.{Bool, true, false, _&&_}
 use Prim.Native.Nat.{ℕ, _/_, _≤_, _<_}
 use native.Mathlib.Omega.{arith}
-use lib.Dec.{leb, eqb}
+use lib.Dec.{leb, ltb, eqb}
 use borrow.Author.Tests.{lt-ltb, le-ltb, eq-eqb, ne-eqb, leb-true, eqb-true}
 use lib.ListN.{length, take, drop}
 use lib.Seq.{take-all}
 use Rattle.buffer.specs.Bytes.{Bytes, zeros}
 use Rattle.buffer.proofs.Bytes.{and-true}
+use Rattle.refusal.specs.declared.Refusal.{Refusal}
 use Rattle.refusal.specs.declared.Refusal.the-variants as why
 use Rattle.log.specs.LookUp.{logAllowed}
 use Rattle.lookup.proofs.Laws.{allowed-sectors}
 use Rattle.entry.specs.declared.Entry.{Entry}
 use Rattle.entry.specs.Entry.{entryOf, wellFormed, scoreOf}
+use Rattle.file.specs.declared.Located.{Located}
 use Rattle.file.specs.declared.Located.the-variants.{Refused}
-use Rattle.file.specs.File.{pageAllowed, entryReadable, under, located}
+use Rattle.file.specs.File.{pageAllowed, entryReadable, under, test, located}
 use Rattle.file.specs.Fetch.{Open}
 
 -- ---- the page
@@ -105,3 +107,15 @@ module _ (log page b : Bytes) (offset : ℕ) (a : Bool) (ea : a ≡ logAllowed (
         pub goes-down : offset < e .size → under log (length page) e offset (e .depth) (scoreOf b) ≡ located log page b offset
         unfolding located
         goes-down h = rw (sym ea ∙ ta, sym eg ∙ tg, sym er ∙ tr, ← ee, lt-ltb offset (e .size) h)
+
+-- what holds of every refusal, and of what the tree gives, holds of the answer
+module _ (log page b : Bytes) (offset : ℕ) (P : Located → Type 0) (refused : (w : Refusal) → P (Refused w)) where
+  test-ind : (t : Bool) (w : Refusal) (x : Located) → P x → P (test t w x)
+  test-ind true w x h = h
+  test-ind false w x h = refused w
+
+  pub located-ind : P (under log (length page) (entryOf b) offset ((entryOf b) .depth) (scoreOf b)) → P (located log page b offset)
+  unfolding located
+  located-ind h =
+      test-ind (logAllowed (length log)) why.LogLength _
+      (test-ind (pageAllowed page) why.Page _ (test-ind (entryReadable b) why.Entry _ (test-ind (ltb offset ((entryOf b) .size)) why.Offset _ h)))

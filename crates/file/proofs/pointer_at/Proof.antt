@@ -24,7 +24,7 @@ zero-score-requires c κs = search needs
 returns : tie.Need-returns Inv-loop μ-loop
 returns c =
     let a = c .before .before .before .args in
-    c .zero-score .ensures ∙ pointer-past (a .log .now) (a .first .0) (a .size) (a .index) (c .before .if1 .taken)
+    c .zero-score .ensures ∙ pointer-past (a .log .now) (a .first .0) (a .size) (a .index) (omega arith)
 
 loop-holds : tie.Need-loop-holds Inv-loop μ-loop
 loop-holds c = (omega arith, refl, refl)
@@ -64,7 +64,7 @@ returns-2 : tie.Need-returns-2 Inv-loop μ-loop
 returns-2 c =
     let a = c .before .before .before .before .args in
     let l = c .before .loop in
-    pointer-end (a .log .now) (a .first .0) (a .size) (a .index) (l .score) (l .k) (c .before .before .if1 .left) (l .inv .1) (c .loop-test .left) (l .inv .0) (l .inv .2)
+    pointer-end (a .log .now) (a .first .0) (a .size) (a .index) (l .score) (l .k) (omega arith) (l .inv .1) (c .loop-test .left) (l .inv .0) (l .inv .2)
 
 pub pointer-at-spec : {M : Type 1} → statement M
 pointer-at-spec =
