@@ -1,6 +1,7 @@
 /* The functions of target/staticlib/libboundary.a, which `rt staticlib boundary` writes.
-   crates/boundary/src/lib.rt has their contracts. A slice is a pointer to its bytes, not null,
-   and their count. Slices of one call do not overlap, unless both are only read. */
+   crates/boundary/src has their contracts. A slice is a pointer to its bytes, not null, and their
+   count. Slices of one call do not overlap, unless both are only read. "Number" is the number of a
+   refusal, 1 to 23, or 0 for none. No call has a precondition besides. */
 #ifndef SKYWIMPLE_H
 #define SKYWIMPLE_H
 
@@ -18,11 +19,40 @@ uint32_t skywimple_crc32(const uint8_t *s, size_t s_len);
    Where out is shorter it writes nothing and returns 2. */
 uint32_t skywimple_sha1(const uint8_t *s, size_t s_len, uint8_t *out, size_t out_len);
 
-/* Answers one request. session: 0 fresh, 1 greeted, anything else closed. The result is the number
-   of the refusal, 0 for none, and 256 times the session afterwards. A reply stands at the front of
-   reply, which needs 57,348 bytes; a stored block is appended in log. */
+/* Answers one request. session: 0 fresh, 1 greeted, anything else closed. The result is the number,
+   and 256 times the session afterwards. A reply stands at the front of reply, which needs 57,348
+   bytes; a stored block is appended in log. */
 uint32_t skywimple_serve(uint8_t session, const uint8_t *message, size_t message_len,
                          uint8_t *log, size_t log_len, uint8_t *reply, size_t reply_len);
+
+/* Writes the report of log to the front of buffer, which needs 128 bytes. The result is the number,
+   and 256 times the length of the text. */
+uint32_t skywimple_report(const uint8_t *log, size_t log_len, uint8_t *buffer, size_t buffer_len);
+
+/* The sound block that starts at a sector: the number (3 for a log that is not allowed), and 256
+   times the block's size in bytes, 0 where none starts. */
+uint32_t skywimple_sound_at(const uint8_t *log, size_t log_len, size_t sector);
+
+/* The length of a block without the zeros at its end (for pointer types, zero scores). A refusal is
+   block_len plus its number; an answer is at most block_len. */
+size_t skywimple_cut(uint8_t kind, const uint8_t *block, size_t block_len);
+
+/* Pads the block of block_len bytes at the front of buffer to target bytes; returns the number. */
+uint32_t skywimple_pad(uint8_t kind, uint8_t *buffer, size_t buffer_len, size_t block_len,
+                       size_t target);
+
+/* Where the bytes of a file at an offset lie, as one run. entry has 40 bytes; page is zeros. From
+   the lowest bit on, the result is: the number (8 bits), whether the run lies in page (1) or in log
+   (0), its length (16 bits), and the byte of log where it starts; a run in page starts at its front. */
+uint64_t skywimple_locate(const uint8_t *log, size_t log_len, const uint8_t *page, size_t page_len,
+                          const uint8_t *entry, size_t entry_len, uint64_t offset);
+
+/* Walks from a root's score, 20 bytes. The result is the number, and 256 times the visits spent. */
+uint64_t skywimple_walk(const uint8_t *log, size_t log_len, const uint8_t score[20],
+                        uint64_t allowance);
+
+/* The block type of a number of the enumeration: the number 9 for none, else 256 times the type. */
+uint32_t skywimple_block_type(uint64_t number);
 
 #ifdef __cplusplus
 }

@@ -1,5 +1,9 @@
-// The functions that other languages call: numbers and byte slices only, and none with a `requires`.
-// A slice is a pointer and a length. `host/include/skywimple.h` declares them for C.
+// The functions that other languages call: numbers and bytes only, and none with a `requires`.
+// A slice is a pointer and a length, an array a pointer. `host/include/skywimple.h` declares them for C.
+pub mod blocks;
+pub mod survey;
+pub mod tree;
+
 use archive::Session;
 ghost use mathlib.Core.Path.{_≡_};
 ghost use Rattle.crc32.specs.Crc32.{crc32Of};

@@ -1,6 +1,6 @@
 -- The checked examples of cutting, proved of the definitions.
 use mathlib.Core.Path.{_≡_, refl, sym, ap, _∙_}
-use mathlib.Core.List.{[], _∷_, _++_}
+use mathlib.Core.List.{[], _++_}
 use Prim.Native.Nat.{ℕ}
 use native.Mathlib.Omega.{arith}
 use native.Mathlib.Nat.{mod-one}
@@ -9,6 +9,7 @@ use Rattle.buffer.specs.Bytes.{Bytes}
 use Rattle.kind.specs.Kind.{lawful, isPointer, zeroScore}
 use Rattle.kind.proofs.ZeroScore.{zero-score-bytes}
 use Rattle.cut.specs.Cut.{zeroByte, unitOf, kept, cutLength, whole, cutOf}
+use Rattle.cut.specs.Examples.{hello}
 use Rattle.cut.specs.declared.Kept.the-variants.{Length}
 use Rattle.cut.proofs.Units.{repeat-zeros}
 use Rattle.cut.proofs.Cases.{unit-other, whole-bytes, cut-done}
@@ -23,10 +24,6 @@ zeros-after b j =
     (ap (λ (u : Bytes). cutLength u (b ++ replicate j 0)) (unit-other 13 refl)
     ∙ ap (λ (x : Bytes). cutLength zeroByte (b ++ x)) (sym (repeat-zeros j))
     ∙ cut-appended zeroByte b j (omega arith) (mod-one (length b)))
-
--- `hello world`
-abbrev pub hello : Bytes
-hello = 104 ∷ 101 ∷ 108 ∷ 108 ∷ 111 ∷ 32 ∷ 119 ∷ 111 ∷ 114 ∷ 108 ∷ 100 ∷ []
 
 -- "`hello world` and 1,013 zeros cut to 11 bytes"
 pub hello-world : cutOf 13 (hello ++ replicate 1013 0) ≡ Length 11

@@ -1,3 +1,4 @@
 -- What the clauses of `cut` cite.
 pub mod Cut
 pub mod Pad
+pub mod Examples

@@ -1,17 +1,9 @@
 -- The checked example of an entry, proved of the definitions, and one in which 64 bits don't hold the product.
 use mathlib.Core.Path.{_≡_, refl}
 use mathlib.Core.Bool.{true, false}
-use mathlib.Core.List.{_∷_, _++_}
-use Prim.Native.Nat.{ℕ, _+_, _*_}
-use lib.ListN.{replicate}
-use Rattle.buffer.specs.Bytes.{Bytes}
-use Rattle.word.specs.Number.{digits, valueFrom, beBytes}
+use Rattle.word.specs.Number.{digits, valueFrom}
 use Rattle.entry.specs.Entry.{entryOf, wellFormed, entryAllowed}
-
--- an active data entry
-abbrev pub entryBytes : ℕ → ℕ → ℕ → ℕ → Bytes
-entryBytes psize dsize depth size =
-    replicate 4 0 ++ (beBytes 2 psize ++ (beBytes 2 dsize ++ (((1 + 4 * depth) ∷ replicate 5 0) ++ (beBytes 6 size ++ replicate 20 0))))
+use Rattle.entry.specs.Examples.{entryBytes}
 
 -- "p 3, dsize 1,024, depth 1: size 3,072 passes, 3,073 is 16"; psize 60 and 79 both make p 3
 pub passes : entryAllowed (entryBytes 60 1024 1 3072) ≡ true

@@ -1,3 +1,4 @@
 -- What the clauses of `entry` cite.
 pub mod Entry
 pub mod Root
+pub mod Examples

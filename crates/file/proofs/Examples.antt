@@ -13,7 +13,7 @@ use Rattle.block.specs.Block.{Row}
 use Rattle.log.specs.LookUp.{held}
 use Rattle.entry.specs.declared.Entry.{Entry}
 use Rattle.entry.specs.Entry.{entryOf}
-use Rattle.entry.proofs.Examples.{entryBytes}
+use Rattle.entry.specs.Examples.{entryBytes}
 use Rattle.file.specs.File.{pointer, pointerIndex, leafRun, under}
 
 -- the entry: psize 60, which makes p 3, dsize 1,024, depth 2, size 9,216

@@ -6,3 +6,6 @@ pub mod Inside
 pub mod Examples
 pub mod Missing
 pub mod Stored
+pub mod Runs
+pub mod Again
+pub mod Laid

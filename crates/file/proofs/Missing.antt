@@ -20,23 +20,28 @@ use Rattle.file.specs.Path.{Whole, Answers}
 use Rattle.file.proofs.Tests.{located-ind}
 
 -- a test that answers was passed
-passed : (b : Bool) (x : Located) (w : Refusal) → Answers (test b w x) → Answers x
+pub tested : (b : Bool) (x : Located) (w : Refusal) → Answers (test b w x) → b ≡ true
+tested true x w a = refl
+tested false x w a = absurd a
+
+pub passed : (b : Bool) (x : Located) (w : Refusal) → Answers (test b w x) → Answers x
 passed true x w a = a
 passed false x w a = absurd a
 
 -- a score that isn't zero is looked up
-looked : (b : Bool) (x y : Located) → b ≡ false → Answers (cond b x y) → Answers y
+pub looked : (b : Bool) (x y : Located) → b ≡ false → Answers (cond b x y) → Answers y
 looked true x y q a = absurd (true≢false q)
 looked false x y q a = a
 
--- a look-up that answers found a block
-held-if : (log : Bytes) (t : ℕ) (s : Bytes) (count : ℕ) (f : Row → Located) → Answers (fetched log t s count f) → (r : Row) × (held log t s ≡ some r) × Answers (f r)
+-- a look-up that answers found a block, not longer than the count
+pub held-if : (log : Bytes) (t : ℕ) (s : Bytes) (count : ℕ) (f : Row → Located) → Answers (fetched log t s count f)
+    → (r : Row) × (held log t s ≡ some r) × Answers (f r) × (leb (length (r .bytes)) count ≡ true)
 held-if log t s count f a = go (held log t s) refl a
   where
     go : (o : Option Row) → held log t s ≡ o → Answers (on o (Refused (absence log)) (λ (r : Row). cond (leb (length (r .bytes)) count) (f r) (Refused why.OverCount)))
-        → (r : Row) × (held log t s ≡ some r) × Answers (f r)
+        → (r : Row) × (held log t s ≡ some r) × Answers (f r) × (leb (length (r .bytes)) count ≡ true)
     go none q x = absurd x
-    go (some r) q x = (r, q, passed (leb (length (r .bytes)) count) (f r) why.OverCount x)
+    go (some r) q x = (r, q, passed (leb (length (r .bytes)) count) (f r) why.OverCount x, tested (leb (length (r .bytes)) count) (f r) why.OverCount x)
 
 pub under-whole : (log : Bytes) (page : ℕ) (e : Entry) (offset level : ℕ) (s : Bytes) → Answers (under log page e offset level s) → Whole log e offset level s
 unfolding under Whole

@@ -3,3 +3,4 @@ pub mod File
 pub mod Fetch
 pub mod Run
 pub mod Path
+pub mod Bytes

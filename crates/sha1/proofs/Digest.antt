@@ -4,8 +4,9 @@ use mathlib.Core.List.{List, [], _∷_, _++_}
 use Prim.Native.Nat.{ℕ, zero, suc, _+_, _/_, _%_, _<_}
 use native.Mathlib.Omega.{arith}
 use lib.ListN.{length, getD}
-use Rattle.sha1.specs.declared.Hash.{Hash}
-use Rattle.sha1.specs.Sha1.{wordsOf, snocWord, scheduleOf, roundOf, roundsOf, addHash, compressOf, hashOf, beBytes, padOf, padded, digestOf, sha1Of}
+use Rattle.sha1_block.specs.declared.Hash.{Hash}
+use Rattle.sha1_block.specs.Block.{wordsOf, snocWord, scheduleOf, roundOf, roundsOf, addHash, compressOf}
+use Rattle.sha1.specs.Sha1.{hashOf, beBytes, padOf, padded, digestOf, sha1Of}
 
 -- the score of no bytes, da39a3ee5e6b4b0d3255bfef95601890afd80709
 pub empty : sha1Of [] ≡ 0xda ∷ 0x39 ∷ 0xa3 ∷ 0xee ∷ 0x5e ∷ 0x6b ∷ 0x4b ∷ 0x0d ∷ 0x32 ∷ 0x55 ∷ 0xbf ∷ 0xef ∷ 0x95 ∷ 0x60 ∷ 0x18 ∷ 0x90 ∷ 0xaf ∷ 0xd8 ∷ 0x07 ∷ 0x09 ∷ []

@@ -7,9 +7,10 @@ use native.Mathlib.Numerals.{add-one}
 use native.Mathlib.Omega.{arith}
 use lib.ListN.{length, take, drop, set, getD, length-append, length-take, length-drop, drop-of-length-le}
 use lib.Seq.{take-suc-set, take-suc, drop-append-le, take-append-le, take-all, take-add, drop-at}
-use Rattle.sha1.specs.declared.Hash.{Hash}
+use Rattle.sha1_block.specs.declared.Hash.{Hash}
+use Rattle.sha1_block.specs.Block.{compressOf}
 use Rattle.sha1.specs.declared.Stream.{Stream}
-use Rattle.sha1.specs.Sha1.{hashOf, compressOf}
+use Rattle.sha1.specs.Sha1.{hashOf}
 use Rattle.sha1.specs.Stream.{Fed, Holds}
 
 -- the whole blocks of m are those of m ++ x

@@ -1,7 +1,4 @@
 -- The laws that the functions' proofs cite. `Digest` is for the crates above, too.
-pub mod Choose
-pub mod Tops
-pub mod Sched
 pub mod Feed
 pub mod Pad
 pub mod Digest

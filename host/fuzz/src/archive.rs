@@ -32,6 +32,9 @@ pub trait Archive {
     /// The wire type of a number of the enumeration, or the number 9.
     fn wire_type(&mut self, number: u64) -> Result<u8, u8>;
 
+    /// The size of the sound block that starts at a sector, 0 for none, or the number.
+    fn sound_at(&mut self, log: &[u8], sector: usize) -> Result<usize, u8>;
+
     fn sha1(&mut self, bytes: &[u8]) -> Score;
 
     fn crc32(&mut self, bytes: &[u8]) -> u32;
@@ -73,6 +76,10 @@ impl Archive for Second {
 
     fn wire_type(&mut self, number: u64) -> Result<u8, u8> {
         second::kind::wire_type(number)
+    }
+
+    fn sound_at(&mut self, log: &[u8], sector: usize) -> Result<usize, u8> {
+        second::log::asked_at(log, sector)
     }
 
     fn sha1(&mut self, bytes: &[u8]) -> Score {

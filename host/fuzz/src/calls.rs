@@ -45,7 +45,13 @@ pub fn run(
     let right = second::report::report(&log, &mut second);
     let answer = archive.report(&log, &mut tested);
     compare.call("report", number(&right), answer, right)?;
-    buffer("the report's buffer", &tested, &second)
+    buffer("the report's buffer", &tested, &second)?;
+
+    let sector = random.pick(&[0, 1, 2, usize::MAX]);
+    trace.note(|| format!("the sound block at sector {sector} of {}", log.len()));
+    let right = second::log::asked_at(&log, sector);
+    let answer = archive.sound_at(&log, sector);
+    compare.call("sound_at", number(&right), answer, right)
 }
 
 fn cut_and_pad(

@@ -45,6 +45,13 @@ pub fn run(
         let answer = archive.locate(&tested, &page, &entry, offset);
         compare.call("locate", number(&right), answer, right)?;
     }
+    for _ in 0..3 {
+        let sector = random.below(tested.len() / SECTOR + 1);
+        trace.note(|| format!("the sound block at sector {sector}"));
+        let right = second::log::asked_at(&tested, sector);
+        let answer = archive.sound_at(&tested, sector);
+        compare.call("sound_at", number(&right), answer, right)?;
+    }
     report(archive, compare, &tested, trace)
 }
 

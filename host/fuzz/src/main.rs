@@ -16,11 +16,14 @@ mod calls;
 mod collision;
 mod compare;
 mod damage;
+#[cfg(test)]
+mod examples;
 mod history;
 mod hostile;
 mod large;
 mod messages;
 mod plain_log;
+mod progress;
 mod random;
 mod sham_tools;
 mod sham_trees;
@@ -35,6 +38,7 @@ use std::time::{Duration, Instant};
 
 use archive::Archive;
 use compare::{Compare, Trace};
+use progress::Progress;
 use random::Random;
 use shams::{Broken, Sham};
 
@@ -165,7 +169,9 @@ fn cases(
     let start = Instant::now();
     let first = options.case.unwrap_or(0);
     let last = options.case.map_or(options.cases, |case| case + 1);
+    let mut progress = Progress::new();
     for number in first..last {
+        progress.show(number - first, last - first);
         if start.elapsed() >= Duration::from_secs(options.seconds) {
             return (number - first, None);
         }

@@ -61,6 +61,10 @@ impl Archive for PlainLog {
         Second.wire_type(number)
     }
 
+    fn sound_at(&mut self, log: &[u8], sector: usize) -> Result<usize, u8> {
+        Second.sound_at(log, sector)
+    }
+
     fn sha1(&mut self, bytes: &[u8]) -> Score {
         plain::sha1::sha1(bytes)
     }

@@ -281,6 +281,10 @@ impl Archive for Sham {
         Second.wire_type(number)
     }
 
+    fn sound_at(&mut self, log: &[u8], sector: usize) -> Result<usize, u8> {
+        Second.sound_at(log, sector)
+    }
+
     fn sha1(&mut self, bytes: &[u8]) -> Score {
         Second.sha1(bytes)
     }

@@ -1,10 +1,7 @@
 //! The archive under test: the proved library, by the crate `skywimple-archive`.
-//!
-//! Requests, SHA-1 and CRC-32 are the proved library's. The calls that it does not export yet are
-//! the second program's own, so what the run says of those compares nothing.
 
-use crate::archive::{Archive, Second};
-use second::tree::Run;
+use crate::archive::Archive;
+use second::tree::{Place, Run};
 use second::{Score, Session};
 use skywimple_archive as proved;
 
@@ -37,27 +34,42 @@ impl Archive for Proved {
     }
 
     fn report(&mut self, log: &[u8], buffer: &mut [u8]) -> Result<usize, u8> {
-        Second.report(log, buffer)
+        proved::report(log, buffer)
     }
 
     fn cut(&mut self, kind: u8, block: &[u8]) -> Result<usize, u8> {
-        Second.cut(kind, block)
+        proved::cut(kind, block)
     }
 
     fn pad(&mut self, kind: u8, buffer: &mut [u8], block_len: usize, target: usize) -> u8 {
-        Second.pad(kind, buffer, block_len, target)
+        proved::pad(kind, buffer, block_len, target)
     }
 
     fn locate(&mut self, log: &[u8], page: &[u8], entry: &[u8], offset: u64) -> Result<Run, u8> {
-        Second.locate(log, page, entry, offset)
+        Ok(match proved::locate(log, page, entry, offset)? {
+            proved::Run::Log { at, length } => Run {
+                place: Place::Log,
+                start: at,
+                len: length,
+            },
+            proved::Run::Page { length } => Run {
+                place: Place::Page,
+                start: 0,
+                len: length,
+            },
+        })
     }
 
     fn walk(&mut self, log: &[u8], score: &Score, allowance: u64) -> (u8, u64) {
-        Second.walk(log, score, allowance)
+        proved::walk(log, score, allowance)
     }
 
     fn wire_type(&mut self, number: u64) -> Result<u8, u8> {
-        Second.wire_type(number)
+        proved::block_type(number)
+    }
+
+    fn sound_at(&mut self, log: &[u8], sector: usize) -> Result<usize, u8> {
+        proved::sound_at(log, sector)
     }
 
     fn sha1(&mut self, bytes: &[u8]) -> Score {

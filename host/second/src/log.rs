@@ -89,6 +89,17 @@ pub fn sound_at(log: &[u8], first: usize) -> Option<Block> {
     (sha1(&block.data(log)) == block.score).then_some(block)
 }
 
+/// The size of the sound block that starts at a sector of any log, 0 where none does.
+pub fn asked_at(log: &[u8], first: usize) -> Result<usize, u8> {
+    if !well_sized(log.len()) {
+        return Err(3);
+    }
+    if first >= log.len() / SECTOR {
+        return Ok(0);
+    }
+    Ok(sound_at(log, first).map_or(0, |block| block.size))
+}
+
 /// The sectors of the used part.
 pub fn used(log: &[u8]) -> usize {
     let mut used = log.len() / SECTOR;

@@ -1,0 +1,78 @@
+-- A report's outcome and a sound block's size in numbers: both are small, and each case of the calls.
+use mathlib.Core.Path.{_≡_, refl, sym, ap, _∙_}
+use mathlib.Core.Bool.{Bool, true, false}
+use mathlib.Core.List.{[], _∷_}
+use mathlib.Core.Option.{Option, none, some}
+use Prim.Native.Nat.{ℕ, _+_, _*_, _/_, _≤_}
+use native.Mathlib.Omega.{arith}
+use lib.Dec.{ltb}
+use lib.ListN.{length, replicate, length-append}
+use Rattle.buffer.specs.Bytes.{Bytes}
+use Rattle.refusal.specs.Number.{numberOf}
+use Rattle.refusal.specs.declared.Refusal.the-variants.{LogLength}
+use Rattle.sector.specs.Sector.{line, lines}
+use Rattle.block.specs.Block.{Row}
+use Rattle.block.specs.Log.{used, sound}
+use Rattle.block.proofs.Apart.{none-past}
+use Rattle.block.proofs.Cases.{cond-ind}
+use Rattle.block.proofs.Facts.{valid-facts}
+use Rattle.block.proofs.Sound.{sound-reads}
+use Rattle.block.proofs.Used.{used-le-sectors}
+use Rattle.log.specs.LookUp.{logAllowed}
+use Rattle.reader.specs.Reader.{sizeOf}
+use Rattle.report.specs.declared.Reported.{Reported}
+use Rattle.report.specs.Report.{sectorsName, usedName, recordsName, doubtfulName, verdictName, decimal, verdict, surveyOf, textOf, reportText, Outcome, outcome, reportOf}
+use Rattle.report.proofs.Laws.{verdict-length, line-short, report-room}
+use Rattle.boundary.specs.Survey.{reportNumber, textLength, reported, reportResult, soundResult}
+
+-- ---- the report
+
+five-length : (a b c d e : Bytes) → length (lines (a ∷ b ∷ c ∷ d ∷ e ∷ [])) ≡ length a + (length b + (length c + (length d + (length e + 0))))
+five-length a b c d e = simp length-append
+
+text-short : (log : Bytes) → logAllowed (length log) ≡ true → length (reportText log) ≤ 128
+unfolding reportText textOf
+text-short log q =
+    let s = surveyOf log in
+    let h = report-room log (replicate 128 0) (omega arith) true (sym q) (used log) s refl refl refl in
+    let a = line-short sectorsName (length log / 512) (h .1) in
+    let b = line-short usedName (used log) (h .2) in
+    let c = line-short recordsName (s .records) (h .3) in
+    let d = line-short doubtfulName (s .doubtful) (h .4) in
+    let e = verdict-length (s .doubtful) in
+    omega (arith, five-length (line sectorsName (decimal (length log / 512))) (line usedName (decimal (used log))) (line recordsName (decimal (s .records))) (line doubtfulName (decimal (s .doubtful))) (line verdictName (verdict (s .doubtful))))
+
+told-short : (log b : Bytes) → textLength (reportOf log b .answer) ≤ 128
+unfolding reportOf
+told-short log b =
+    cond-ind (λ (o : Outcome). textLength (o .answer) ≤ 128) (ltb (length b) 128) _ _ (λ _. omega arith)
+    (λ _. cond-ind (λ (o : Outcome). textLength (o .answer) ≤ 128) (logAllowed (length log)) _ _ (λ q. text-short log q) (λ _. omega arith))
+
+pub report-short : (log b e : Bytes) (r : Reported) → outcome r e ≡ reportOf log b → textLength r ≤ 128
+report-short log b e r q = rw (ap (λ (o : Outcome). o .answer) q) (told-short log b)
+
+pub reported-so : (r : Reported) (b : Bytes) (o : Outcome) (k : ℕ) → outcome r b ≡ o → k ≡ reportNumber r → reported k b ≡ reportResult o
+reported-so r b o k e f = ap (λ (x : ℕ). reported x b) f ∙ ap reportResult e
+
+-- ---- the sound block at a sector
+
+pub sound-short : (log : Bytes) (n k : ℕ) → k ≡ sizeOf (sound log n) → k ≤ 57344
+sound-short log n k e = go (sound log n) refl e
+  where
+    go : (o : Option Row) → sound log n ≡ o → k ≡ sizeOf o → k ≤ 57344
+    go none q z = omega arith
+    go (some r) q z = omega (arith, (valid-facts r ((sound-reads log n r q) .0)) .not-many)
+
+module _ (log : Bytes) (n : ℕ) (a : Bool) (e : a ≡ logAllowed (length log)) where
+  pub sound-barred : a ≡ false → (k : ℕ) → k ≡ numberOf LogLength → k ≡ soundResult log n
+  unfolding soundResult
+  sound-barred q k z = rw (sym e ∙ q) z
+
+  module _ (q : a ≡ true) where
+    pub sound-past : length log / 512 ≤ n → 0 ≡ soundResult log n
+    unfolding soundResult
+    sound-past h = rw (sym e ∙ q, none-past log n (omega (arith, used-le-sectors log))) refl
+
+    pub sound-sized : (k : ℕ) → k ≡ sizeOf (sound log n) → 256 * k ≡ soundResult log n
+    unfolding soundResult
+    sound-sized k z = rw (sym e ∙ q) (ap (λ (x : ℕ). 256 * x) z)

@@ -1,0 +1,21 @@
+-- `boundary::survey::skywimple_report` meets its contract.
+use Rattle.boundary.proofs.SurveyLaws.{report-short, reported-so}
+use borrow.Author.Needs.{needs}
+use Rattle.boundary.proofs.survey.skywimple_report.Statement.{statement}
+use Rattle.boundary.proofs.survey.skywimple_report.Tie as tie
+
+report-requires : tie.Need-report-requires
+report-requires c κs = search needs
+
+report-number-requires : tie.Need-report-number-requires
+report-number-requires c κs = report-short _ _ _ (c .before .before .report .result) (c .before .before .report .ensures)
+
+same-length : tie.Need-same-length
+same-length c = search needs
+
+returns : tie.Need-returns
+returns c = reported-so (c .before .before .before .report .result) _ _ (c .report-number .result) (c .before .before .before .report .ensures) (c .report-number .ensures)
+
+pub skywimple-report-spec : {M : Type 1} → statement M
+skywimple-report-spec =
+    tie.close (tie.spec report-requires report-number-requires same-length returns)

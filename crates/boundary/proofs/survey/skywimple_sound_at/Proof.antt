@@ -1,0 +1,49 @@
+-- `boundary::survey::skywimple_sound_at` meets its contract, by a law for each of its three returns.
+use native.Mathlib.Omega.{arith}
+use borrow.Author.Tests.{not-true, not-false}
+use Rattle.lookup.proofs.Laws.{allowed-sectors}
+use Rattle.boundary.proofs.SurveyLaws.{sound-short, sound-barred, sound-past, sound-sized}
+use borrow.Author.Needs.{needs}
+use Rattle.boundary.proofs.survey.skywimple_sound_at.Statement.{statement}
+use Rattle.boundary.proofs.survey.skywimple_sound_at.Tie as tie
+
+is-allowed-requires : tie.Need-is-allowed-requires
+is-allowed-requires c κs = search needs
+
+number-requires : tie.Need-number-requires
+number-requires c κs = search needs
+
+cast-result : tie.Need-cast-result
+cast-result c = search needs
+
+returns : tie.Need-returns
+returns c = let s = c .before .before .before .before in sound-barred (s .args .log .now) (s .args .n) _ (c .before .before .is-allowed .ensures) (not-true _ (c .before .if1 .taken)) _ (c .number .ensures)
+
+returns-2 : tie.Need-returns-2
+returns-2 c = let s = c .before .before .before .before in sound-past (s .args .log .now) (s .args .n) _ (c .before .before .is-allowed .ensures) (not-false _ (c .before .if1 .left)) (c .if2 .taken)
+
+sound-at-requires : tie.Need-sound-at-requires
+sound-at-requires c κs = (omega arith, omega (arith, allowed-sectors _ _ (c .before .before .is-allowed .ensures) (not-false _ (c .before .if1 .left))))
+
+cast-result-2 : tie.Need-cast-result-2
+cast-result-2 c = let s = c .before .before .before .before .before in omega (arith, sound-short (s .args .log .now) (s .args .n) _ (c .sound-at .ensures))
+
+mul-result : tie.Need-mul-result
+mul-result c = let s = c .before .before .before .before .before in omega (arith, sound-short (s .args .log .now) (s .args .n) _ (c .sound-at .ensures))
+
+returns-3 : tie.Need-returns-3
+returns-3 c = let s = c .before .before .before .before .before in sound-sized (s .args .log .now) (s .args .n) _ (c .before .before .before .is-allowed .ensures) (not-false _ (c .before .before .if1 .left)) _ (c .sound-at .ensures)
+
+pub skywimple-sound-at-spec : {M : Type 1} → statement M
+skywimple-sound-at-spec =
+    tie.close
+    (tie.spec
+    is-allowed-requires
+    number-requires
+    cast-result
+    returns
+    returns-2
+    sound-at-requires
+    cast-result-2
+    mul-result
+    returns-3)

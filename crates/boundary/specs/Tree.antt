@@ -1,0 +1,38 @@
+-- A run of a file's bytes packed into one number, and unpacked again; a walk's answer in one number.
+use mathlib.Core.Bool.{Bool, true, false}
+use Prim.Native.Nat.{ℕ, _+_, _*_, _/_, _%_}
+use lib.Dec.{eqb}
+use Rattle.refusal.specs.Number.{numberOf}
+use Rattle.file.specs.declared.Located.{Located}
+use Rattle.file.specs.declared.Located.the-variants.{Stored, Zeros, Refused}
+use Rattle.walk.specs.declared.Walked.{Walked}
+use Rattle.walk.specs.Walk.{endNumber}
+
+-- in the lowest 8 bits the number of the refusal, 0 for none; then a bit that is 1 for zeros; 16 bits of length; and the start
+abbrev pub packed : Located → ℕ
+packed (Stored at n) = 256 * (2 * (n + 65536 * at))
+packed (Zeros n) = 256 * (1 + 2 * n)
+packed (Refused w) = numberOf w
+
+-- what a caller reads: the number, whether the run is the page's rather than the log's, its start and its length
+pub record Run : Type 0 where
+  pub number : ℕ
+  pub zeros : Bool
+  pub start : ℕ
+  pub length : ℕ
+
+abbrev pub run : ℕ → Bool → ℕ → ℕ → Run
+run number zeros start length = record { number = number; zeros = zeros; start = start; length = length }
+
+unfoldable pub unpacked : ℕ → Run
+unpacked r = run (r % 256) (eqb (r / 256 % 2) 1) (r / 256 / 2 / 65536) (r / 256 / 2 % 65536)
+
+-- the same of a located run; a refusal has no bytes
+abbrev pub runOf : Located → Run
+runOf (Stored at n) = run 0 false at n
+runOf (Zeros n) = run 0 true 0 n
+runOf (Refused w) = run (numberOf w) false 0 0
+
+-- the number of the refusal, 0 for none, and 256 times the visits
+abbrev pub walkResult : Walked → ℕ
+walkResult w = endNumber (w .end) + 256 * w .visits

@@ -1,0 +1,41 @@
+-- The bytes of a run, each byte of a file by look-up's definition, and a file's runs laid end to end.
+use mathlib.Core.Bool.{cond}
+use mathlib.Core.List.{[], _++_}
+use mathlib.Core.Option.{Option, none, some}
+use Prim.Native.Nat.{ℕ, zero, suc, _+_, _%_}
+use lib.Dec.{ltb}
+use lib.ListN.{length, take, drop, getD}
+use Rattle.buffer.specs.Bytes.{Bytes, same}
+use Rattle.kind.specs.Kind.{zeroScore}
+use Rattle.log.specs.LookUp.{on, held}
+use Rattle.entry.specs.declared.Entry.{Entry}
+use Rattle.entry.specs.Entry.{entryOf, scoreOf}
+use Rattle.file.specs.declared.Located.{Located}
+use Rattle.file.specs.declared.Located.the-variants.{Stored, Zeros, Refused}
+use Rattle.file.specs.File.{pointer, pointerIndex, leafType, located}
+
+-- the bytes of a run: "a part of the log or of the lent blank page"; "A refusal hands back an empty part"
+abbrev pub runBytes : Bytes → Bytes → Located → Bytes
+runBytes log page (Stored at n) = take n (drop at log)
+runBytes log page (Zeros n) = take n page
+runBytes log page (Refused w) = []
+
+-- byte `offset` of the file under a score at a level, by look-up's definition; none where a block on the path is missing.
+-- "below a zero score all is zero", and so is what a leaf lacks
+unfoldable pub byteUnder : Bytes → Entry → ℕ → ℕ → Bytes → Option ℕ
+byteUnder log e offset zero s =
+    cond (same s zeroScore) (some 0) (on (held log (leafType e) s) none (λ r. some (getD (r .bytes) (offset % e .dsize) 0)))
+byteUnder log e offset (suc d) s =
+    cond (same s zeroScore) (some 0)
+    (on (held log (2 + suc d) s) none (λ r. byteUnder log e offset d (pointer (r .bytes) (pointerIndex e offset d))))
+
+-- byte `offset` of the file of an entry
+unfoldable pub fileByte : Bytes → Bytes → ℕ → Option ℕ
+fileByte log entry offset = byteUnder log (entryOf entry) offset ((entryOf entry) .depth) (scoreOf entry)
+
+-- the runs laid end to end from an offset on, at most k of them
+unfoldable pub laid : ℕ → Bytes → Bytes → Bytes → ℕ → Bytes
+laid zero log page entry offset = []
+laid (suc k) log page entry offset =
+    let run = runBytes log page (located log page entry offset) in
+    cond (ltb offset ((entryOf entry) .size)) (run ++ laid k log page entry (offset + length run)) []

@@ -1,0 +1,4 @@
+-- The laws that the functions' proofs cite.
+pub mod Choose
+pub mod Tops
+pub mod Sched

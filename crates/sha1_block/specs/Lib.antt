@@ -1,0 +1,2 @@
+-- What the clauses of `sha1_block` cite.
+pub mod Block

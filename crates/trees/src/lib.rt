@@ -1,0 +1,1 @@
+// What requests leave of the files in a log. Nothing here runs: proofs/ has the theorems.

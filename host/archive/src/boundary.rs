@@ -1,0 +1,47 @@
+//! The functions of the proved library, as `host/include/skywimple.h` declares them for C.
+//! They ask nothing of their arguments but what every Rust slice keeps.
+
+extern "C" {
+    pub fn skywimple_crc32(s: *const u8, s_len: usize) -> u32;
+    pub fn skywimple_sha1(s: *const u8, s_len: usize, out: *mut u8, out_len: usize) -> u32;
+    pub fn skywimple_serve(
+        session: u8,
+        message: *const u8,
+        message_len: usize,
+        log: *mut u8,
+        log_len: usize,
+        reply: *mut u8,
+        reply_len: usize,
+    ) -> u32;
+    pub fn skywimple_report(
+        log: *const u8,
+        log_len: usize,
+        buffer: *mut u8,
+        buffer_len: usize,
+    ) -> u32;
+    pub fn skywimple_sound_at(log: *const u8, log_len: usize, sector: usize) -> u32;
+    pub fn skywimple_cut(kind: u8, block: *const u8, block_len: usize) -> usize;
+    pub fn skywimple_pad(
+        kind: u8,
+        buffer: *mut u8,
+        buffer_len: usize,
+        block_len: usize,
+        target: usize,
+    ) -> u32;
+    pub fn skywimple_locate(
+        log: *const u8,
+        log_len: usize,
+        page: *const u8,
+        page_len: usize,
+        entry: *const u8,
+        entry_len: usize,
+        offset: u64,
+    ) -> u64;
+    pub fn skywimple_walk(
+        log: *const u8,
+        log_len: usize,
+        score: *const [u8; 20],
+        allowance: u64,
+    ) -> u64;
+    pub fn skywimple_block_type(number: u64) -> u32;
+}

@@ -1,0 +1,232 @@
+//! The description's checked examples, each on the proved archive and on the second program.
+
+use second::message::whole;
+use second::sector::SECTOR;
+use second::sha1::{sha1, ZERO_SCORE};
+use second::tree::{Place, Run};
+use second::Session;
+
+use crate::archive::{Archive, Second};
+use crate::under_test;
+
+const HELLO: [u8; 13] = [0, 0x0b, 4, 0, 0, 2, 0x30, 0x32, 0, 0, 0, 0, 0];
+
+/// Tries an example on both programs.
+fn on_both(example: fn(&mut dyn Archive)) {
+    example(&mut *under_test::archive());
+    example(&mut Second);
+}
+
+/// Serves one message in a session after a hello; gives the number and the reply.
+fn ask(archive: &mut dyn Archive, log: &mut [u8], message: &[u8]) -> (u8, Vec<u8>) {
+    let mut reply = vec![0xaa; 57_348];
+    let (number, session) = archive.serve(Session::Ready, message, log, &mut reply);
+    assert_eq!(session, Session::Ready);
+    let size = usize::from(reply[0]) * 256 + usize::from(reply[1]) + 2;
+    assert!(reply[size..].iter().all(|&byte| byte == 0xaa));
+    reply.truncate(size);
+    (number, reply)
+}
+
+fn write(kind: u8, data: &[u8]) -> Vec<u8> {
+    whole(14, 9, &[&[kind, 0, 0, 0], data].concat())
+}
+
+fn read(kind: u8, data: &[u8], count: u16) -> Vec<u8> {
+    let body = [&sha1(data)[..], &[kind, 0], &count.to_be_bytes()].concat();
+    whole(12, 9, &body)
+}
+
+#[test]
+fn ping_after_hello() {
+    on_both(|archive| {
+        let mut reply = vec![0; 57_348];
+        let (number, session) = archive.serve(Session::Fresh, &HELLO, &mut [], &mut reply);
+        assert_eq!((number, session), (0, Session::Ready));
+        assert_eq!(reply[..8], [0, 6, 5, 0, 0, 0, 0, 0]);
+        assert_eq!(ask(archive, &mut [], &[0, 2, 2, 7]), (0, vec![0, 2, 3, 7]));
+    });
+}
+
+#[test]
+fn refusal_11() {
+    on_both(|archive| {
+        let expected = [0, 10, 1, 9, 0, 6, b'w', b'h', b'y', b'=', b'1', b'1'];
+        let answer = ask(archive, &mut [], &read(13, b"x", 1));
+        assert_eq!(answer, (11, expected.to_vec()));
+    });
+}
+
+#[test]
+fn sectors_of_blocks() {
+    on_both(|archive| {
+        for (size, sectors) in [(403, 1), (404, 2), (57_344, 143)] {
+            let data = vec![7; size];
+            let mut log = vec![0; (sectors - 1) * SECTOR];
+            assert_eq!(ask(archive, &mut log, &write(13, &data)).0, 14);
+            log.extend([0; SECTOR]);
+            assert_eq!(ask(archive, &mut log, &write(13, &data)).0, 0);
+            assert_eq!(archive.sound_at(&log, 0), Ok(size));
+            assert_eq!(archive.sound_at(&log, sectors), Ok(0));
+            let last = &log[(sectors - 1) * SECTOR..];
+            let of = format!("part={:04x}\nof={sectors:04x}\n", sectors - 1);
+            assert_eq!(last[13..13 + of.len()], *of.as_bytes());
+            let payload = size - (sectors - 1) * 403;
+            assert!(last[96..96 + payload].iter().all(|&byte| byte == 7));
+            assert!(last[96 + payload..499].iter().all(|&byte| byte == 0));
+        }
+        let mut log = vec![0; 144 * SECTOR];
+        assert_eq!(ask(archive, &mut log, &write(13, &[7; 57_345])).0, 10);
+        assert!(log.iter().all(|&byte| byte == 0));
+    });
+}
+
+#[test]
+fn cutting() {
+    on_both(|archive| {
+        let block = [&b"hello world"[..], &[0; 1013]].concat();
+        assert_eq!(archive.cut(13, &block), Ok(11));
+        assert_eq!(archive.cut(13, &[0; 1024]), Ok(0));
+        assert_eq!(archive.cut(3, &[1; 41]), Err(22));
+        assert_eq!(archive.cut(10, &[]), Err(9));
+        assert_eq!(archive.cut(3, &ZERO_SCORE.repeat(3)), Ok(0));
+        assert_eq!(archive.cut(3, &[0; 40]), Ok(40));
+    });
+}
+
+#[test]
+fn padding() {
+    on_both(|archive| {
+        let mut buffer = [1; 70];
+        assert_eq!(archive.pad(3, &mut buffer, 20, 60), 0);
+        assert_eq!(buffer[..20], [1; 20]);
+        assert_eq!(buffer[20..60], ZERO_SCORE.repeat(2));
+        assert_eq!(buffer[60..], [1; 10]);
+        let before = buffer;
+        assert_eq!(archive.pad(3, &mut buffer, 20, 61), 22);
+        assert_eq!(archive.pad(13, &mut buffer, 20, 71), 22);
+        assert_eq!(archive.pad(13, &mut buffer, 20, 19), 22);
+        assert_eq!(archive.pad(0, &mut buffer, 20, 19), 9);
+        assert_eq!(buffer, before);
+    });
+}
+
+/// An entry with psize 60, so 3 pointers, and dsize 1,024.
+fn entry(flags: u8, size: u64, score: &[u8; 20]) -> Vec<u8> {
+    let mut bytes = vec![0; 4];
+    bytes.extend([0, 60, 4, 0, flags, 0, 0, 0, 0, 0]);
+    bytes.extend(&size.to_be_bytes()[2..]);
+    bytes.extend(score);
+    bytes
+}
+
+#[test]
+fn sizes_of_files() {
+    on_both(|archive| {
+        let page = [0; 1024];
+        let zeros = |len| {
+            Ok(Run {
+                place: Place::Page,
+                start: 0,
+                len,
+            })
+        };
+        let fits = entry(5, 3072, &ZERO_SCORE);
+        assert_eq!(archive.locate(&[], &page, &fits, 3071), zeros(1));
+        assert_eq!(archive.locate(&[], &page, &fits, 3072), Err(17));
+        let over = entry(5, 3073, &ZERO_SCORE);
+        assert_eq!(archive.locate(&[], &page, &over, 0), Err(16));
+    });
+}
+
+/// Depth 2, offset 4,096: the second pointer, then the second. All other pointers lead nowhere.
+#[test]
+fn second_then_second() {
+    on_both(|archive| {
+        let mut log = vec![0; 5 * SECTOR];
+        let leaf = vec![7; 1024];
+        let nowhere = [1; 20];
+        let low = [nowhere, sha1(&leaf), nowhere].concat();
+        let high = [nowhere, sha1(&low), nowhere].concat();
+        for (kind, block) in [(13, &leaf), (3, &low), (4, &high)] {
+            assert_eq!(ask(archive, &mut log, &write(kind, block)).0, 0);
+        }
+        let file = entry(9, 9216, &sha1(&high));
+        let run = Run {
+            place: Place::Log,
+            start: 96,
+            len: 403,
+        };
+        let page = [0; 10];
+        assert_eq!(archive.locate(&log, &page, &file, 4096), Ok(run));
+        assert_eq!(archive.locate(&log, &page, &file, 3072), Err(11));
+        assert_eq!(archive.locate(&log, &page, &file, 0), Err(11));
+    });
+}
+
+#[test]
+fn counts_and_full_logs() {
+    on_both(|archive| {
+        let mut log = vec![0; SECTOR];
+        let hello = b"hello world";
+        assert_eq!(ask(archive, &mut log, &write(13, hello)).0, 0);
+        let (number, reply) = ask(archive, &mut log, &read(13, hello, 11));
+        assert_eq!((number, &reply[4..]), (0, &hello[..]));
+        assert_eq!(ask(archive, &mut log, &read(13, hello, 10)).0, 13);
+        assert_eq!(ask(archive, &mut [], &write(13, b"")).0, 0);
+        assert_eq!(ask(archive, &mut [], &write(13, b"x")).0, 14);
+    });
+}
+
+#[test]
+fn report_of_a_blank_log() {
+    on_both(|archive| {
+        let expected = "sectors=2\nused=0\nrecords=0\ndoubtful=0\nverdict=sound\n";
+        let mut buffer = [0xaa; 128];
+        assert_eq!(archive.report(&[0; 1024], &mut buffer), Ok(expected.len()));
+        assert_eq!(&buffer[..expected.len()], expected.as_bytes());
+        assert!(buffer[expected.len()..].iter().all(|&byte| byte == 0xaa));
+        assert_eq!(archive.report(&[0; 1024], &mut [0; 127]), Err(2));
+        assert_eq!(archive.report(&[0; 1023], &mut buffer), Err(3));
+    });
+}
+
+#[test]
+fn enumeration() {
+    on_both(|archive| {
+        let types: Vec<u8> = (0..17).map(|n| archive.wire_type(n).unwrap()).collect();
+        assert_eq!(types, [13, 3, 4, 5, 6, 7, 8, 9, 2, 3, 4, 5, 6, 7, 8, 9, 1]);
+        assert_eq!(archive.wire_type(17), Err(9));
+        assert_eq!(archive.wire_type(256), Err(9));
+        assert_eq!(archive.wire_type(u64::MAX), Err(9));
+    });
+}
+
+#[test]
+fn walks() {
+    on_both(|archive| {
+        let mut log = vec![0; 8 * SECTOR];
+        assert_eq!(archive.walk(&log, &ZERO_SCORE, 5), (16, 1));
+        assert_eq!(archive.walk(&log, &ZERO_SCORE, 0), (21, 0));
+        assert_eq!(archive.walk(&log, &[1; 20], 5), (11, 1));
+        assert_eq!(archive.walk(&log, &ZERO_SCORE, 1_000_001), (23, 0));
+        let directory = entry(1, 0, &ZERO_SCORE);
+        let mut root = vec![0, 2];
+        root.resize(258, 0);
+        root.extend(sha1(&directory));
+        assert_eq!(ask(archive, &mut log, &write(2, &directory)).0, 0);
+        assert_eq!(ask(archive, &mut log, &write(1, &root)).0, 0);
+        assert_eq!(archive.walk(&log, &sha1(&root), 5), (0, 3));
+        assert_eq!(archive.walk(&log, &sha1(&root), 2), (21, 2));
+        assert_eq!(archive.walk(&log[1..], &sha1(&root), 5), (3, 0));
+    });
+}
+
+#[test]
+fn digests() {
+    on_both(|archive| {
+        assert_eq!(archive.sha1(b""), ZERO_SCORE);
+        assert_eq!(archive.sha1(b"abc")[..4], [0xa9, 0x99, 0x3e, 0x36]);
+        assert_eq!(archive.crc32(b"123456789"), 0xcbf4_3926);
+    });
+}
