@@ -1,2 +1,3 @@
-pub mod ReadAgain
+-- `Again`: what was answered about a tree is answered again. `Examples`: the table.
+pub mod Again
 pub mod Examples

@@ -1,2 +1,3 @@
 -- What the theorems of `trees` claim.
 pub mod Examples
+pub mod Again

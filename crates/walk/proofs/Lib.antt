@@ -6,3 +6,5 @@ pub mod Cases
 pub mod Tops
 pub mod Fuel
 pub mod Examples
+pub mod Found
+pub mod Again

@@ -63,7 +63,7 @@ placed r = Found (record { 0 = r .first }) (length (r .bytes))
 abbrev metBy : Bool → Bool → Option Row → Refusal → ℕ → Met
 metBy a b o w count = cond a (met 0 (Refused Nest)) (cond b (met 0 (Refused Spent)) (met 1 (counted count (on o (Refused w) placed))))
 
-abbrev visitBy : Bool → Bool → Option Row → Refusal → ℕ → (Bytes → Walked) → Walked
+abbrev pub visitBy : Bool → Bool → Option Row → Refusal → ℕ → (Bytes → Walked) → Walked
 visitBy a b o w count next =
     cond a (walked 0 (Stopped Nest)) (cond b (walked 0 (Stopped Spent)) (on o (walked 1 (Stopped w))
     (λ r. cond (ltb count (length (r .bytes))) (walked 1 (Stopped OverCount)) (more (next (r .bytes))))))

@@ -1,0 +1,174 @@
+//! The commands, and the choice of one by its first word.
+
+use std::ffi::OsString;
+
+use crate::arguments::{Arguments, Syntax};
+use crate::status::{Failure, DONE, USAGE};
+use crate::streams::Streams;
+use crate::{demo, doubt, get, help, init, put, read, report, serve, walk};
+
+pub struct Command {
+    pub name: &'static str,
+    /// The words that it takes.
+    pub usage: &'static str,
+    /// What it does, in a line.
+    pub summary: &'static str,
+    pub details: &'static str,
+    pub syntax: Syntax,
+    run: fn(&Arguments, &mut Streams) -> Result<u8, Failure>,
+}
+
+const fn syntax(
+    flags: &'static [&'static str],
+    values: &'static [&'static str],
+    least: usize,
+    most: usize,
+) -> Syntax {
+    Syntax {
+        flags,
+        values,
+        least,
+        most,
+    }
+}
+
+pub const COMMANDS: [Command; 9] = [
+    Command {
+        name: "init",
+        usage: "LOG --sectors N",
+        summary: "make a new log of N blank sectors",
+        details: help::INIT,
+        syntax: syntax(&[], &["--sectors"], 1, 1),
+        run: init::run,
+    },
+    Command {
+        name: "put",
+        usage: "LOG [FILE...] [--type T] [--adopt]",
+        summary: "store each file as a block, print its score",
+        details: help::PUT,
+        syntax: syntax(&["--adopt"], &["--type"], 1, usize::MAX),
+        run: put::run,
+    },
+    Command {
+        name: "get",
+        usage: "LOG SCORE [--type T] [--count N] [--adopt]",
+        summary: "write a block's bytes to standard output",
+        details: help::GET,
+        syntax: syntax(&["--adopt"], &["--type", "--count"], 2, 2),
+        run: get::run,
+    },
+    Command {
+        name: "serve",
+        usage: "LOG [--adopt]",
+        summary: "answer Venti messages from standard input",
+        details: help::SERVE,
+        syntax: syntax(&["--adopt"], &[], 1, 1),
+        run: serve::run,
+    },
+    Command {
+        name: "doubt",
+        usage: "LOG",
+        summary: "let what a log has lost at its end be \"not known\"",
+        details: help::DOUBT,
+        syntax: syntax(&[], &[], 1, 1),
+        run: doubt::run,
+    },
+    Command {
+        name: "report",
+        usage: "LOG [--map] [--svg FILE] [--width N] [--adopt]",
+        summary: "say what a log holds and whether it is sound",
+        details: help::REPORT,
+        syntax: syntax(&["--map", "--adopt"], &["--svg", "--width"], 1, 1),
+        run: report::run,
+    },
+    Command {
+        name: "read",
+        usage: "LOG ENTRY [--adopt]",
+        summary: "write a file's bytes, found through its hash tree",
+        details: help::READ,
+        syntax: syntax(&["--adopt"], &[], 2, 2),
+        run: read::run,
+    },
+    Command {
+        name: "walk",
+        usage: "LOG SCORE [--allowance N] [--adopt]",
+        summary: "visit every block below a root",
+        details: help::WALK,
+        syntax: syntax(&["--adopt"], &["--allowance"], 2, 2),
+        run: walk::run,
+    },
+    Command {
+        name: "demo",
+        usage: "",
+        summary: "show it all in a temporary folder",
+        details: help::DEMO,
+        syntax: syntax(&[], &[], 0, 0),
+        run: demo::run,
+    },
+];
+
+/// Runs the command that the words give, tells what fails, and gives the exit status.
+pub fn run(words: &[OsString], streams: &mut Streams) -> u8 {
+    match choose(words, streams) {
+        Ok(status) => status,
+        Err(failure) => {
+            if !failure.words.is_empty() {
+                streams.tell(&failure.words);
+            }
+            failure.status
+        }
+    }
+}
+
+fn choose(words: &[OsString], streams: &mut Streams) -> Result<u8, Failure> {
+    let Some((first, rest)) = words.split_first() else {
+        streams.tell("no command given");
+        streams.tell_plain(&help::overview());
+        return Ok(USAGE);
+    };
+    match first.to_str() {
+        Some("--help" | "-h") => print(&help::overview(), streams),
+        Some("help") => match rest.first() {
+            None => print(&help::overview(), streams),
+            Some(name) => print(&help::of(find(name)?), streams),
+        },
+        Some("--version" | "-V") => print(
+            concat!("skywimple ", env!("CARGO_PKG_VERSION"), "\n"),
+            streams,
+        ),
+        _ => start(find(first)?, rest, streams),
+    }
+}
+
+fn find(name: &OsString) -> Result<&'static Command, Failure> {
+    let found = COMMANDS.iter().find(|command| *name == command.name);
+    found.ok_or_else(|| {
+        let words = format!(
+            "no such command: {}. `skywimple --help` lists them.",
+            name.display()
+        );
+        Failure::usage(words)
+    })
+}
+
+fn start(command: &Command, words: &[OsString], streams: &mut Streams) -> Result<u8, Failure> {
+    let started = Arguments::parse(&command.syntax, words).and_then(|arguments| {
+        if arguments.help {
+            return print(&help::of(command), streams);
+        }
+        (command.run)(&arguments, streams)
+    });
+    started.map_err(|mut failure| {
+        if failure.status == USAGE {
+            let Command { name, usage, .. } = command;
+            failure.words +=
+                &format!(". Usage: skywimple {name} {usage} (more: skywimple {name} --help)");
+        }
+        failure
+    })
+}
+
+fn print(text: &str, streams: &mut Streams) -> Result<u8, Failure> {
+    streams.answer(text.as_bytes())?;
+    Ok(DONE)
+}

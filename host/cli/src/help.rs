@@ -1,0 +1,104 @@
+//! What `--help` prints.
+
+use crate::command::{Command, COMMANDS};
+use crate::status;
+
+/// All commands and statuses.
+pub fn overview() -> String {
+    let mut text = String::from(
+        "skywimple: an archive that says \"not known\" when it does not know.\n\
+         Blocks are stored in one append-only log and named by their SHA-1 score.\n\nCommands:\n",
+    );
+    for command in &COMMANDS {
+        text += &format!("  {:7} {}\n", command.name, command.summary);
+    }
+    text += "\n`skywimple COMMAND --help` says more; `skywimple --version` prints the version.\n";
+    text += "Words after `--` are never options.\n\nExit statuses:\n";
+    for (status, meaning) in &status::TABLE {
+        text += &format!("  {status:8} {meaning}\n");
+    }
+    text
+}
+
+/// One command.
+pub fn of(command: &Command) -> String {
+    let Command {
+        name,
+        usage,
+        summary,
+        details,
+        ..
+    } = command;
+    let usage = format!("{name} {usage}");
+    let usage = usage.trim_end();
+    format!("skywimple {usage}\n\n{name}: {summary}.\n\n{details}\n`skywimple --help` lists all exit statuses.\n")
+}
+
+pub const INIT: &str = "\
+N is 0 to 131072. Writes N sectors of 512 zero bytes to LOG and the mark to LOG.mark, both synced.
+Never overwrites a file: where LOG or LOG.mark is there, the status is 73.
+Keep LOG and LOG.mark together; without the mark nobody can tell whether the log's tail was lost.
+";
+
+pub const PUT: &str = "\
+Stores one block from each FILE, or one from standard input (also `-`), and prints its score; with
+several files the file's name too. A score is printed once the block is on disk. A block that is
+held already is not stored twice; one that is damaged is stored again, which heals it.
+A file that is refused or cannot be read is told on standard error, the others are stored all the
+same; the status is that of the first failure.
+  --type T   root, dir, ptr1 to ptr7, data (the default), or the type's number
+  --adopt    take a log without a good mark as it is, and mark it
+";
+
+pub const GET: &str = "\
+Three answers, never mixed up: the bytes with status 0; \"not held\" with status 11, the block was
+never stored; \"not known\" with status 12, part of the log is damaged and nobody can tell. The last
+two write nothing to standard output.
+  SCORE      40 hex digits
+  --type T   root, dir, ptr1 to ptr7, data (the default), or the type's number
+  --count N  the most bytes, 0 to 65535 (default 57344); a longer block is refused with 13
+  --adopt    take a log without a good mark as it is, and mark it
+";
+
+pub const SERVE: &str = "\
+Reads framed messages (size[2] type[1] tag[1] body) from standard input and writes the replies to
+standard output, until a goodbye or the end of input, so that any transport can carry it: a pipe,
+ssh, an inetd. An appended block is on disk before its reply is written. One writer at a time.
+Input that ends inside a message is status 1.
+  --adopt    take a log without a good mark as it is, and mark it
+";
+
+pub const DOUBT: &str = "\
+For a log that does not fit its mark (status 65): brings a cut or missing file back to its length
+and writes at the last marked sector, where that is lost, one that is neither blank nor sound. After
+that all that was lost is \"not known\", never \"not held\". Writes nothing where nothing is lost.
+Restoring the log from a copy is better, where there is one.
+";
+
+pub const REPORT: &str = "\
+Prints sectors, used, records, doubtful and the verdict: sound (status 0) or notknown (status 32).
+  --map       draws the log: # sound, ? doubtful, . blank; a cell with any doubtful sector is ?
+  --svg FILE  writes the map as a picture; overwrites FILE
+  --width N   cells in a row (default: COLUMNS, else the terminal's width, else 80)
+  --adopt     take a log without a good mark as it is, and mark it
+";
+
+pub const READ: &str = "\
+Writes the bytes of the file that ENTRY stands for: 80 hex digits, or the name of a file with the
+40 bytes of an entry. Stops at the first offset that is refused and says which and why; what was
+written before it is right. The status is the refusal's number. A missing block is never zeros.
+  --adopt    take a log without a good mark as it is, and mark it
+";
+
+pub const WALK: &str = "\
+Visits every block below the root SCORE (40 hex digits) and prints the visits spent, and `done` if
+all could be read. Otherwise the first refusal is told and its number is the status.
+  --allowance N  the most visits, up to 1000000 (the default)
+  --adopt        take a log without a good mark as it is, and mark it
+";
+
+pub const DEMO: &str = "\
+Stores three donor cards, reads one, damages a sector, and shows that the card in it is \"not known\"
+and never \"absent\", that the others can be read, and that storing it again heals it. Each step is
+checked; if one does not go as said, the status is 1. The folder is removed at the end.
+";

@@ -1,0 +1,58 @@
+//! `init`: a new log, all zeros, and its mark.
+
+use std::fs::{self, File};
+use std::io;
+use std::path::Path;
+
+use crate::arguments::Arguments;
+use crate::log_file::{self, SECTOR};
+use crate::mark::{self, Mark, MOST_SECTORS};
+use crate::status::{Failure, DONE, EXISTS};
+use crate::streams::Streams;
+
+pub fn run(arguments: &Arguments, _: &mut Streams) -> Result<u8, Failure> {
+    let path = arguments.path(0);
+    let Some(sectors) = arguments.number("--sectors")? else {
+        return Err(Failure::usage("--sectors is missing"));
+    };
+    let sectors = usize::try_from(sectors).unwrap_or(usize::MAX);
+    if sectors > MOST_SECTORS {
+        return Err(Failure::refused(3));
+    }
+    let mark_path = mark::path_of(path);
+    if fs::symlink_metadata(&mark_path).is_ok() {
+        return Err(exists(&mark_path));
+    }
+    let file = File::create_new(path).map_err(|e| match e.kind() {
+        io::ErrorKind::AlreadyExists => exists(path),
+        _ => Failure::disk("create", path, &e),
+    })?;
+    log_file::lock(&file, path)?;
+    let mark = Mark { sectors, used: 0 };
+    let made = blank(&file, path, sectors).and_then(|()| mark.write(&mark_path));
+    if made.is_err() {
+        // Both are this call's own files.
+        let _ = fs::remove_file(&mark_path);
+        let _ = fs::remove_file(path);
+    }
+    made.map(|()| DONE)
+}
+
+/// Writes real zeros, so that the room is there, and has them on disk.
+fn blank(file: &File, path: &Path, sectors: usize) -> Result<(), Failure> {
+    let zeros = vec![0; sectors * SECTOR];
+    let write = || {
+        log_file::write_at(file, 0, &zeros)?;
+        file.sync_all()?;
+        mark::sync_folder(path)
+    };
+    write().map_err(|e| Failure::disk("write", path, &e))
+}
+
+fn exists(path: &Path) -> Failure {
+    let words = format!(
+        "{} is there already, and init never overwrites a file. Give another name, or move it away.",
+        path.display()
+    );
+    Failure::new(EXISTS, words)
+}

@@ -1,0 +1,182 @@
+//! The mark beside a log, `LOG.mark`: how many sectors the log has and where its used part ends.
+//! With it a log that lost its tail is told from a shorter one.
+//!
+//! Three lines, `sectors=`, `used=` and `crc=`, each with 8 lower-case hex digits; the last is the
+//! CRC-32 of the two before.
+
+use std::ffi::OsString;
+use std::fs::{self, File};
+use std::io::{self, Read, Write};
+use std::path::{Path, PathBuf};
+
+use skywimple_archive::crc32;
+
+use crate::hex;
+use crate::status::{Failure, MISSING, UNFIT};
+
+/// The most sectors a log may have.
+pub const MOST_SECTORS: usize = 131_072;
+
+const LENGTH: usize = 16 + 1 + 13 + 1 + 12 + 1;
+
+#[derive(Clone, Copy, Debug, PartialEq, Eq)]
+pub struct Mark {
+    /// Sectors in the file.
+    pub sectors: usize,
+    /// Sectors of the used part.
+    pub used: usize,
+}
+
+/// What stands in the mark's place.
+pub enum Found {
+    Good(Mark),
+    Damaged,
+    Missing,
+}
+
+/// The mark of a log: beside the file itself where the path is a symbolic link.
+pub fn path_of(log: &Path) -> PathBuf {
+    let file = fs::canonicalize(log).unwrap_or_else(|_| log.to_path_buf());
+    with_suffix(&file, ".mark")
+}
+
+fn with_suffix(path: &Path, suffix: &str) -> PathBuf {
+    let mut name = OsString::from(path);
+    name.push(suffix);
+    PathBuf::from(name)
+}
+
+impl Mark {
+    /// Its text.
+    pub fn text(&self) -> String {
+        let lines = format!("sectors={:08x}\nused={:08x}\n", self.sectors, self.used);
+        let crc = crc32(lines.as_bytes());
+        format!("{lines}crc={crc:08x}\n")
+    }
+
+    /// The mark that has exactly this text.
+    pub fn parse(text: &[u8]) -> Option<Mark> {
+        let text = std::str::from_utf8(text).ok()?;
+        let mut lines = text.lines();
+        let mut field = |name| {
+            let value = hex::decode(lines.next()?.strip_prefix(name)?)?;
+            usize::try_from(u32::from_be_bytes(value)).ok()
+        };
+        let mark = Mark {
+            sectors: field("sectors=")?,
+            used: field("used=")?,
+        };
+        let possible = mark.used <= mark.sectors && mark.sectors <= MOST_SECTORS;
+        (possible && mark.text() == text).then_some(mark)
+    }
+
+    /// Looks what stands in the mark's place.
+    pub fn find(path: &Path) -> Result<Found, Failure> {
+        let text = match File::open(path).and_then(read_front) {
+            Ok(text) => text,
+            Err(e) if e.kind() == io::ErrorKind::NotFound => return Ok(Found::Missing),
+            Err(e) => return Err(Failure::disk("read the mark", path, &e)),
+        };
+        Ok(Mark::parse(&text).map_or(Found::Damaged, Found::Good))
+    }
+
+    /// The mark, which has to be there and good.
+    pub fn require(log: &Path) -> Result<Mark, Failure> {
+        let path = path_of(log);
+        match Mark::find(&path)? {
+            Found::Good(mark) => Ok(mark),
+            Found::Damaged => Err(damaged(&path)),
+            Found::Missing => Err(missing(log, &path)),
+        }
+    }
+
+    /// Puts it in place of the one before, all or nothing, and on disk. Its caller holds the log's lock.
+    pub fn write(&self, path: &Path) -> Result<(), Failure> {
+        let new = with_suffix(path, ".new");
+        let replace = || {
+            let mut file = File::create(&new)?;
+            file.write_all(self.text().as_bytes())?;
+            file.sync_all()?;
+            fs::rename(&new, path)?;
+            sync_folder(path)
+        };
+        replace().map_err(|e| Failure::disk("write the mark", path, &e))
+    }
+}
+
+/// As much of a file as a mark can have, and one byte.
+fn read_front(file: File) -> io::Result<Vec<u8>> {
+    let mut text = Vec::new();
+    file.take(LENGTH as u64 + 1).read_to_end(&mut text)?;
+    Ok(text)
+}
+
+/// Has the folder's own entries written to disk.
+pub fn sync_folder(file: &Path) -> io::Result<()> {
+    let folder = match file.parent() {
+        Some(folder) if !folder.as_os_str().is_empty() => folder,
+        _ => Path::new("."),
+    };
+    File::open(folder)?.sync_all()
+}
+
+fn missing(log: &Path, path: &Path) -> Failure {
+    let words = format!(
+        "{0} has no mark ({1}), so nobody can tell whether its tail is whole. Restore the mark; \
+         or, if the log is whole, give --adopt to take it as it is.",
+        log.display(),
+        path.display()
+    );
+    Failure::new(MISSING, words)
+}
+
+fn damaged(path: &Path) -> Failure {
+    let words = format!(
+        "the mark {} is damaged, so nobody can tell whether the log's tail is whole. Restore the \
+         mark; or, if the log is whole, give --adopt to take it as it is.",
+        path.display()
+    );
+    Failure::new(UNFIT, words)
+}
+
+#[cfg(test)]
+mod tests {
+    use super::*;
+
+    const MARK: Mark = Mark {
+        sectors: 131_072,
+        used: 0x1_0abc,
+    };
+
+    #[test]
+    fn text_and_back() {
+        let text = MARK.text();
+        assert!(text.starts_with("sectors=00020000\nused=00010abc\ncrc="));
+        assert_eq!(text.len(), LENGTH);
+        assert_eq!(Mark::parse(text.as_bytes()), Some(MARK));
+    }
+
+    #[test]
+    fn any_changed_byte_is_damage() {
+        let text = MARK.text().into_bytes();
+        for at in 0..text.len() {
+            for change in [1, 0x20, 0x80, 0xff] {
+                let mut bad = text.clone();
+                bad[at] ^= change;
+                assert_eq!(Mark::parse(&bad), None, "byte {at}");
+            }
+        }
+        for at in 0..text.len() {
+            assert_eq!(Mark::parse(&text[..at]), None, "cut to {at}");
+        }
+        assert_eq!(Mark::parse(&[&text[..], b"\n"].concat()), None);
+    }
+
+    #[test]
+    fn impossible_numbers_are_damage() {
+        for (sectors, used) in [(4, 5), (131_073, 0)] {
+            let mark = Mark { sectors, used };
+            assert_eq!(Mark::parse(mark.text().as_bytes()), None);
+        }
+    }
+}

@@ -1,0 +1,74 @@
+//! `put`: stores blocks and prints their scores.
+
+use std::ffi::OsStr;
+use std::fs::File;
+use std::io::{self, Read};
+use std::path::Path;
+
+use crate::arguments::Arguments;
+use crate::hex;
+use crate::log_file::Writer;
+use crate::session::{Client, Score, MOST_DATA};
+use crate::status::{Failure, DONE};
+use crate::streams::Streams;
+
+pub fn run(arguments: &Arguments, streams: &mut Streams) -> Result<u8, Failure> {
+    let kind = arguments.kind()?;
+    let mut log = Writer::open(arguments.path(0), arguments.flag("--adopt"), streams)?;
+    let mut client = Client::greet(&mut log.bytes)?;
+    let standard_input = [OsStr::new("-").to_os_string()];
+    let files = match &arguments.words[1..] {
+        [] => &standard_input[..],
+        files => files,
+    };
+
+    let mut status = DONE;
+    for file in files {
+        let stored = read_block(file, streams.input).and_then(|block| {
+            let score = client.write(&mut log.bytes, kind, &block);
+            score.map_err(|number| Failure::refused_about(number, file))
+        });
+        match stored {
+            Ok(score) => {
+                log.keep()?;
+                streams.answer(&line(&score, file, files.len() > 1))?;
+            }
+            Err(failure) => {
+                streams.tell(&failure.words);
+                status = if status == DONE {
+                    failure.status
+                } else {
+                    status
+                };
+            }
+        }
+    }
+    Ok(status)
+}
+
+/// The block that a file or standard input holds, and one byte more where it is too long.
+fn read_block(file: &OsStr, input: &mut dyn Read) -> Result<Vec<u8>, Failure> {
+    let mut block = Vec::new();
+    let mut read = |input: &mut dyn Read| -> io::Result<usize> {
+        input.take(MOST_DATA as u64 + 1).read_to_end(&mut block)
+    };
+    if file == "-" {
+        read(input).map_err(|e| Failure::disk("read", Path::new("standard input"), &e))?;
+    } else {
+        let path = Path::new(file);
+        let mut opened = File::open(path).map_err(|e| Failure::open(path, &e))?;
+        read(&mut opened).map_err(|e| Failure::disk("read", path, &e))?;
+    }
+    Ok(block)
+}
+
+/// The score, and the file's name where there are several.
+fn line(score: &Score, file: &OsStr, named: bool) -> Vec<u8> {
+    let mut line = hex::encode(score).into_bytes();
+    if named {
+        line.extend(b"  ");
+        line.extend(file.as_encoded_bytes());
+    }
+    line.push(b'\n');
+    line
+}

@@ -1,0 +1,80 @@
+//! `serve`: framed messages from standard input, replies to standard output.
+
+use std::io::{self, Read};
+use std::path::Path;
+
+use skywimple_archive::Session;
+
+use crate::arguments::Arguments;
+use crate::log_file::Writer;
+use crate::progress::Progress;
+use crate::session::{whole_reply, REPLY};
+use crate::status::{Failure, DONE};
+use crate::streams::Streams;
+use crate::words;
+
+pub fn run(arguments: &Arguments, streams: &mut Streams) -> Result<u8, Failure> {
+    let mut log = Writer::open(arguments.path(0), arguments.flag("--adopt"), streams)?;
+    let mut progress = Progress::start();
+    let ended = talk(&mut log, &mut progress, streams);
+    progress.clear(streams);
+    ended
+}
+
+/// Answers requests until goodbye or the end of input.
+fn talk(log: &mut Writer, progress: &mut Progress, streams: &mut Streams) -> Result<u8, Failure> {
+    let mut session = Session::Fresh;
+    let mut reply = vec![0; REPLY];
+    let (mut requests, mut appended) = (0_u64, 0);
+    while session != Session::Closed {
+        let message = match next_message(streams.input) {
+            Ok(Input::Message(message)) => message,
+            Ok(Input::End) => break,
+            Ok(Input::Torn) => {
+                return Err(Failure::new(
+                    1,
+                    "the input ended inside a message, which was not answered",
+                ))
+            }
+            Err(e) => return Err(Failure::disk("read", Path::new("standard input"), &e)),
+        };
+        let number;
+        (number, session) = skywimple_archive::serve(session, &message, &mut log.bytes, &mut reply);
+        // On disk before the reply.
+        appended += log.keep()?;
+        requests += 1;
+        if (1..=4).contains(&number) {
+            progress.clear(streams);
+            let words = words::refusal(number);
+            streams.tell(&format!("message {requests} was not answered: {words}"));
+        } else if session != Session::Closed {
+            streams.answer(whole_reply(&reply))?;
+        }
+        progress.show(streams, || {
+            format!("{requests} requests answered, {appended} sectors appended")
+        });
+    }
+    Ok(DONE)
+}
+
+enum Input {
+    Message(Vec<u8>),
+    End,
+    Torn,
+}
+
+/// The next message: as many bytes as its size says.
+fn next_message(input: &mut dyn Read) -> io::Result<Input> {
+    let mut message = Vec::new();
+    input.take(2).read_to_end(&mut message)?;
+    let size = match message[..] {
+        [] => return Ok(Input::End),
+        [high, low] => u16::from_be_bytes([high, low]),
+        _ => return Ok(Input::Torn),
+    };
+    input.take(u64::from(size)).read_to_end(&mut message)?;
+    if message.len() < 2 + usize::from(size) {
+        return Ok(Input::Torn);
+    }
+    Ok(Input::Message(message))
+}

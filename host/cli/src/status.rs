@@ -1,0 +1,94 @@
+//! Exit statuses, and a failure: a status with its words.
+
+use std::ffi::OsStr;
+use std::io;
+use std::path::Path;
+
+use crate::words;
+
+pub const DONE: u8 = 0;
+/// What the demonstration ends with where a claim of its does not hold.
+pub const CLAIM_FAILED: u8 = 1;
+pub const NOT_HELD: u8 = 11;
+pub const NOT_KNOWN: u8 = 12;
+pub const VERDICT_NOT_KNOWN: u8 = 32;
+pub const USAGE: u8 = 64;
+pub const UNFIT: u8 = 65;
+pub const MISSING: u8 = 66;
+pub const EXISTS: u8 = 73;
+pub const INPUT_OUTPUT: u8 = 74;
+pub const BUSY: u8 = 75;
+
+/// All statuses, as the help prints them.
+pub const TABLE: [(&str, &str); 9] = [
+    ("0", "done"),
+    (
+        "1 to 23",
+        "refused; the status is the refusal's number (11 not held, 12 not known)",
+    ),
+    ("32", "report: the verdict is notknown"),
+    ("64", "the words given make no command"),
+    (
+        "65",
+        "the log does not fit its mark, or the mark is damaged",
+    ),
+    ("66", "no such file, or the log has no mark (see --adopt)"),
+    ("73", "init would overwrite a file"),
+    ("74", "reading or writing failed"),
+    ("75", "another writer holds the log"),
+];
+
+/// Why a command ends, and with which status. Without words it ends silently.
+#[derive(Debug)]
+pub struct Failure {
+    pub status: u8,
+    pub words: String,
+}
+
+impl Failure {
+    pub fn new(status: u8, words: impl Into<String>) -> Failure {
+        Failure {
+            status,
+            words: words.into(),
+        }
+    }
+
+    pub fn usage(words: impl Into<String>) -> Failure {
+        Failure::new(USAGE, words)
+    }
+
+    /// A refusal, by its number and in words.
+    pub fn refused(number: u8) -> Failure {
+        Failure::new(number, words::refusal(number))
+    }
+
+    /// A refusal of something that has a name.
+    pub fn refused_about(number: u8, subject: &OsStr) -> Failure {
+        let words = format!("{}: {}", subject.display(), words::refusal(number));
+        Failure::new(number, words)
+    }
+
+    /// A file that cannot be opened: perhaps there is none.
+    pub fn open(path: &Path, error: &io::Error) -> Failure {
+        let failure = Failure::disk("open", path, error);
+        match error.kind() {
+            io::ErrorKind::NotFound => Failure::new(MISSING, failure.words),
+            _ => failure,
+        }
+    }
+
+    /// Reading, writing or syncing that failed.
+    pub fn disk(doing: &str, path: &Path, error: &io::Error) -> Failure {
+        let words = format!("cannot {doing} {}: {error}", path.display());
+        Failure::new(INPUT_OUTPUT, words)
+    }
+
+    /// Standard output failed. A reader that went away is no news.
+    pub fn output(error: io::Error) -> Failure {
+        let words = match error.kind() {
+            io::ErrorKind::BrokenPipe => String::new(),
+            _ => format!("cannot write standard output: {error}"),
+        };
+        Failure::new(INPUT_OUTPUT, words)
+    }
+}

@@ -1,0 +1,32 @@
+//! What a command reads from and writes to, and whether a person is looking.
+
+use std::io::{Read, Write};
+
+use crate::status::Failure;
+
+pub struct Streams<'a> {
+    pub input: &'a mut dyn Read,
+    pub out: &'a mut dyn Write,
+    pub err: &'a mut dyn Write,
+    pub out_terminal: bool,
+    pub err_terminal: bool,
+}
+
+impl Streams<'_> {
+    /// Writes part of the answer, at once.
+    pub fn answer(&mut self, bytes: &[u8]) -> Result<(), Failure> {
+        let written = self.out.write_all(bytes).and_then(|()| self.out.flush());
+        written.map_err(Failure::output)
+    }
+
+    /// Tells something on standard error. Where nobody can be told, the work goes on.
+    pub fn tell(&mut self, words: &str) {
+        self.tell_plain(&format!("skywimple: {words}\n"));
+    }
+
+    /// The same, without the name in front.
+    pub fn tell_plain(&mut self, text: &str) {
+        let _ = self.err.write_all(text.as_bytes());
+        let _ = self.err.flush();
+    }
+}

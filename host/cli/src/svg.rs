@@ -1,0 +1,102 @@
+//! The map as a picture. Kinds differ by shape as well as by colour.
+
+use std::fmt::Write;
+
+use crate::map::{Cell, Map, Scaled};
+
+/// The side of a cell, with its gap.
+const STEP: usize = 12;
+const MARGIN: usize = 12;
+const LEGEND: usize = 28;
+/// Room for the legend's text.
+const LEAST_WIDTH: usize = 560;
+
+/// The picture of a log of this name.
+pub fn draw(map: &Map, width: usize, name: &str) -> String {
+    let Scaled { cells, group } = map.scaled(width);
+    let columns = cells.len().min(width).max(1);
+    let rows = cells.len().div_ceil(columns);
+    let wide = (columns * STEP + 2 * MARGIN).max(LEAST_WIDTH);
+    let high = rows * STEP + 2 * MARGIN + LEGEND;
+    let title = format!("The log {}: {}", escaped(name), map.legend(group));
+
+    let mut text = format!(
+        "<svg xmlns=\"http://www.w3.org/2000/svg\" width=\"{wide}\" height=\"{high}\" \
+         viewBox=\"0 0 {wide} {high}\" role=\"img\">\n\
+         <title>{title}</title>\n\
+         <rect width=\"{wide}\" height=\"{high}\" fill=\"#ffffff\"/>\n"
+    );
+    for (at, cell) in cells.iter().enumerate() {
+        let (x, y) = (at % columns * STEP + MARGIN, at / columns * STEP + MARGIN);
+        shape(&mut text, *cell, x, y);
+    }
+    legend(&mut text, map, group, high - MARGIN);
+    text + "</svg>\n"
+}
+
+/// Sound is a full square, doubtful a cross in a frame, blank an empty frame.
+fn shape(text: &mut String, cell: Cell, x: usize, y: usize) {
+    let (fill, line) = match cell {
+        Cell::Sound => ("#2a7f4f", "#2a7f4f"),
+        Cell::Doubtful => ("#ffe3df", "#b3261e"),
+        Cell::Blank => ("#ffffff", "#c4c4c4"),
+    };
+    let _ = writeln!(
+        text,
+        "<rect x=\"{x}\" y=\"{y}\" width=\"9\" height=\"9\" fill=\"{fill}\" stroke=\"{line}\"/>"
+    );
+    if cell == Cell::Doubtful {
+        let _ = writeln!(
+            text,
+            "<path d=\"M{x} {y}l9 9m0 -9l-9 9\" stroke=\"{line}\" stroke-width=\"2\"/>"
+        );
+    }
+}
+
+fn legend(text: &mut String, map: &Map, group: usize, y: usize) {
+    let kinds = [
+        (Cell::Sound, "sound"),
+        (Cell::Doubtful, "doubtful"),
+        (Cell::Blank, "blank"),
+    ];
+    let mut write = |x: usize, words: String| {
+        let _ = writeln!(
+            text,
+            "<text x=\"{x}\" y=\"{y}\" font-family=\"sans-serif\" font-size=\"12\">{words}</text>"
+        );
+    };
+    for (at, (cell, name)) in kinds.iter().enumerate() {
+        let x = MARGIN + 18 + at * 130;
+        write(x, format!("{name} {}", map.count(*cell)));
+    }
+    write(MARGIN + 18 + 390, format!("sectors a cell: {group}"));
+    for (at, (cell, _)) in kinds.iter().enumerate() {
+        shape(text, *cell, MARGIN + at * 130, y - 9);
+    }
+}
+
+/// Text as it may stand in XML; control characters may not.
+fn escaped(name: &str) -> String {
+    let mut text = String::new();
+    for sign in name.chars() {
+        match sign {
+            '&' => text.push_str("&amp;"),
+            '<' => text.push_str("&lt;"),
+            '>' => text.push_str("&gt;"),
+            sign if sign.is_control() => text.push('\u{fffd}'),
+            '\u{fffe}' | '\u{ffff}' => text.push('\u{fffd}'),
+            sign => text.push(sign),
+        }
+    }
+    text
+}
+
+#[cfg(test)]
+mod tests {
+    use super::escaped;
+
+    #[test]
+    fn names_are_escaped() {
+        assert_eq!(escaped("a<b>&\n\u{1}"), "a&lt;b&gt;&amp;\u{fffd}\u{fffd}");
+    }
+}

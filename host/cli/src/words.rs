@@ -1,0 +1,162 @@
+//! The refusals in words: what each is called, when it is given, what to do.
+
+struct Words {
+    name: &'static str,
+    when: &'static str,
+    advice: &'static str,
+}
+
+const fn words(name: &'static str, when: &'static str, advice: &'static str) -> Words {
+    Words { name, when, advice }
+}
+
+/// Refusals 1 to 23, in their order.
+const REFUSALS: [Words; 23] = [
+    words(
+        "ill-framed message",
+        "it has fewer than 4 bytes, or its size isn't the count of bytes after it",
+        "Send each message as size[2] type[1] tag[1] body.",
+    ),
+    words(
+        "lent buffer too short",
+        "a reply takes 57,348 bytes, a report 128",
+        "This is a mistake in the program; please report it.",
+    ),
+    words(
+        "not a log",
+        "a log is whole sectors of 512 bytes, 0 to 131,072 of them",
+        "Give a file that `skywimple init` made, and check the number of its sectors.",
+    ),
+    words(
+        "session closed",
+        "a goodbye was accepted before",
+        "Start another session.",
+    ),
+    words(
+        "no such request",
+        "no request has this message type",
+        "Requests are ping 2, hello 4, goodbye 6, read 12, write 14 and sync 16.",
+    ),
+    words(
+        "ill-formed body",
+        "the message's body isn't laid out as its type asks, or isn't used up exactly",
+        "Mend the sender.",
+    ),
+    words(
+        "no hello yet",
+        "only hello and goodbye may come before an accepted hello",
+        "Send a hello first.",
+    ),
+    words(
+        "hello refused",
+        "it is a second one, or its version isn't 02",
+        "Send one hello, with version 02.",
+    ),
+    words(
+        "no such block type",
+        "it is none of the ten",
+        "Give --type as root (1), dir (2), ptr1 to ptr7 (3 to 9) or data (13).",
+    ),
+    words(
+        "block too long",
+        "a block has at most 57,344 bytes",
+        "Cut it into shorter blocks. Nothing was stored.",
+    ),
+    words(
+        "not held",
+        "no block of this type and score was ever stored in this log",
+        "Check the score and the --type.",
+    ),
+    words(
+        "not known",
+        "part of the log is damaged, so this block may have been stored here or not. \
+         DO NOT READ THIS AS ABSENT",
+        "Ask a copy of the log; storing the block again (`skywimple put`) heals it. \
+         `skywimple report LOG --map` shows the damage.",
+    ),
+    words(
+        "block longer than asked for",
+        "it is held, but has more bytes than the count",
+        "Ask with a larger --count; 57344 is always enough.",
+    ),
+    words(
+        "log full",
+        "too few sectors are left after the used part",
+        "Nothing was stored. Lengthen the log with zeros while no writer runs \
+         (`truncate -s +1M LOG`), or begin another one with `skywimple init`.",
+    ),
+    words(
+        "clash",
+        "a block of this type and score is held that has other bytes",
+        "Nothing was stored. Two blocks with one SHA-1 do not come about by chance: \
+         find out who made them.",
+    ),
+    words(
+        "ill-formed entry or root",
+        "an entry has 40 bytes, is active and its fields agree; a root has version 2",
+        "Check where these bytes come from.",
+    ),
+    words(
+        "offset past the end",
+        "the file ends before it",
+        "Ask for an offset below the file's size.",
+    ),
+    words(
+        "ill-formed pointer block",
+        "its length isn't a multiple of 20",
+        "The tree was written wrongly; store it again from its source.",
+    ),
+    words(
+        "blank page not blank",
+        "it is empty or not all zeros",
+        "This is a mistake in the program; please report it.",
+    ),
+    words(
+        "directories nested too deep",
+        "a walk goes down 16 directories at most",
+        "Walk from a root further down.",
+    ),
+    words(
+        "allowance used up",
+        "the tree has more blocks than visits were allowed",
+        "Ask with a larger --allowance; 1000000 is the most.",
+    ),
+    words(
+        "padding out of bounds",
+        "the target is shorter than the block or past the buffer, \
+         or a pointer length isn't a multiple of 20",
+        "This is a mistake in the program; please report it.",
+    ),
+    words(
+        "allowance too large",
+        "a walk is allowed 1,000,000 visits at most",
+        "Ask with --allowance 1000000 or less.",
+    ),
+];
+
+/// A refusal in words, on one line.
+pub fn refusal(number: u8) -> String {
+    match REFUSALS.get(usize::from(number).wrapping_sub(1)) {
+        Some(w) => format!("{} ({number}): {}. {}", w.name, w.when, w.advice),
+        None => format!("refused ({number})"),
+    }
+}
+
+#[cfg(test)]
+mod tests {
+    use super::refusal;
+
+    #[test]
+    fn not_held_and_not_known_differ() {
+        assert!(refusal(11).starts_with("not held (11): "));
+        assert!(refusal(12).starts_with("not known (12): "));
+        assert!(!refusal(12).contains("not held"));
+    }
+
+    #[test]
+    fn any_number_has_words() {
+        for number in 0..=255 {
+            assert!(refusal(number).contains(&format!("({number})")));
+        }
+    }
+}

@@ -1,0 +1,288 @@
+//! A folder of its own for each test, the program run in it, and messages for `serve`.
+
+#![allow(dead_code)] // each test file uses a part of it
+
+use std::ffi::OsStr;
+use std::fs;
+use std::io::{Read, Write};
+use std::path::{Path, PathBuf};
+use std::process::{Child, ChildStdin, ChildStdout, Command, Stdio};
+use std::sync::atomic::{AtomicUsize, Ordering};
+
+pub const SECTOR: usize = 512;
+
+/// What the program answered.
+#[derive(Debug)]
+pub struct Answer {
+    pub status: i32,
+    pub out: Vec<u8>,
+    pub err: String,
+}
+
+impl Answer {
+    /// Standard output as text, without the last line's end.
+    pub fn text(&self) -> String {
+        let text = String::from_utf8(self.out.clone()).expect("text");
+        text.trim_end().to_string()
+    }
+
+    /// Fails unless the status is this.
+    #[track_caller]
+    pub fn with(self, status: i32) -> Answer {
+        assert_eq!(self.status, status, "{self:?}");
+        self
+    }
+
+    /// Fails unless it is a failure with this status, these words, and nothing on standard output.
+    #[track_caller]
+    pub fn fails(self, status: i32, words: &str) -> Answer {
+        assert_eq!(self.status, status, "{self:?}");
+        assert!(self.out.is_empty(), "{self:?}");
+        assert!(self.err.starts_with("skywimple: "), "{self:?}");
+        assert!(self.err.contains(words), "{words}: {self:?}");
+        self
+    }
+}
+
+/// A temporary folder, removed at the end.
+pub struct Place {
+    pub folder: PathBuf,
+}
+
+static PLACES: AtomicUsize = AtomicUsize::new(0);
+
+impl Place {
+    pub fn new() -> Place {
+        let number = PLACES.fetch_add(1, Ordering::Relaxed);
+        let name = format!("skywimple-test-{}-{number}", std::process::id());
+        let folder = std::env::temp_dir().join(name);
+        let _ = fs::remove_dir_all(&folder);
+        fs::create_dir(&folder).expect("a temporary folder");
+        Place { folder }
+    }
+
+    /// A folder with a log named `log`.
+    pub fn with_log(sectors: usize) -> Place {
+        let place = Place::new();
+        let sectors = sectors.to_string();
+        place.run(&["init", "log", "--sectors", &sectors]).with(0);
+        place
+    }
+
+    pub fn path(&self, name: &str) -> PathBuf {
+        self.folder.join(name)
+    }
+
+    pub fn file(&self, name: &str) -> Vec<u8> {
+        fs::read(self.path(name)).expect(name)
+    }
+
+    pub fn write(&self, name: &str, bytes: impl AsRef<[u8]>) {
+        fs::write(self.path(name), bytes).expect(name);
+    }
+
+    /// The program with these words, its working folder here.
+    pub fn command<W: AsRef<OsStr>>(&self, words: &[W]) -> Command {
+        let mut command = Command::new(env!("CARGO_BIN_EXE_skywimple"));
+        command
+            .args(words)
+            .current_dir(&self.folder)
+            .env_remove("COLUMNS")
+            .stdin(Stdio::null())
+            .stdout(Stdio::piped())
+            .stderr(Stdio::piped());
+        command
+    }
+
+    pub fn run<W: AsRef<OsStr>>(&self, words: &[W]) -> Answer {
+        let output = self.command(words).output().expect("the program runs");
+        Answer {
+            status: output.status.code().expect("no signal"),
+            out: output.stdout,
+            err: String::from_utf8(output.stderr).expect("words"),
+        }
+    }
+
+    /// Runs it with bytes on standard input.
+    pub fn feed<W: AsRef<OsStr>>(&self, words: &[W], input: &[u8]) -> Answer {
+        let mut command = self.command(words);
+        let mut child = command.stdin(Stdio::piped()).spawn().expect("it runs");
+        let mut stdin = child.stdin.take().expect("piped");
+        let output = std::thread::scope(|scope| {
+            // The program may end before it has read everything.
+            scope.spawn(move || stdin.write_all(input).is_ok());
+            child.wait_with_output().expect("it ends")
+        });
+        Answer {
+            status: output.status.code().expect("no signal"),
+            out: output.stdout,
+            err: String::from_utf8(output.stderr).expect("words"),
+        }
+    }
+
+    /// Stores a block in `log` and gives its score.
+    #[track_caller]
+    pub fn put(&self, block: &[u8]) -> String {
+        self.put_as("data", block)
+    }
+
+    #[track_caller]
+    pub fn put_as(&self, kind: &str, block: &[u8]) -> String {
+        let answer = self.feed(&["put", "log", "--type", kind], block).with(0);
+        let score = answer.text();
+        assert_eq!(score, hex(&skywimple_archive::sha1(block)));
+        score
+    }
+
+    pub fn get(&self, score: &str) -> Answer {
+        self.run(&["get", "log", score])
+    }
+
+    #[track_caller]
+    pub fn reads(&self, score: &str, block: &[u8]) {
+        let answer = self.get(score).with(0);
+        assert_eq!(answer.out, block);
+        assert_eq!(answer.err, "");
+    }
+
+    #[track_caller]
+    pub fn not_held(&self, score: &str) {
+        self.get(score).fails(11, "not held (11)");
+    }
+
+    #[track_caller]
+    pub fn not_known(&self, score: &str) {
+        let answer = self.get(score).fails(12, "not known (12)");
+        assert!(!answer.err.contains("not held"), "{answer:?}");
+    }
+
+    /// Changes the bytes of `log`.
+    pub fn damage(&self, change: impl FnOnce(&mut Vec<u8>)) {
+        let mut log = self.file("log");
+        change(&mut log);
+        self.write("log", log);
+    }
+
+    /// `serve` over `log`, with pipes.
+    pub fn serve(&self) -> Server {
+        let mut command = self.command(&["serve", "log"]);
+        let mut child = command.stdin(Stdio::piped()).spawn().expect("it runs");
+        Server {
+            input: child.stdin.take(),
+            output: child.stdout.take().expect("piped"),
+            child,
+        }
+    }
+}
+
+impl Drop for Place {
+    fn drop(&mut self) {
+        let _ = fs::remove_dir_all(&self.folder);
+    }
+}
+
+/// A running `serve`.
+pub struct Server {
+    pub child: Child,
+    pub input: Option<ChildStdin>,
+    pub output: ChildStdout,
+}
+
+impl Server {
+    pub fn send(&mut self, message: &[u8]) {
+        let input = self.input.as_mut().expect("open");
+        input.write_all(message).expect("it listens");
+    }
+
+    /// The next reply, whole; none where the output ends.
+    pub fn reply(&mut self) -> Option<Vec<u8>> {
+        let mut reply = vec![0; 2];
+        self.output.read_exact(&mut reply).ok()?;
+        let size = u16::from_be_bytes([reply[0], reply[1]]);
+        reply.resize(2 + usize::from(size), 0);
+        self.output.read_exact(&mut reply[2..]).ok()?;
+        Some(reply)
+    }
+
+    pub fn ask(&mut self, message: &[u8]) -> Vec<u8> {
+        self.send(message);
+        self.reply().expect("a reply")
+    }
+
+    /// Closes its input and waits; its status and words.
+    pub fn end(mut self) -> (i32, String) {
+        drop(self.input.take());
+        let mut err = String::new();
+        let mut stderr = self.child.stderr.take().expect("piped");
+        stderr.read_to_string(&mut err).expect("words");
+        let status = self.child.wait().expect("it ends");
+        (status.code().expect("no signal"), err)
+    }
+}
+
+pub const HELLO: [u8; 13] = [0, 11, 4, 0, 0, 2, b'0', b'2', 0, 0, 0, 0, 0];
+pub const HELLO_REPLY: [u8; 8] = [0, 6, 5, 0, 0, 0, 0, 0];
+
+pub fn message(kind: u8, tag: u8, body: &[u8]) -> Vec<u8> {
+    let size = (body.len() + 2) as u16;
+    [&size.to_be_bytes()[..], &[kind, tag], body].concat()
+}
+
+pub fn write_message(tag: u8, data: &[u8]) -> Vec<u8> {
+    message(14, tag, &[&[13, 0, 0, 0], data].concat())
+}
+
+pub fn write_reply(tag: u8, data: &[u8]) -> Vec<u8> {
+    message(15, tag, &skywimple_archive::sha1(data))
+}
+
+pub fn read_message(tag: u8, data: &[u8]) -> Vec<u8> {
+    let score = skywimple_archive::sha1(data);
+    message(12, tag, &[&score[..], &[13, 0, 0xff, 0xff]].concat())
+}
+
+pub fn error_reply(tag: u8, number: u8) -> Vec<u8> {
+    let text = format!("why={number:02}");
+    message(1, tag, &[&[0, 6], text.as_bytes()].concat())
+}
+
+pub fn goodbye() -> Vec<u8> {
+    message(6, 0, b"")
+}
+
+pub fn hex(bytes: &[u8]) -> String {
+    bytes.iter().map(|byte| format!("{byte:02x}")).collect()
+}
+
+/// The score of these bytes.
+pub fn score(block: &[u8]) -> String {
+    hex(&skywimple_archive::sha1(block))
+}
+
+/// Different bytes for each seed.
+pub fn block(seed: usize, length: usize) -> Vec<u8> {
+    let mut state = seed as u64 * 2 + 1;
+    let mut next = || {
+        state = state.wrapping_mul(6_364_136_223_846_793_005);
+        state = state.wrapping_add(1_442_695_040_888_963_407);
+        (state >> 56) as u8
+    };
+    (0..length).map(|_| next()).collect()
+}
+
+/// The text of a mark.
+pub fn mark(sectors: usize, used: usize) -> String {
+    let lines = format!("sectors={sectors:08x}\nused={used:08x}\n");
+    let crc = skywimple_archive::crc32(lines.as_bytes());
+    format!("{lines}crc={crc:08x}\n")
+}
+
+/// Whether a folder has only these files.
+pub fn only(folder: &Path, names: &[&str]) -> bool {
+    let mut found: Vec<_> = fs::read_dir(folder)
+        .expect("a folder")
+        .map(|entry| entry.expect("an entry").file_name())
+        .collect();
+    found.sort();
+    found == names
+}

@@ -1,0 +1,170 @@
+//! Writers that are killed, and logs as a crash leaves them.
+
+mod common;
+
+use std::io::Write;
+use std::ops::Range;
+use std::thread;
+
+use common::*;
+
+/// A log with one block, then the same with a second of 5 sectors at sector 2.
+fn before_and_after() -> (Place, [Vec<u8>; 2], Vec<u8>, String) {
+    let place = Place::with_log(16);
+    let blocks = [block(1, 600), block(2, 1900)];
+    place.put(&blocks[0]);
+    let before = (place.file("log"), place.file("log.mark"));
+    place.put(&blocks[1]);
+    let after = place.file("log");
+    place.write("log", before.0);
+    let before = String::from_utf8(before.1).unwrap();
+    (place, blocks, after, before)
+}
+
+/// Puts some bytes of the second append into the log as it was before, with the mark as it was.
+fn tear(place: &Place, before: &[u8], after: &[u8], mark: &str, written: Range<usize>) {
+    let mut log = before.to_vec();
+    log[written.clone()].copy_from_slice(&after[written]);
+    place.write("log", log);
+    place.write("log.mark", mark);
+}
+
+/// The torn block is not known, the earlier one reads, and storing it again heals it.
+#[track_caller]
+fn torn(place: &Place, blocks: &[Vec<u8>; 2]) {
+    let [first, second] = [score(&blocks[0]), score(&blocks[1])];
+    place.not_known(&second);
+    place.not_known(&score(b"never stored"));
+    place.reads(&first, &blocks[0]);
+    place.run(&["report", "log"]).with(32);
+    assert_eq!(place.put(&blocks[1]), second);
+    place.reads(&second, &blocks[1]);
+    place.reads(&first, &blocks[0]);
+}
+
+#[test]
+fn the_first_sectors_of_an_append() {
+    let (place, blocks, after, mark) = before_and_after();
+    let before = place.file("log");
+    let (start, end) = (2 * SECTOR, 7 * SECTOR);
+    for sectors in 1..5 {
+        tear(
+            &place,
+            &before,
+            &after,
+            &mark,
+            start..start + sectors * SECTOR,
+        );
+        torn(&place, &blocks);
+    }
+    for length in [1, 100, 511, 513, 4 * SECTOR + 500] {
+        tear(&place, &before, &after, &mark, start..start + length);
+        torn(&place, &blocks);
+    }
+
+    tear(&place, &before, &after, &mark, start..start);
+    place.not_held(&score(&blocks[1]));
+    tear(&place, &before, &after, &mark, start..end);
+    place.reads(&score(&blocks[1]), &blocks[1]);
+    assert_eq!(place.file("log.mark"), mark.as_bytes());
+    place.put(&blocks[0]);
+    let renewed = common::mark(16, 7);
+    assert_eq!(
+        place.file("log.mark"),
+        renewed.as_bytes(),
+        "by the next writer"
+    );
+}
+
+/// A disk may write later sectors first.
+#[test]
+fn the_last_sectors_of_an_append() {
+    let (place, blocks, after, mark) = before_and_after();
+    let before = place.file("log");
+    for first in 3..7 {
+        tear(&place, &before, &after, &mark, first * SECTOR..7 * SECTOR);
+        torn(&place, &blocks);
+    }
+}
+
+/// A crash inside the replacement of the mark leaves the old one, and perhaps a piece of the new.
+#[test]
+fn a_piece_of_a_new_mark() {
+    let (place, blocks, after, mark) = before_and_after();
+    let before = place.file("log");
+    tear(&place, &before, &after, &mark, 2 * SECTOR..7 * SECTOR);
+    place.write("log.mark.new", "sectors=0000");
+    place.reads(&score(&blocks[1]), &blocks[1]);
+    place.put(b"next");
+    assert_eq!(place.file("log.mark"), common::mark(16, 8).as_bytes());
+    assert!(only(&place.folder, &["log", "log.mark"]));
+}
+
+/// Kills a server that is busy with writes, again and again on one log. Every block that was
+/// answered for is there; any other is whole, not held or not known.
+#[test]
+fn killed_while_appending() {
+    let rounds = 16;
+    let each = 24;
+    let place = Place::with_log(rounds * each * 4);
+    let mut known: Vec<Vec<u8>> = Vec::new();
+    let mut cut_short = 0;
+    for round in 0..rounds {
+        let blocks: Vec<_> = (0..each)
+            .map(|i| block(round * each + i, 1 + (round * 397 + i * 811) % 1600))
+            .collect();
+        let answered = kill_after(&place, &blocks, round % each);
+        cut_short += usize::from(answered < each);
+        known.extend_from_slice(&blocks[..answered]);
+        check(&place, &known, &blocks[answered..]);
+    }
+    assert!(cut_short > 0, "no kill came in time");
+}
+
+/// Sends all writes, waits for so many replies, kills the server, and counts the replies it gave.
+fn kill_after(place: &Place, blocks: &[Vec<u8>], replies: usize) -> usize {
+    let mut server = place.serve();
+    assert_eq!(server.ask(&HELLO), HELLO_REPLY);
+    let mut input = server.input.take().unwrap();
+    let sent: Vec<u8> = blocks.iter().flat_map(|b| write_message(1, b)).collect();
+    let sender = thread::spawn(move || input.write_all(&sent).is_ok());
+    let expected = |i: usize| write_reply(1, &blocks[i]);
+    for i in 0..replies {
+        assert_eq!(server.reply(), Some(expected(i)));
+    }
+    server.child.kill().unwrap();
+    server.child.wait().unwrap();
+    sender.join().unwrap();
+    let mut answered = replies;
+    while let Some(reply) = server.reply() {
+        assert_eq!(reply, expected(answered));
+        answered += 1;
+    }
+    answered
+}
+
+/// Asks for all of these blocks in one session.
+fn check(place: &Place, known: &[Vec<u8>], others: &[Vec<u8>]) {
+    let asked = known.iter().chain(others).map(|b| read_message(1, b));
+    let sent = [HELLO.to_vec(), asked.collect::<Vec<_>>().concat()].concat();
+    let answer = place.feed(&["serve", "log"], &sent).with(0);
+    let mut rest = &answer.out[HELLO_REPLY.len()..];
+    let mut next = || {
+        let size = 2 + usize::from(u16::from_be_bytes([rest[0], rest[1]]));
+        let (reply, left) = rest.split_at(size);
+        rest = left;
+        reply.to_vec()
+    };
+    for block in known {
+        assert!(next() == message(13, 1, block), "an answered block is lost");
+    }
+    for block in others {
+        let lawful = [
+            message(13, 1, block),
+            error_reply(1, 11),
+            error_reply(1, 12),
+        ];
+        assert!(lawful.contains(&next()), "wrong bytes");
+    }
+    assert!(rest.is_empty());
+}

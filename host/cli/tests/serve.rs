@@ -1,0 +1,129 @@
+//! `serve` as a process: framing, replies, statuses.
+
+mod common;
+
+use common::*;
+
+#[test]
+fn a_conversation() {
+    let place = Place::with_log(8);
+    let sent = [
+        message(2, 3, b""),
+        HELLO.to_vec(),
+        message(2, 7, b""),
+        write_message(1, b"card"),
+        write_message(2, b"card"),
+        read_message(3, b"card"),
+        read_message(4, b"never"),
+        message(16, 5, b""),
+        message(99, 6, b"odd"),
+        goodbye(),
+        message(2, 8, b""),
+    ];
+    let answer = place.feed(&["serve", "log"], &sent.concat()).with(0);
+    let replies = [
+        error_reply(3, 7),
+        HELLO_REPLY.to_vec(),
+        message(3, 7, b""),
+        write_reply(1, b"card"),
+        write_reply(2, b"card"),
+        message(13, 3, b"card"),
+        error_reply(4, 11),
+        message(17, 5, b""),
+        error_reply(6, 5),
+    ];
+    assert_eq!(answer.out, replies.concat());
+    assert_eq!(answer.err, "");
+    assert_eq!(place.file("log.mark"), mark(8, 1).as_bytes());
+    place.reads(&score(b"card"), b"card");
+}
+
+/// Each reply comes before the next request is sent, with its block on disk.
+#[test]
+fn a_reply_means_that_it_is_stored() {
+    let place = Place::with_log(64);
+    let mut server = place.serve();
+    assert_eq!(server.ask(&HELLO), HELLO_REPLY);
+    for (tag, length) in [1, 403, 404, 5000].into_iter().enumerate() {
+        let data = block(tag, length);
+        let reply = server.ask(&write_message(tag as u8, &data));
+        assert_eq!(reply, write_reply(tag as u8, &data));
+        place.reads(&score(&data), &data);
+    }
+    assert_eq!(place.file("log.mark"), mark(64, 1 + 1 + 2 + 13).as_bytes());
+    assert_eq!(server.end(), (0, String::new()));
+}
+
+#[test]
+fn an_unanswered_message_is_told_and_the_next_one_answered() {
+    let place = Place::with_log(1);
+    let sent = [&HELLO[..], &[0, 0], &[0, 1, 2], &message(2, 9, b"")].concat();
+    let answer = place.feed(&["serve", "log"], &sent).with(0);
+    assert_eq!(answer.out, [&HELLO_REPLY[..], &message(3, 9, b"")].concat());
+    for number in [2, 3] {
+        let told = format!("message {number} was not answered: ill-framed message (1)");
+        assert!(answer.err.contains(&told), "{answer:?}");
+    }
+}
+
+#[test]
+fn input_that_ends_inside_a_message() {
+    let place = Place::with_log(4);
+    let whole = [&HELLO[..], &write_message(1, b"torn off")].concat();
+    for length in HELLO.len() + 1..whole.len() {
+        let answer = place.feed(&["serve", "log"], &whole[..length]).with(1);
+        assert_eq!(answer.out, HELLO_REPLY);
+        assert!(answer.err.contains("ended inside a message"), "{answer:?}");
+    }
+    place.not_held(&score(b"torn off"));
+    place.feed(&["serve", "log"], b"").with(0);
+}
+
+#[test]
+fn the_longest_messages() {
+    let place = Place::with_log(300);
+    let longest = block(1, 57_344);
+    let too_long = block(2, 65_529);
+    let sent = [
+        HELLO.to_vec(),
+        write_message(1, &longest),
+        write_message(2, &too_long),
+        read_message(3, &longest),
+        message(250, 4, &[7; 65_533]),
+    ];
+    let answer = place.feed(&["serve", "log"], &sent.concat()).with(0);
+    let replies = [
+        HELLO_REPLY.to_vec(),
+        write_reply(1, &longest),
+        error_reply(2, 10),
+        message(13, 3, &longest),
+        error_reply(4, 5),
+    ];
+    assert!(answer.out == replies.concat());
+}
+
+/// A damaged log is served: "not known" over the wire, and healed over it.
+#[test]
+fn not_known_over_the_wire() {
+    let place = Place::with_log(8);
+    place.put(b"card");
+    place.damage(|log| log[100] ^= 1);
+    let sent = [
+        HELLO.to_vec(),
+        read_message(1, b"card"),
+        read_message(2, b"never"),
+        write_message(3, b"card"),
+        read_message(4, b"card"),
+        read_message(5, b"never"),
+    ];
+    let answer = place.feed(&["serve", "log"], &sent.concat()).with(0);
+    let replies = [
+        HELLO_REPLY.to_vec(),
+        error_reply(1, 12),
+        error_reply(2, 12),
+        write_reply(3, b"card"),
+        message(13, 4, b"card"),
+        error_reply(5, 12),
+    ];
+    assert_eq!(answer.out, replies.concat());
+}

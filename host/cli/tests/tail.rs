@@ -1,0 +1,270 @@
+//! The mark: lost tails, `doubt`, `--adopt`.
+
+mod common;
+
+use std::fs;
+
+use common::*;
+
+/// A log of 10 sectors: a block in sectors 0 and 1, one in 2 to 4, one in 5.
+fn filled() -> (Place, [Vec<u8>; 3], [String; 3]) {
+    let place = Place::with_log(10);
+    let blocks = [block(1, 500), block(2, 1000), block(3, 50)];
+    let scores = [0, 1, 2].map(|i| place.put(&blocks[i]));
+    (place, blocks, scores)
+}
+
+/// All that reads or writes a log refuses it, in the same words, and leaves it alone.
+#[track_caller]
+fn refused(place: &Place, status: i32, words: &str) {
+    let before = fs::read(place.path("log")).ok();
+    let any = score(b"any");
+    let entry = "00".repeat(40);
+    let commands: [&[&str]; 6] = [
+        &["get", "log", &any],
+        &["put", "log"],
+        &["serve", "log"],
+        &["report", "log", "--map"],
+        &["read", "log", &entry],
+        &["walk", "log", &any],
+    ];
+    for command in commands {
+        place.run(command).fails(status, words);
+    }
+    assert_eq!(fs::read(place.path("log")).ok(), before);
+}
+
+#[track_caller]
+fn lost(place: &Place, sectors: usize) {
+    let words = lost_words(sectors);
+    refused(place, 65, &words);
+    place.get(&score(b"any")).fails(65, "skywimple doubt log");
+}
+
+fn lost_words(sectors: usize) -> String {
+    match sectors {
+        0 => "no stored sector is lost".to_string(),
+        1 => "the last used sector is lost".to_string(),
+        _ => format!("the last {sectors} used sectors are lost"),
+    }
+}
+
+#[test]
+fn a_zeroed_tail() {
+    for zeroed in 1..=6 {
+        let (place, blocks, scores) = filled();
+        place.damage(|log| log[(6 - zeroed) * SECTOR..].fill(0));
+        lost(&place, zeroed);
+        let told = place.run(&["doubt", "log"]).with(0).text();
+        assert!(told.contains(&lost_words(zeroed)), "{told}");
+        let intact = [2, 5, 6].map(|end| end <= 6 - zeroed);
+        for i in 0..3 {
+            match intact[i] {
+                true => place.reads(&scores[i], &blocks[i]),
+                false => place.not_known(&scores[i]),
+            }
+        }
+        place.not_known(&score(b"never stored"));
+        heals(&place, &blocks, &scores);
+    }
+}
+
+#[track_caller]
+fn heals(place: &Place, blocks: &[Vec<u8>; 3], scores: &[String; 3]) {
+    // Three of ten sectors may be too few for all; a longer log has room.
+    place.damage(|log| log.resize(20 * SECTOR, 0));
+    for (block, score) in blocks.iter().zip(scores) {
+        assert_eq!(&place.put(block), score);
+        place.reads(score, block);
+    }
+    place.not_known(&score(b"never stored"));
+}
+
+/// Cut at every sector, and inside sectors.
+#[test]
+fn a_cut_tail() {
+    let whole = 10 * SECTOR;
+    let cuts = (0..10).map(|sectors| sectors * SECTOR);
+    for length in cuts.chain([1, 700, 5 * SECTOR + 1, 6 * SECTOR - 1, whole - 1]) {
+        let (place, blocks, scores) = filled();
+        place.damage(|log| log.truncate(length));
+        let gone = 6 - (length / SECTOR).min(6);
+        lost(&place, gone);
+        let told = place.run(&["doubt", "log"]).with(0).text();
+        assert!(told.contains(&lost_words(gone)), "{told}");
+        assert_eq!(place.file("log").len(), whole);
+        for (i, end) in [2, 5, 6].into_iter().enumerate() {
+            match end * SECTOR <= length {
+                true => place.reads(&scores[i], &blocks[i]),
+                false => place.not_known(&scores[i]),
+            }
+        }
+        if length >= 6 * SECTOR {
+            place.not_held(&score(b"never stored"));
+        } else {
+            heals(&place, &blocks, &scores);
+        }
+    }
+}
+
+/// A copy that is older than the mark is a loss too; the newest one fits.
+#[test]
+fn a_log_restored_from_a_copy() {
+    let (place, blocks, scores) = filled();
+    let older = place.file("log");
+    let newest = place.put(b"newest");
+    let newer = place.file("log");
+    place.damage(|log| log.clear());
+    lost(&place, 7);
+    place.write("log", older);
+    lost(&place, 1);
+    place.write("log", newer);
+    place.reads(&scores[1], &blocks[1]);
+    place.reads(&newest, b"newest");
+    place.not_held(&score(b"never stored"));
+}
+
+#[test]
+fn a_missing_log() {
+    let (place, blocks, scores) = filled();
+    fs::remove_file(place.path("log")).unwrap();
+    refused(
+        &place,
+        65,
+        "there is no such file: the last 6 used sectors are lost",
+    );
+    place.run(&["doubt", "log"]).with(0);
+    for score in &scores {
+        place.not_known(score);
+    }
+    heals(&place, &blocks, &scores);
+
+    let empty = Place::with_log(4);
+    fs::remove_file(empty.path("log")).unwrap();
+    refused(&empty, 65, "there is no such file");
+    empty.run(&["doubt", "log"]).with(0);
+    assert_eq!(empty.file("log"), [0; 4 * SECTOR]);
+    empty.not_held(&score(b"nothing was ever stored"));
+}
+
+/// The library sees this by itself: blank sectors inside the used part are doubtful.
+#[test]
+fn a_zeroed_middle() {
+    let (place, blocks, scores) = filled();
+    place.damage(|log| log[2 * SECTOR..5 * SECTOR].fill(0));
+    place.reads(&scores[0], &blocks[0]);
+    place.not_known(&scores[1]);
+    place.reads(&scores[2], &blocks[2]);
+    let told = place.run(&["doubt", "log"]).with(0).text();
+    assert!(told.contains("nothing was written"), "{told}");
+    place.put(&blocks[1]);
+    place.reads(&scores[1], &blocks[1]);
+}
+
+#[test]
+fn doubt_writes_nothing_where_nothing_is_lost() {
+    let (place, _, scores) = filled();
+    let before = (place.file("log"), place.file("log.mark"));
+    let told = place.run(&["doubt", "log"]).with(0).text();
+    assert!(told.contains("nothing was written"), "{told}");
+    assert_eq!((place.file("log"), place.file("log.mark")), before);
+    place.get(&scores[2]).with(0);
+}
+
+/// The sector of doubt can be read by a person, and by no check.
+#[test]
+fn the_sector_of_doubt() {
+    let (place, _, _) = filled();
+    place.damage(|log| log[4 * SECTOR..].fill(0));
+    place.run(&["doubt", "log"]).with(0);
+    let log = place.file("log");
+    assert!(log[5 * SECTOR..].starts_with(b"skywimple doubt: "));
+    assert_eq!(log[6 * SECTOR - 13..6 * SECTOR], [0; 13]);
+    assert!(log[4 * SECTOR..5 * SECTOR].iter().all(|byte| *byte == 0));
+    assert_eq!(place.file("log.mark"), mark(10, 6).as_bytes());
+    place.run(&["doubt", "log"]).with(0);
+    assert_eq!(place.file("log"), log, "once is enough");
+}
+
+#[test]
+fn a_log_without_a_mark() {
+    for command in ["put", "serve", "report", "get", "walk", "read"] {
+        let (place, blocks, scores) = filled();
+        fs::remove_file(place.path("log.mark")).unwrap();
+        refused(&place, 66, "log has no mark");
+        place.run(&["doubt", "log"]).fails(66, "--adopt");
+        assert!(only(&place.folder, &["log"]), "nothing is made unasked");
+        let entry = "00".repeat(40);
+        let words: &[&str] = match command {
+            "get" | "walk" => &[command, "log", &scores[0], "--adopt"],
+            "read" => &[command, "log", &entry, "--adopt"],
+            _ => &[command, "log", "--adopt"],
+        };
+        let answer = place.run(words);
+        let told = "adopted log as it is: 10 sectors, 6 of them used";
+        assert!(answer.err.contains(told), "{answer:?}");
+        assert_eq!(place.file("log.mark"), mark(10, 6).as_bytes());
+        place.reads(&scores[1], &blocks[1]);
+    }
+}
+
+#[test]
+fn a_damaged_mark() {
+    let good = mark(10, 6);
+    let bad = [
+        good.replace("used=00000006", "used=00000005"),
+        good.replace("\n", "\r\n"),
+        good.clone() + "\n",
+        good[..good.len() - 1].to_string(),
+        String::new(),
+        mark(10, 11),
+        mark(131_073, 6),
+        good.to_uppercase(),
+    ];
+    for text in bad {
+        let (place, blocks, scores) = filled();
+        place.write("log.mark", &text);
+        refused(&place, 65, "log.mark is damaged");
+        place.run(&["doubt", "log"]).fails(65, "is damaged");
+        assert_eq!(place.file("log.mark"), text.as_bytes());
+        let get = ["get", "log", &scores[2], "--adopt"];
+        assert_eq!(place.run(&get).with(0).out, blocks[2]);
+        assert_eq!(place.file("log.mark"), good.as_bytes());
+    }
+}
+
+/// A good mark that says more than the log has is never adopted away.
+#[test]
+fn adopt_hides_no_loss() {
+    let (place, _, scores) = filled();
+    place.damage(|log| log[5 * SECTOR..].fill(0));
+    let get = ["get", "log", &scores[2], "--adopt"];
+    place.run(&get).fails(65, "the last used sector is lost");
+    assert_eq!(place.file("log.mark"), mark(10, 6).as_bytes());
+}
+
+#[test]
+fn files_that_are_no_logs() {
+    let place = Place::new();
+    let get = |name: &str| place.run(&["get", name, &score(b""), "--adopt"]);
+    get("none").fails(66, "no such log: none");
+    get(".").fails(66, "is not a file");
+    place.write("odd", [0; 700]);
+    get("odd").fails(3, "odd: not a log (3)");
+    let long = fs::File::create(place.path("long")).unwrap();
+    long.set_len(131_073 * SECTOR as u64).unwrap();
+    get("long").fails(3, "long: not a log (3)");
+    assert!(only(&place.folder, &["long", "odd"]));
+}
+
+/// The mark stands beside the file that a symbolic link leads to.
+#[test]
+fn through_a_symbolic_link() {
+    let (place, blocks, scores) = filled();
+    std::os::unix::fs::symlink(place.path("log"), place.path("link")).unwrap();
+    let get = place.run(&["get", "link", &scores[0]]).with(0);
+    assert_eq!(get.out, blocks[0]);
+    place.feed(&["put", "link"], b"new").with(0);
+    assert_eq!(place.file("log.mark"), mark(10, 7).as_bytes());
+    assert!(only(&place.folder, &["link", "log", "log.mark"]));
+}
