@@ -203,6 +203,47 @@ fn enumeration() {
 }
 
 #[test]
+fn runs_of_a_file() {
+    on_both(|archive| {
+        let mut log = vec![0; 4 * SECTOR];
+        let data = vec![5; 500];
+        assert_eq!(ask(archive, &mut log, &write(13, &data)).0, 0);
+        let file = entry(1, 1000, &sha1(&data));
+        let run = |place, start, len| Ok(Run { place, start, len });
+        let page = [0; 300];
+        for (offset, expected) in [
+            (0, run(Place::Log, 96, 403)),
+            (499, run(Place::Log, 704, 1)),
+            (500, run(Place::Page, 0, 300)),
+            (900, run(Place::Page, 0, 100)),
+            (1000, Err(17)),
+        ] {
+            assert_eq!(archive.locate(&log, &page, &file, offset), expected);
+        }
+        assert_eq!(archive.locate(&log, &[], &file, 0), Err(19));
+        assert_eq!(archive.locate(&log, &page, &file[1..], 0), Err(16));
+        log[700] ^= 1;
+        assert_eq!(archive.locate(&log, &page, &file, 0), Err(12));
+    });
+}
+
+#[test]
+fn sizes_of_logs() {
+    on_both(|archive| {
+        let mut reply = vec![0; 57_348];
+        let mut log = vec![0; 131_073 * SECTOR];
+        let greet = |archive: &mut dyn Archive, log: &mut [u8], reply: &mut [u8]| {
+            archive.serve(Session::Fresh, &HELLO, log, reply).0
+        };
+        assert_eq!(greet(archive, &mut log, &mut reply), 3);
+        assert_eq!(archive.walk(&log, &ZERO_SCORE, 9), (3, 0));
+        assert_eq!(archive.sound_at(&log, 0), Err(3));
+        log.truncate(131_072 * SECTOR);
+        assert_eq!(greet(archive, &mut log, &mut reply), 0);
+    });
+}
+
+#[test]
 fn walks() {
     on_both(|archive| {
         let mut log = vec![0; 8 * SECTOR];
