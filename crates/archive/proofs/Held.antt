@@ -1,32 +1,19 @@
 -- What look-up finds stands in the log at the place and of the size that it says.
 use mathlib.Core.Path.{_≡_, refl, sym, ap, ap₂, _∙_}
-use mathlib.Core.Bool.{Bool, true, false, cond, _&&_}
 use mathlib.Core.Option.{Option, none, some}
 use Prim.Native.Nat.{ℕ, _+_, _≤_}
 use native.Mathlib.Omega.{arith}
 use lib.ListN.{length}
-use Rattle.buffer.specs.Bytes.{Bytes, same}
-use Rattle.kind.specs.Kind.{lawful, longest, zeroScore}
+use Rattle.buffer.specs.Bytes.{Bytes}
+use Rattle.kind.specs.Kind.{longest}
 use Rattle.refusal.specs.declared.Refusal.{Refusal}
 use Rattle.sector.specs.declared.SectorNumber.{SectorNumber}
 use Rattle.block.specs.Block.{Row, partsOf, parts}
 use Rattle.block.specs.Log.{sectors}
-use Rattle.block.proofs.Facts.{valid-facts}
-use Rattle.block.proofs.Sound.{sound-reads}
 use Rattle.reader.specs.Reader.{bytesAt}
 use Rattle.log.specs.declared.Look.the-variants.{Found, Refused}
-use Rattle.log.specs.LookUp.{on, blocks, firstOf, emptyRow, held, absence, lookUp}
-use Rattle.log.proofs.First.{first-sound}
-use Rattle.store.proofs.Laws.{Stands, held-stands}
-
--- it is never longer than the longest block
-held-most : (log : Bytes) (t : ℕ) (s : Bytes) (r : Row) → held log t s ≡ some r → length (r .bytes) ≤ longest
-unfolding held
-held-most log t s r e = go (lawful t && same s zeroScore) e
-  where
-    go : (b : Bool) → cond b (some (emptyRow t)) (firstOf t s (blocks log)) ≡ some r → length (r .bytes) ≤ longest
-    go true q = let z : emptyRow t ≡ r = cc in omega (arith, ap (λ (x : Row). length (x .bytes)) z)
-    go false q = (valid-facts r ((sound-reads log (r .first) r ((first-sound log t s r q) .0)) .0)) .not-many
+use Rattle.log.specs.LookUp.{on, held, absence, lookUp}
+use Rattle.lookup.proofs.Held.{Stands, held-stands}
 
 -- what was found, as a row
 pub record Shown (log : Bytes) (t : ℕ) (s : Bytes) (f : SectorNumber) (n : ℕ) : Type 0 where
@@ -67,7 +54,7 @@ module _ (log : Bytes) (t : ℕ) (s : Bytes) where
         omega (arith, p, stands .within)
 
     pub found-most : n ≤ longest
-    found-most = omega (arith, shown .size, held-most log t s (shown .row) (shown .is-held))
+    found-most = omega (arith, shown .size, stands .not-many)
 
     pub found-bytes : shown .row .bytes ≡ bytesAt log (f .0) n
     found-bytes = stands .bytes-there ∙ ap₂ (bytesAt log) (sym (shown .place)) (sym (shown .size))

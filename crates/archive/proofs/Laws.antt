@@ -31,7 +31,7 @@ use Rattle.message.specs.Message.{framed, tagOf, versionOf, requestOf}
 use Rattle.message.specs.Reply.{reply, answered, helloReply, readReply, writeReply}
 use Rattle.message.specs.declared.Request.{Request}
 use Rattle.message.specs.declared.Request.the-variants.{Hello}
-use Rattle.message.proofs.Put.{put-none}
+use Rattle.buffer.proofs.Put.{put-none}
 use Rattle.message.proofs.Replies.{head, head-body}
 use Rattle.archive.specs.declared.Session.{Session}
 use Rattle.archive.specs.declared.Session.the-variants.{Fresh, Greeted}

@@ -1,25 +1,24 @@
 -- What locating a file's bytes gives is small: a start below 2^26, a length of at most 57,344.
 use mathlib.Core.Path.{_≡_, refl, sym, ap, _∙_}
-use Prim.Native.Nat.{ℕ, zero, suc, _+_, _-_, _*_, _/_, _%_, _^_, _≤_, _<_, min}
+use Prim.Native.Nat.{ℕ, _+_, _-_, _*_, _/_, _%_, _^_, _≤_, _<_, min}
 use native.Mathlib.Nat.{min-le-left, min-le-right}
 use native.Mathlib.Omega.{arith}
-use lib.Dec.{leb, ltb, eqb}
+use lib.Dec.{ltb}
 use borrow.Author.Tests.{ltb-true}
 use lib.ListN.{length}
-use Rattle.buffer.specs.Bytes.{Bytes, same}
-use Rattle.kind.specs.Kind.{zeroScore}
+use Rattle.buffer.specs.Bytes.{Bytes}
 use Rattle.block.specs.Block.{Row, partsOf}
 use Rattle.block.specs.Log.{sectors}
 use Rattle.block.proofs.Cases.{cond-ind}
-use Rattle.log.specs.LookUp.{held, logAllowed}
-use Rattle.log.proofs.Cases.{on-ind}
+use Rattle.log.specs.LookUp.{logAllowed}
+use Rattle.lookup.proofs.Held.{Stands}
 use Rattle.lookup.proofs.Laws.{allowed-sectors}
 use Rattle.entry.specs.declared.Entry.{Entry}
 use Rattle.entry.specs.Entry.{entryOf, scoreOf}
 use Rattle.file.specs.declared.Located.{Located}
 use Rattle.file.specs.declared.Located.the-variants.{Stored, Zeros, Refused}
-use Rattle.file.specs.File.{zeroRun, storedRun, placeIn, leafRun, fetched, pageAllowed, entryReadable, under, located}
-use Rattle.file.proofs.Counted.{Place, held-place}
+use Rattle.file.specs.File.{zeroRun, storedRun, placeIn, leafRun, pageAllowed, entryReadable, under, located}
+use Rattle.file.proofs.Under.{under-ind}
 use Rattle.file.proofs.Places.{parts-over}
 use Rattle.file.proofs.Tests.{opened}
 
@@ -38,30 +37,21 @@ module _ (log : Bytes) (page : ℕ) (e : Entry) (offset : ℕ) (h : sectors (len
       let c = e .size - offset in
       omega (arith, min-le-right page (min b c), min-le-left b c)
 
-  stored-small : (r : Row) → Place log r → offset % e .dsize < length (r .bytes) → Small (storedRun e offset (r .first) (length (r .bytes)))
+  stored-small : (r : Row) → Stands log r → offset % e .dsize < length (r .bytes) → Small (storedRun e offset (r .first) (length (r .bytes)))
   stored-small r P g =
       let k = offset % e .dsize in (
-        place-small (length log) (r .first) (length (r .bytes)) k h (P .room) g,
+        place-small (length log) (r .first) (length (r .bytes)) k h (P .within) g,
         omega (arith, min-le-left (403 - k % 403) (min (length (r .bytes) - k) (e .size - offset))),
       )
 
-  leaf-small : (r : Row) → Place log r → Small (leafRun page e offset (r .first) (length (r .bytes)))
+  leaf-small : (r : Row) → Stands log r → Small (leafRun page e offset (r .first) (length (r .bytes)))
   unfolding leafRun
   leaf-small r P =
       cond-ind Small (ltb (offset % e .dsize) (length (r .bytes))) _ _
       (λ q. stored-small r P (ltb-true (offset % e .dsize) (length (r .bytes)) q)) (λ _. zero-small)
 
-  fetched-small : (t : ℕ) (s : Bytes) (count : ℕ) (f : Row → Located) → ((r : Row) → Place log r → Small (f r)) → Small (fetched log t s count f)
-  fetched-small t s count f g =
-      on-ind Small (held log t s) _ _ (λ _. tt)
-      (λ r q. cond-ind Small (leb (length (r .bytes)) count) _ _ (λ _. g r (held-place log t s r q)) (λ _. tt))
-
   under-small : (level : ℕ) (s : Bytes) → Small (under log page e offset level s)
-  unfolding under
-  under-small zero s = cond-ind Small (same s zeroScore) _ _ (λ _. zero-small) (λ _. fetched-small _ s (e .dsize) _ leaf-small)
-  under-small (suc k) s =
-      cond-ind Small (same s zeroScore) _ _ (λ _. zero-small)
-      (λ _. fetched-small _ s (e .psize) _ (λ r P. cond-ind Small (eqb (length (r .bytes) % 20) 0) _ _ (λ _. under-small k _) (λ _. tt)))
+  under-small = under-ind log page e offset Small (λ _. tt) zero-small leaf-small
 
 pub located-small : (log page b : Bytes) (offset : ℕ) → Small (located log page b offset)
 unfolding located

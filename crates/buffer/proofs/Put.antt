@@ -3,8 +3,9 @@ use mathlib.Core.Path.{_≡_, refl, sym, ap, ap₂, _∙_}
 use mathlib.Core.List.{List, [], _∷_, _++_, append-assoc, append-nil}
 use Prim.Native.Nat.{ℕ, _+_, _-_, _≤_, _<_, min}
 use native.Mathlib.Omega.{arith}
+use native.Mathlib.Nat.{zero-add, add-zero}
 use native.Mathlib.Numerals.{add-one}
-use lib.ListN.{length, getD, take, drop, set, length-append, length-take, length-drop, drop-of-length-le}
+use lib.ListN.{length, getD, take, drop, set, length-append, length-take, length-drop, drop-of-length-le, take-append-drop}
 use lib.Seq.{take-at, drop-at, drop-append-add, drop-drop, set-split, take-all, drop-append-le, take-append-le, length-take-le, take-take}
 use Rattle.buffer.specs.Bytes.{Bytes, put}
 
@@ -26,20 +27,21 @@ module _ (d : Bytes) (at : ℕ) (x : Bytes) (h : at + length x ≤ length d) whe
   drop-put = ap (drop (at + length x)) head ∙ drop-at (take at d ++ x) (drop (at + length x) d) (at + length x) head-length
 
 -- two writes side by side are one
-pub put-put : (d : Bytes) (at : ℕ) (x y : Bytes) → at + (length x + length y) ≤ length d → put (put d at x) (at + length x) y ≡ put d at (x ++ y)
+pub put-put : (d : Bytes) (at : ℕ) (x y : Bytes) → at ≤ length d → put (put d at x) (at + length x) y ≡ put d at (x ++ y)
 put-put d at x y h =
-    let n = at + length x in
-    let rest : drop (n + length y) (put d at x) ≡ drop (n + length y) d =
-    sym (drop-drop (length y) n (put d at x)) ∙ ap (drop (length y)) (drop-put d at x (omega arith)) ∙ drop-drop (length y) n d in
-    let same : n + length y ≡ at + length (x ++ y) = omega (arith, length-append x y) in
-    ap₂ (λ (p q : Bytes). p ++ (y ++ q)) (take-put d at x (omega arith)) rest
-    ∙ append-assoc (take at d) x (y ++ drop (n + length y) d)
-    ∙ ap (λ (q : Bytes). take at d ++ q) (sym (append-assoc x y (drop (n + length y) d)))
-    ∙ ap (λ (k : ℕ). take at d ++ ((x ++ y) ++ drop k d)) same
+    let k = at + length x in
+    let p = take at d ++ x in
+    let q = drop k d in
+    let l : length p ≡ k = simp (length-append, length-take) (omega arith) in
+    let whole : k + length y ≡ at + length (x ++ y) = simp length-append (omega arith) in
+    ap (λ (z : Bytes). put z k y) (sym (append-assoc (take at d) x q))
+    ∙ ap₂ (λ (a b : Bytes). a ++ (y ++ b)) (take-at p q k l) (ap (λ (w : ℕ). drop (w + length y) (p ++ q)) (sym l) ∙ drop-append-add p q (length y) ∙ drop-drop (length y) k d)
+    ∙ append-assoc (take at d) x (y ++ drop (k + length y) d)
+    ∙ ap (λ (z : Bytes). take at d ++ z) (sym (append-assoc x y (drop (k + length y) d)) ∙ ap (λ (w : ℕ). x ++ y ++ drop w d) whole)
 
 -- the same where the second place is only known to be the end of the first
 pub put-next : (d : Bytes) (at n : ℕ) (x y : Bytes) → n ≡ at + length x → at + (length x + length y) ≤ length d → put (put d at x) n y ≡ put d at (x ++ y)
-put-next d at n x y e h = ap (λ (k : ℕ). put (put d at x) k y) e ∙ put-put d at x y h
+put-next d at n x y e h = ap (λ (k : ℕ). put (put d at x) k y) e ∙ put-put d at x y (omega arith)
 
 -- a part from a to e that was lent and came back whole
 pub put-mid : (d ys : Bytes) (a e : ℕ) → a ≤ e → length ys ≡ e - a → take a d ++ (ys ++ drop (e - a) (drop a d)) ≡ put d a ys
@@ -52,3 +54,14 @@ put-one d i v h = set-split d i v h ∙ ap (λ (k : ℕ). take i d ++ (v ∷ dro
 -- a write of the whole
 pub put-whole : (d x : Bytes) → length x ≡ length d → put d 0 x ≡ x
 put-whole d x e = let n : length d ≤ 0 + length x = omega arith in rw (drop-of-length-le d n) (append-nil x)
+
+-- nothing written
+pub put-none : (d : Bytes) (at : ℕ) → put d at [] ≡ d
+put-none d at = rw add-zero (take-append-drop at d)
+
+-- at the front
+pub put-front : (d x : Bytes) → put d 0 x ≡ x ++ drop (length x) d
+put-front d x = ap (λ (k : ℕ). x ++ drop k d) (zero-add (length x))
+
+pub put-front-put : (d x y : Bytes) → put (put d 0 x) (length x) y ≡ put d 0 (x ++ y)
+put-front-put d x y = ap (λ (k : ℕ). put (put d 0 x) k y) (sym (zero-add (length x))) ∙ put-put d 0 x y (omega arith)

@@ -14,42 +14,14 @@ use Rattle.refusal.specs.declared.Refusal.the-variants as why
 use Rattle.sector.specs.declared.SectorNumber.{SectorNumber}
 use Rattle.block.specs.Block.{Row, parts, partsOf}
 use Rattle.block.specs.Log.{sectors}
-use Rattle.block.proofs.Facts.{valid-facts}
-use Rattle.block.proofs.Sound.{sound-reads, sound-bytes}
 use Rattle.log.specs.declared.Look.{Look}
 use Rattle.log.specs.declared.Look.the-variants as look
 use Rattle.log.specs.LookUp.{on, emptyRow, blocks, firstOf, held, absence, lookUp}
-use Rattle.log.proofs.First.{first-sound}
-use Rattle.reader.specs.Reader.{bytesAt}
+use Rattle.lookup.proofs.Held.{Stands, held-stands}
 use Rattle.file.specs.declared.Located.{Located}
 use Rattle.file.specs.declared.Located.the-variants.{Refused}
 use Rattle.file.specs.File.{fetched}
 use Rattle.file.specs.Fetch.{within}
-
--- ---- a found block
-
-pub record Place (log : Bytes) (r : Row) : Type 0 where
-  pub stored : r .bytes ≡ bytesAt log (r .first) (length (r .bytes))
-  pub room : r .first + parts r ≤ sectors (length log)
-  pub short : length (r .bytes) ≤ 57344
-
-empty-place : (log : Bytes) (t : ℕ) → Place log (emptyRow t)
-unfolding partsOf
-empty-place log t = record { stored = refl; room = omega arith; short = omega arith }
-
-sound-place : (log : Bytes) (t : ℕ) (s : Bytes) (r : Row) → firstOf t s (blocks log) ≡ some r → Place log r
-sound-place log t s r e =
-    let p = (first-sound log t s r e) .0 in
-    let q = sound-reads log (r .first) r p in
-    record { stored = sound-bytes log (r .first) r p; room = q .2; short = (valid-facts r (q .0)) .not-many }
-
-pub held-place : (log : Bytes) (t : ℕ) (s : Bytes) (r : Row) → held log t s ≡ some r → Place log r
-unfolding held
-held-place log t s r e = go (lawful t && same s zeroScore) refl e
-  where
-    go : (b : Bool) → (lawful t && same s zeroScore) ≡ b → cond b (some (emptyRow t)) (firstOf t s (blocks log)) ≡ some r → Place log r
-    go true q z = let x : emptyRow t ≡ r = cc in rw (← x) (empty-place log t)
-    go false q z = sound-place log t s r z
 
 -- ---- the count
 
@@ -82,7 +54,7 @@ fetched-refused log t s count f y e = go (held log t s) e
 -- found
 pub record Fetched (log : Bytes) (t : ℕ) (s : Bytes) (count : ℕ) (x : SectorNumber) (n : ℕ) : Type 0 where
   pub row : Row
-  pub place : Place log row
+  pub place : Stands log row
   pub first : row .first ≡ x .0
   pub size : length (row .bytes) ≡ n
   pub is : (f : Row → Located) → f row ≡ fetched log t s count f
@@ -103,7 +75,7 @@ fetched-found log t s count x n e = go (held log t s) refl e
         let p = passed (leb (length (r .bytes)) count) (record { 0 = r .first }) (length (r .bytes)) q in
         record {
           row = r;
-          place = held-place log t s r h;
+          place = held-stands log t s r h;
           first = ap (λ (y : SectorNumber). y .0) (sym (p .1));
           size = sym (p .2);
           is = λ f. rw (h, p .0) refl;

@@ -2,6 +2,7 @@ pub mod Places
 pub mod Counted
 pub mod Steps
 pub mod Tests
+pub mod Under
 pub mod Inside
 pub mod Examples
 pub mod Missing

@@ -41,10 +41,10 @@ module _ (log : Bytes) (t : ℕ) (s : Bytes) (count : ℕ) (l : Look) (f : Secto
   found = fetched-found log t s count f n (sym q ∙ el)
 
   pub found-room : f .0 + partsOf n ≤ sectors (length log)
-  found-room = let F = found in omega (arith, F .first, ap partsOf (F .size), F .place .room)
+  found-room = let F = found in omega (arith, F .first, ap partsOf (F .size), F .place .within)
 
   pub found-short : n ≤ 57344
-  found-short = let F = found in omega (arith, F .size, F .place .short)
+  found-short = let F = found in omega (arith, F .size, F .place .not-many)
 
 -- ---- below a score
 
@@ -96,6 +96,6 @@ module _ (log : Bytes) (page : ℕ) (e : Entry) (offset : ℕ) where
       unfolding below
       level-next i next h ei en =
           let k : length (F .row .bytes) % 20 ≡ 0 = ap (λ (x : ℕ). x % 20) (F .size) ∙ h in
-          let same-bytes : bytesAt log (f .0) n ≡ F .row .bytes = ap₂ (bytesAt log) (sym (F .first)) (sym (F .size)) ∙ sym (F .place .stored) in
+          let same-bytes : bytesAt log (f .0) n ≡ F .row .bytes = ap₂ (bytesAt log) (sym (F .first)) (sym (F .size)) ∙ sym (F .place .bytes-there) in
           ap (under log page e offset d) (en ∙ ap₂ pointer same-bytes ei)
           ∙ sym (rw (eq-eqb (length (F .row .bytes) % 20) 0 k) refl) ∙ F .is below ∙ level-opened

@@ -9,7 +9,7 @@ use Rattle.buffer.specs.Bytes.{Bytes}
 use Rattle.block.specs.Block.{Row}
 use Rattle.log.specs.LookUp.{held}
 use Rattle.file.specs.File.{placeIn}
-use Rattle.file.proofs.Counted.{held-place}
+use Rattle.lookup.proofs.Held.{held-stands}
 use Rattle.file.proofs.Places.{place-within, byte-place}
 
 next-place : (n k i : ℕ) → k % 403 + i < 403 → placeIn n (k + i) ≡ placeIn n k + i
@@ -22,10 +22,10 @@ next-place n k i h =
 pub stored-bytes : (log : Bytes) (t : ℕ) (s : Bytes) (r : Row) → held log t s ≡ some r → (k m : ℕ) → 0 < m → m ≤ 403 - k % 403 → k + m ≤ length (r .bytes)
     → take m (drop (placeIn (r .first) k) log) ≡ take m (drop k (r .bytes))
 stored-bytes log t s r e k m pos a b =
-    let P = held-place log t s r e in
+    let P = held-stands log t s r e in
     let n = r .first in
     let size = length (r .bytes) in
-    let last : placeIn n k + (m - 1) < length log = rw (← next-place n k (m - 1) (omega arith)) (place-within log n size (P .room) (k + (m - 1)) (omega arith)) in
+    let last : placeIn n k + (m - 1) < length log = rw (← next-place n k (m - 1) (omega arith)) (place-within log n size (P .within) (k + (m - 1)) (omega arith)) in
     let left : length (take m (drop (placeIn n k) log)) ≡ m = simp (length-take, length-drop) (omega arith) in
     let right : length (take m (drop k (r .bytes))) ≡ m = simp (length-take, length-drop) (omega arith) in
     ext-getD 0 (take m (drop (placeIn n k) log)) (take m (drop k (r .bytes))) (left ∙ sym right)
@@ -34,6 +34,6 @@ stored-bytes log t s r e k m pos a b =
     let p : k % 403 + i < 403 = omega arith in
     getD-take m (drop (placeIn n k) log) i 0 g ∙ getD-drop (placeIn n k) log i 0
     ∙ ap (λ (x : ℕ). getD log x 0) (sym (next-place n k i p))
-    ∙ sym (byte-place log n size (P .room) (k + i) o)
-    ∙ ap (λ (x : Bytes). getD x (k + i) 0) (sym (P .stored))
+    ∙ sym (byte-place log n size (P .within) (k + i) o)
+    ∙ ap (λ (x : Bytes). getD x (k + i) 0) (sym (P .bytes-there))
     ∙ sym (getD-take m (drop k (r .bytes)) i 0 g ∙ getD-drop k (r .bytes) i 0))

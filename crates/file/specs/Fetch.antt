@@ -17,7 +17,7 @@ within count (look.Refused w) = look.Refused w
 
 -- the refusal of a look-up that found nothing; one that found something is never asked
 abbrev pub handedOn : Look → Located
-handedOn (look.Found first size) = Refused why.NotHeld
+handedOn (look.Found first size) = Refused why.NotKnown
 handedOn (look.Refused w) = Refused w
 
 -- a log of m bytes, an entry and an offset that the tests let through

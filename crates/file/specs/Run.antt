@@ -1,6 +1,6 @@
 -- A run as a part of the log or of the lent page: its bytes, and its place in memory.
 use mathlib.Core.Path.{_≡_}
-use mathlib.Core.List.{List, []}
+use mathlib.Core.List.{List}
 use Prim.Native.Nat.{ℕ, _+_}
 use lib.ListN.{take, drop}
 use denote.Ref.{RefT, ptr, now}
@@ -13,8 +13,8 @@ pub record Part (s : RefT (List ℕ)) (k n : ℕ) (r : RefT (List ℕ)) : Type 0
   pub block : ptr r .0 ≡ ptr s .0
   pub place : ptr r .1 ≡ k + ptr s .1
 
--- "handed back as a part of the log or of the lent blank page"; "A refusal hands back an empty part"
+-- "handed back as a part of the log or of the lent blank page"; "A refusal hands back an empty part", the page's
 abbrev pub runOf : Located → RefT (List ℕ) → RefT (List ℕ) → RefT (List ℕ) → Type 0
 runOf (Stored at n) log page r = Part log at n r
 runOf (Zeros n) log page r = Part page 0 n r
-runOf (Refused w) log page r = now r ≡ []
+runOf (Refused w) log page r = Part page 0 0 r

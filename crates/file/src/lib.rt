@@ -106,7 +106,7 @@ fn handed_on(look: Look) -> Located
 {
     match look {
         Look::Refused(why) => Located::Refused(why),
-        Look::Found { first: _, size: _ } => Located::Refused(Refusal::NotHeld),
+        Look::Found { first: _, size: _ } => Located::Refused(Refusal::NotKnown),
     }
 }
 
@@ -233,7 +233,7 @@ pub fn locate(log: &[u8], page: &[u8], entry: &[u8], offset: u64) -> Located
     descend(log, page.len(), e, offset, &entry[20..40])
 }
 
-// The bytes themselves: a part of the log or of the page; an empty part on a refusal.
+// The bytes themselves: a part of the log or of the page; an empty part of the page on a refusal.
 pub fn read<'a>(log: &'a [u8], page: &'a [u8], entry: &[u8], offset: u64) -> &'a [u8]
     ensures { λ r. ⌜ runOf (located (now (log .entry)) (now (page .entry)) (now (entry .entry)) offset) (log .entry) (page .entry) r ⌝ }
 {

@@ -12,7 +12,7 @@ use Rattle.buffer.proofs.Bytes.{small-append}
 use Rattle.word.specs.Number.{digits, beBytes, small}
 use Rattle.word.proofs.NumberLaws.{length-digits, below-digits}
 use Rattle.message.specs.Reply.{reply, answered}
-use Rattle.message.proofs.Put.{length-put, put-front-put}
+use Rattle.buffer.proofs.Put.{length-put, put-front-put}
 
 -- size, type and tag of a reply whose body has n bytes
 abbrev pub head : ℕ → ℕ → ℕ → Bytes

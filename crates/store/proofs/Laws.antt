@@ -1,35 +1,30 @@
 -- Case laws of the store's functions.
-use mathlib.Core.Path.{_≡_, refl, sym, ap, _∙_, subst}
-use mathlib.Core.Bool.{Bool, true, false, cond, _&&_}
-use mathlib.Core.List.{[]}
+use mathlib.Core.Path.{_≡_, refl, sym, ap, _∙_}
+use mathlib.Core.Bool.{Bool, true, false, cond}
 use mathlib.Core.Option.{Option, none, some}
 use Prim.Native.Nat.{ℕ, _+_, _-_, _≤_, _<_}
 use native.Mathlib.Omega.{arith}
 use lib.Dec.{leb}
 use borrow.Author.Tests.{le-leb, lt-leb}
-use lib.ListN.{length, take, length-take}
-use lib.Seq.{length-take-le}
+use lib.ListN.{length}
 use Rattle.buffer.specs.Bytes.{Bytes, same}
 use Rattle.buffer.proofs.Bytes.{same-false}
 use Rattle.sha1.specs.Sha1.{sha1Of}
 use Rattle.refusal.specs.declared.Refusal.{Refusal}
 use Rattle.refusal.specs.declared.Refusal.the-variants.{NoRoom, Clash}
 use Rattle.sector.specs.declared.SectorNumber.{SectorNumber}
-use Rattle.kind.specs.Kind.{lawful, zeroScore}
-use Rattle.block.specs.Block.{Row, parts, partsOf, written}
-use Rattle.block.specs.Log.{sectors, used, payloads, sound}
-use Rattle.block.proofs.Payloads.{length-payloads}
-use Rattle.block.proofs.Facts.{parts-bounds}
-use Rattle.block.proofs.Sound.{sound-reads, sound-bytes}
+use Rattle.block.specs.Block.{Row, partsOf, written}
+use Rattle.block.specs.Log.{sectors, used}
 use Rattle.reader.specs.Reader.{bytesAt}
+use Rattle.reader.proofs.Pieces.{length-bytes}
+use Rattle.lookup.proofs.Held.{held-stands}
 use Rattle.lookup.specs.Place.{placeOf}
 use Rattle.lookup.specs.declared.Place.{Place}
 use Rattle.lookup.specs.declared.Place.the-variants.{At, Nowhere}
-use Rattle.log.specs.LookUp.{on, held, firstOf, blocks}
+use Rattle.log.specs.LookUp.{on, held}
 use Rattle.log.specs.Store.{After, after, receipt, newRow, roomFor, appended, compared, store}
 use Rattle.log.specs.declared.Stored.{Stored}
 use Rattle.log.specs.declared.Stored.the-variants.{New, Duplicate, Refused}
-use Rattle.log.proofs.First.{first-sound}
 
 -- no room, and room
 pub no-room : (log : Bytes) (t : ℕ) (d : Bytes) → sectors (length log) < used log + partsOf (length d)
@@ -47,9 +42,6 @@ room log t d u s log′ e f h w =
     rw (le-leb (used log + partsOf (length d)) (sectors (length log)) g) (λ i. after (receipt (sha1Of d) (New (record { 0 = e i }))) (q i))
 
 -- a found block compared
-length-bytes : (log : Bytes) (n k : ℕ) → length (bytesAt log n k) ≡ k
-length-bytes log n k = length-take-le k (payloads log (partsOf k) n) (omega (arith, length-payloads log (partsOf k) n, parts-bounds k))
-
 pub other-length : (log : Bytes) (n k : ℕ) (d : Bytes) → (k ≡ length d → ⊥) → after (receipt (sha1Of d) (Refused Clash)) log ≡ compared log (bytesAt log n k) n d
 other-length log n k d h = rw (same-false (bytesAt log n k) d (λ e. h (sym (length-bytes log n k) ∙ ap length e)))
 
@@ -60,24 +52,6 @@ same-block log n k d b e p q = rw (ap (λ (x : ℕ). same (bytesAt log n x) d) e
 pub other-block : (log : Bytes) (n k : ℕ) (d : Bytes) (b : Bool) → k ≡ length d → b ≡ same (bytesAt log n (length d)) d → b ≡ false
     → after (receipt (sha1Of d) (Refused Clash)) log ≡ compared log (bytesAt log n k) n d
 other-block log n k d b e p q = rw (ap (λ (x : ℕ). same (bytesAt log n x) d) e ∙ sym p ∙ q)
-
--- what look-up finds is a sound block, or the empty one: its bytes are those in the log at its place
-pub record Stands (log : Bytes) (r : Row) : Type 0 where
-  pub bytes-there : r .bytes ≡ bytesAt log (r .first) (length (r .bytes))
-  pub within : r .first + partsOf (length (r .bytes)) ≤ sectors (length log)
-
-pub held-stands : (log : Bytes) (t : ℕ) (s : Bytes) (r : Row) → held log t s ≡ some r → Stands log r
-unfolding held partsOf
-held-stands log t s r e = go (lawful t && same s zeroScore) refl
-  where
-    go : (b : Bool) → (lawful t && same s zeroScore) ≡ b → Stands log r
-    go true q =
-        let z : record { kind = t; score = zeroScore; bytes = []; first = 0 } ≡ r = let w = rw q at e in cc in
-        subst (Stands log) z (record { bytes-there = refl; within = omega arith })
-    go false q =
-        let f = first-sound log t s r (rw q at e) in
-        let p = sound-reads log (r .first) r (f .0) in
-        record { bytes-there = sound-bytes log (r .first) r (f .0); within = p .2 }
 
 -- the place that look-up gives, as a row
 found-row : (o : Option Row) (p : Place) (f : SectorNumber) (n : ℕ) → p ≡ placeOf o → p ≡ At f n → (r : Row) × (o ≡ some r) × (f .0 ≡ r .first) × (n ≡ length (r .bytes))

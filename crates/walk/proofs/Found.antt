@@ -122,29 +122,29 @@ on-else false x y z d = d
 mutual
   unfolding visitEntry visitDirectory typeAt
 
-  -- bounds of the calls that are enough
-  found-entry : (f : ℕ) (log : Bytes) (e : Entry) (level nest : ℕ) (score : Bytes) (left : ℕ) → left + left + 1 ≤ f
-      → visitEntry f log e level nest score left .end ≡ Done → Found log e level score
-  found-entry zero log e level nest score left h d = absurd (omega arith)
-  found-entry (suc f) log e zero nest score left h d =
+  -- where the bound of the calls is enough
+  found-entry : (f : ℕ) (log : Bytes) (e : Entry) (level nest : ℕ) (score : Bytes) (left : ℕ)
+      → visitEntry f log e level nest score left .end ≡ Done → left + left + 1 ≤ f → Found log e level score
+  found-entry zero log e level nest score left d h = absurd (omega arith)
+  found-entry (suc f) log e zero nest score left d h =
       let s = seen log nest left (typeAt e zero) (countAt e zero) score _ d in
       let p = eqb-false left 0 (s .not-spent) in
       leaf-found log e score (s .row) (λ b. visitDirectory f log nest b (left - 1))
-      (λ y. found-directory f log nest (s .row .bytes) (left - 1) (omega arith) y) (e .directory) refl (s .here) (s .on)
-  found-entry (suc f) log e (suc l) nest score left h d =
+      (λ y. found-directory f log nest (s .row .bytes) (left - 1) y (omega arith)) (e .directory) refl (s .here) (s .on)
+  found-entry (suc f) log e (suc l) nest score left d h =
       let s = seen log nest left (typeAt e (suc l)) (countAt e (suc l)) score _ d in
       let p = eqb-false left 0 (s .not-spent) in
       scores-found log e score (s .row) l (λ x a. visitEntry f log e (suc l - 1) nest x a) (left - 1)
-      (λ x a k y. subst (λ (m : ℕ). Found log e m x) (level-below l) (found-entry f log e (suc l - 1) nest x a (omega arith) y))
+      (λ x a k y. subst (λ (m : ℕ). Found log e m x) (level-below l) (found-entry f log e (suc l - 1) nest x a y (omega arith)))
       (ap (λ (t : ℕ). held log t score) (sym (type-above e l)) ∙ s .here) (eqb (length (s .row .bytes) % 20) 0) refl
       (on-else (eqb (suc l) 0) _ _ (ne-eqb (suc l) 0 (λ z. omega arith)) (s .on))
 
-  found-directory : (f : ℕ) (log : Bytes) (nest : ℕ) (b : Bytes) (left : ℕ) → left + left + 2 ≤ f
-      → visitDirectory f log nest b left .end ≡ Done → FoundEntries log b
-  found-directory zero log nest b left h d = absurd (omega arith)
-  found-directory (suc f) log nest b left h d =
+  found-directory : (f : ℕ) (log : Bytes) (nest : ℕ) (b : Bytes) (left : ℕ)
+      → visitDirectory f log nest b left .end ≡ Done → left + left + 2 ≤ f → FoundEntries log b
+  found-directory zero log nest b left d h = absurd (omega arith)
+  found-directory (suc f) log nest b left d h =
       entries-found log b (λ x a. visitEntry f log (entryOf x) (entryOf x .depth) (nestOf (entryOf x) nest) (scoreOf x) a) left
-      (λ x a l q. found-entry f log (entryOf x) (entryOf x .depth) (nestOf (entryOf x) nest) (scoreOf x) a (omega arith) q) d
+      (λ x a l q. found-entry f log (entryOf x) (entryOf x .depth) (nestOf (entryOf x) nest) (scoreOf x) a q (omega arith)) d
 
 -- below the root
 root-found : (log score : Bytes) (n : ℕ) (r : Row) → held log 1 score ≡ some r → (t : Bool) → rootWellFormed (padded 300 (r .bytes)) ≡ t
@@ -158,7 +158,7 @@ root-found log score n r h true z d =
       formed = z;
       top = s .row;
       top-held = s .here;
-      below = found-directory (n + n + 2) log 1 (s .row .bytes) (n - 1) (omega arith) (s .on);
+      below = found-directory _ log 1 (s .row .bytes) (n - 1) (s .on) (omega arith);
     }
 root-found log score n r h false z d = not-done _ d
 

@@ -14,13 +14,11 @@ use Rattle.kind.specs.Kind.{lawful, zeroScore}
 use Rattle.sector.specs.declared.SectorNumber.{SectorNumber}
 use Rattle.block.specs.Block.{Row, parts, partsOf}
 use Rattle.block.specs.Log.{sectors, sound}
-use Rattle.block.proofs.Facts.{valid-facts}
-use Rattle.block.proofs.Sound.{sound-reads, sound-bytes}
 use Rattle.reader.specs.Reader.{bytesAt}
 use Rattle.log.specs.declared.Look.{Look}
 use Rattle.log.specs.declared.Look.the-variants.{Found, Refused}
 use Rattle.log.specs.LookUp.{on, held, absence, lookUp, emptyRow}
-use Rattle.log.proofs.First.{first-sound}
+use Rattle.lookup.proofs.Held.{held-stands}
 use Rattle.walk.specs.declared.Walked.{Walked}
 use Rattle.walk.specs.declared.Met.{Met}
 use Rattle.walk.specs.declared.End.the-variants.{Refused as Stopped}
@@ -29,30 +27,6 @@ use Rattle.walk.specs.Met.{met, counted, metOf, answerOf}
 
 pos : (n : ℕ) → (n ≡ 0 → ⊥) → 0 < n
 pos n h = omega arith
-
--- ---- what is held stands in the log
-
-pub record Stands (log : Bytes) (r : Row) : Type 0 where
-  pub in-log : r .first + parts r ≤ sectors (length log)
-  pub bytes-at : r .bytes ≡ bytesAt log (r .first) (length (r .bytes))
-  pub not-many : length (r .bytes) ≤ 57344
-
-sound-stands : (log : Bytes) (r : Row) → sound log (r .first) ≡ some r → Stands log r
-sound-stands log r e =
-    let p = sound-reads log (r .first) r e in
-    record { in-log = p .2; bytes-at = sound-bytes log (r .first) r e; not-many = (valid-facts r (p .0)) .not-many }
-
-empty-stands : (log : Bytes) (t : ℕ) → Stands log (emptyRow t)
-unfolding partsOf
-empty-stands log t = record { in-log = omega arith; bytes-at = refl; not-many = omega arith }
-
-pub held-stands : (log : Bytes) (t : ℕ) (s : Bytes) (r : Row) → held log t s ≡ some r → Stands log r
-unfolding held
-held-stands log t s r e = go (lawful t && same s zeroScore) refl
-  where
-    go : (b : Bool) → (lawful t && same s zeroScore) ≡ b → Stands log r
-    go true q = let y : some (emptyRow t) ≡ some r = rw q at e in let z : emptyRow t ≡ r = cc in subst (λ (x : Row). Stands log x) z (empty-stands log t)
-    go false q = sound-stands log r ((first-sound log t s r (rw q at e)) .0)
 
 -- ---- a visit by its tests: nest over 16, nothing left, what is held
 
@@ -159,11 +133,11 @@ module _ (log : Bytes) (nest left kind count : ℕ) (score : Bytes) (m : Met) (e
       let k = found-by (ltb 16 nest) (eqb left 0) (held log kind score) (absence log) count f n (ap (λ (x : Met). x .look) (sym e) ∙ d) in
       let s = held-stands log kind score (k .row) (k .here) in
       let z : f .0 + partsOf n ≡ k .row .first + parts (k .row) = ap₂ (λ (x y : ℕ). x + partsOf y) (k .place) (k .sized) in
-      let bytes : k .row .bytes ≡ bytesAt log (f .0) n = s .bytes-at ∙ ap₂ (λ (x y : ℕ). bytesAt log x y) (sym (k .place)) (sym (k .sized)) in
+      let bytes : k .row .bytes ≡ bytesAt log (f .0) n = s .bytes-there ∙ ap₂ (λ (x y : ℕ). bytesAt log x y) (sym (k .place)) (sym (k .sized)) in
       record {
         not-deep = ltb-false 16 nest (k .not-deep);
         some-left = let y = eqb-false left 0 (k .not-spent) in pos left y;
-        in-log = rw z (s .in-log);
+        in-log = rw z (s .within);
         not-many = omega (arith, k .sized, s .not-many);
         counted-in = omega (arith, k .sized, ltb-false count (length (k .row .bytes)) (k .short));
         one = ap (λ (x : Met). x .spent) e ∙ k .one;

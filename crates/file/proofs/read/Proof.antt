@@ -45,7 +45,7 @@ slice-aggregate-result-2 : tie.Need-slice-aggregate-result-2
 slice-aggregate-result-2 c = search needs
 
 returns-3 : tie.Need-returns-3
-returns-3 c = rw (← (c .before .before .before .locate .ensures), (c .before .enum-told .given .1)) refl
+returns-3 c = rw (← (c .before .before .before .locate .ensures), (c .before .enum-told .given .1)) (record { bytes = refl; block = refl; place = sym (zero-add _) })
 
 pub read-spec : {M : Type 1} → statement M
 read-spec =

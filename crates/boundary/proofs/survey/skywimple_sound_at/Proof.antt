@@ -20,7 +20,7 @@ returns : tie.Need-returns
 returns c = let s = c .before .before .before .before in sound-barred (s .args .log .now) (s .args .n) _ (c .before .before .is-allowed .ensures) (not-true _ (c .before .if1 .taken)) _ (c .number .ensures)
 
 returns-2 : tie.Need-returns-2
-returns-2 c = let s = c .before .before .before .before in sound-past (s .args .log .now) (s .args .n) _ (c .before .before .is-allowed .ensures) (not-false _ (c .before .if1 .left)) (c .if2 .taken)
+returns-2 c = let s = c .before .before .before .before in sound-past (s .args .log .now) (s .args .n) _ (c .before .before .is-allowed .ensures) (not-false _ (c .before .if1 .left)) (omega (arith, c .if2 .taken))
 
 sound-at-requires : tie.Need-sound-at-requires
 sound-at-requires c κs = (omega arith, omega (arith, allowed-sectors _ _ (c .before .before .is-allowed .ensures) (not-false _ (c .before .if1 .left))))
