@@ -20,14 +20,14 @@ use Rattle.block.specs.Block.{Row}
 use Rattle.block.specs.Log.{at, used}
 use Rattle.block.proofs.Written.{length-written, at-written}
 use Rattle.log.specs.LookUp as look
-use Rattle.log.specs.Store as shelf
+use Rattle.log.specs.Store as stores
 use Rattle.archive.specs.Step.{Outcome, step, granted, refused}
 use Rattle.archive.specs.declared.Session.{Session}
 use Rattle.archive.specs.declared.Session.the-variants.{Greeted}
 use Rattle.ledger.specs.Ledger.{Ledger, empty, told, next, has, hit, intact, end}
 use Rattle.ledger.specs.History.{Item, logAfter, sessionsAfter, ledgerAfter, accountSessions, AllOfBytes, Damage}
 use Rattle.ledger.proofs.Tests.{cond-ind}
-use Rattle.ledger.proofs.Reflects.{Reflects}
+use Rattle.ledger.specs.Reflects.{Reflects}
 use Rattle.ledger.proofs.Intact.{intact-out}
 use Rattle.ledger.proofs.Steps.{serve-tell, reflects-serve}
 use Rattle.ledger.proofs.Lists.{reflects-after}
@@ -37,7 +37,7 @@ use Rattle.demands.specs.Instance.{archive}
 use Rattle.demands.specs.Corollaries.{Writes, Reads, NoneIntact, NoneWrites}
 use Rattle.demands.proofs.LookUp.{outside-none}
 use Rattle.demands.proofs.First.{first-none}
-use Rattle.demands.proofs.Seen.{shelved, kept, held-zero, held-other, absence-is}
+use Rattle.demands.proofs.Seen.{storedAs, kept, held-zero, held-other, absence-is}
 use Rattle.demands.proofs.Laws.{lawful}
 use Rattle.demands.proofs.Greeted.{write-step, read-step}
 use Rattle.demands.proofs.Outcomes.{Ways, alike, adds, step-ways}
@@ -69,12 +69,12 @@ nothing-stored-changes s m log buffer sm = go (step s m log buffer) (step-ways l
 -- a well-formed write after hello fails only for want of room (14) or by a clash (15), on any log
 pub write-fails-only-so : (t : ℕ) (d m log buffer : Bytes) → Writes m buffer log t d
     → let n = step Greeted m log buffer .number in (n ≡ 0) ⊎ ((n ≡ 14) ⊎ (n ≡ 15))
-unfolding shelf.store
+unfolding stores.store
 write-fails-only-so t d m log buffer W = rw (write-step m buffer log t d W) (go (look.held log t (sha1Of d)))
   where
-    go : (o : Option Row) → let n = kept m buffer (shelved log t d o) .number in (n ≡ 0) ⊎ ((n ≡ 14) ⊎ (n ≡ 15))
+    go : (o : Option Row) → let n = kept m buffer (storedAs log t d o) .number in (n ≡ 0) ⊎ ((n ≡ 14) ⊎ (n ≡ 15))
     go none =
-        cond-ind (λ a. let n = kept m buffer a .number in (n ≡ 0) ⊎ ((n ≡ 14) ⊎ (n ≡ 15))) (shelf.roomFor log d) _ _ (λ _. inl refl) (λ _. inr (inl refl))
+        cond-ind (λ a. let n = kept m buffer a .number in (n ≡ 0) ⊎ ((n ≡ 14) ⊎ (n ≡ 15))) (stores.roomFor log d) _ _ (λ _. inl refl) (λ _. inr (inl refl))
     go (some r) =
         cond-ind (λ a. let n = kept m buffer a .number in (n ≡ 0) ⊎ ((n ≡ 14) ⊎ (n ≡ 15))) (same (r .bytes) d) _ _ (λ _. inl refl) (λ _. inr (inr refl))
 

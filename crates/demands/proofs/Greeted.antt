@@ -9,7 +9,7 @@ use Rattle.message.specs.declared.Request.{Request}
 use Rattle.message.specs.declared.Request.the-variants.{Read, Write}
 use Rattle.kind.specs.Kind.{longest}
 use Rattle.log.specs.LookUp as look
-use Rattle.log.specs.Store as shelf
+use Rattle.log.specs.Store as stores
 use Rattle.archive.specs.Step as steps
 use Rattle.archive.specs.declared.Session.the-variants.{Greeted}
 use Rattle.demands.specs.Corollaries.{Asks, Writes, Reads}
@@ -20,7 +20,7 @@ module _ (m buffer log : Bytes) where
   unfolding steps.step steps.inSession
   asked q A = rw (A .frame, le-ltb (length buffer) steps.replyRoom (A .buffer-room), A .log-length, A .request)
 
-  pub write-step : (t : ℕ) (d : Bytes) → Writes m buffer log t d → steps.step Greeted m log buffer ≡ kept m buffer (shelf.store log t d)
+  pub write-step : (t : ℕ) (d : Bytes) → Writes m buffer log t d → steps.step Greeted m log buffer ≡ kept m buffer (stores.store log t d)
   unfolding steps.greeted steps.write
   write-step t d W = asked (Write t) (W .asks) ∙ rw (W .content, W .lawful-type, le-ltb longest (length d) (W .not-long))
 

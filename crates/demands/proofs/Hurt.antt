@@ -15,7 +15,7 @@ use Rattle.archive.specs.Step as steps
 use Rattle.archive.specs.declared.Session.the-variants.{Greeted}
 use Rattle.ledger.specs.Ledger.{Ledger, told, hit, intact, end}
 use Rattle.ledger.specs.History.{Damage}
-use Rattle.ledger.proofs.Reflects.{Reflects}
+use Rattle.ledger.specs.Reflects.{Reflects}
 use Rattle.ledger.proofs.Steps.{reflects-told}
 use Rattle.demands.specs.Ledger.{firstRow}
 use Rattle.demands.specs.Instance.{archive}

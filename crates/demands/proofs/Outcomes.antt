@@ -21,14 +21,14 @@ use Rattle.kind.specs.Kind.{lawful, longest}
 use Rattle.block.specs.Block.{Row, parts, partsOf, valid, written}
 use Rattle.block.specs.Log.{sectors, used}
 use Rattle.log.specs.LookUp as look
-use Rattle.log.specs.Store as shelf
+use Rattle.log.specs.Store as stores
 use Rattle.log.specs.declared.Stored.the-variants.{Duplicate, Refused}
 use Rattle.log.specs.LookUp.{logAllowed}
 use Rattle.archive.specs.Step as steps
 use Rattle.archive.specs.declared.Session.{Session}
 use Rattle.archive.specs.declared.Session.the-variants.{Fresh, Greeted, Closed as Shut}
 use Rattle.demands.proofs.TellAdds.{rowOf, row-valid}
-use Rattle.demands.proofs.Seen.{shelved, kept, held-zero, empty-score}
+use Rattle.demands.proofs.Seen.{storedAs, kept, held-zero, empty-score}
 
 -- what a request does to a log
 pub data Ways (log : Bytes) (o : steps.Outcome) : Type 0 where
@@ -64,29 +64,29 @@ module _ (log m buffer : Bytes) where
       (λ r _. by-test (ltb count (length (r .bytes))) (λ _. plain refl (λ e. omega arith)) (λ _. plain refl (λ e. omega arith))))
 
   -- data that is not found
-  new-ways : (t : ℕ) (d : Bytes) → logAllowed (length log) ≡ true → lawful t ≡ true → length d ≤ longest → small d ≡ true → (length d ≡ 0 → ⊥) → Ways log (kept m buffer (shelved log t d none))
-  unfolding shelf.roomFor
+  new-ways : (t : ℕ) (d : Bytes) → logAllowed (length log) ≡ true → lawful t ≡ true → length d ≤ longest → small d ≡ true → (length d ≡ 0 → ⊥) → Ways log (kept m buffer (storedAs log t d none))
+  unfolding stores.roomFor
   new-ways t d a l le sm n = go (leb (used log + partsOf (length d)) (sectors (length log))) refl
     where
-      go : (b : Bool) → leb (used log + partsOf (length d)) (sectors (length log)) ≡ b → Ways log (kept m buffer (shelved log t d none))
+      go : (b : Bool) → leb (used log + partsOf (length d)) (sectors (length log)) ≡ b → Ways log (kept m buffer (storedAs log t d none))
       go true q =
           let room : used log + partsOf (length d) ≤ sectors (length log) = leb-true (used log + partsOf (length d)) (sectors (length log)) q in
           rw q (adds (rowOf t d (used log)) refl refl (row-valid t d (used log) (length log) a l le n sm room) refl room)
       go false q = rw q (plain refl (λ e. omega arith))
 
-  held-ways : (t : ℕ) (d : Bytes) (r : Row) → Ways log (kept m buffer (shelved log t d (some r)))
+  held-ways : (t : ℕ) (d : Bytes) (r : Row) → Ways log (kept m buffer (storedAs log t d (some r)))
   held-ways t d r = go (same (r .bytes) d)
     where
-      go : (b : Bool) → Ways log (kept m buffer (cond b (shelf.after (shelf.receipt (sha1Of d) (Duplicate (record { 0 = r .first }))) log) (shelf.after (shelf.receipt (sha1Of d) (Refused Clash)) log)))
+      go : (b : Bool) → Ways log (kept m buffer (cond b (stores.after (stores.receipt (sha1Of d) (Duplicate (record { 0 = r .first }))) log) (stores.after (stores.receipt (sha1Of d) (Refused Clash)) log)))
       go true = plain refl (λ e. omega arith)
       go false = plain refl (λ e. omega arith)
 
-  store-ways : (t : ℕ) (d : Bytes) → logAllowed (length log) ≡ true → lawful t ≡ true → length d ≤ longest → small d ≡ true → Ways log (kept m buffer (shelf.store log t d))
-  unfolding shelf.store
+  store-ways : (t : ℕ) (d : Bytes) → logAllowed (length log) ≡ true → lawful t ≡ true → length d ≤ longest → small d ≡ true → Ways log (kept m buffer (stores.store log t d))
+  unfolding stores.store
   store-ways t [] a l le sm = rw (held-zero log t (sha1Of []) l empty-score) (held-ways t [] (look.emptyRow t))
   store-ways t (c ∷ x) a l le sm = go (look.held log t (sha1Of (c ∷ x)))
     where
-      go : (o : Option Row) → Ways log (kept m buffer (shelved log t (c ∷ x) o))
+      go : (o : Option Row) → Ways log (kept m buffer (storedAs log t (c ∷ x) o))
       go none = new-ways t (c ∷ x) a l le sm (λ e. omega arith)
       go (some r) = held-ways t (c ∷ x) r
 

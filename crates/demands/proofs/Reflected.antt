@@ -15,15 +15,16 @@ use Rattle.message.specs.Reply.{readReply, writeReply}
 use Rattle.kind.specs.Kind.{lawful, zeroScore}
 use Rattle.block.specs.Block.{Row}
 use Rattle.log.specs.LookUp as look
-use Rattle.log.specs.Store as shelf
+use Rattle.log.specs.Store as stores
 use Rattle.archive.specs.Step as steps
 use Rattle.archive.specs.declared.Session.the-variants.{Greeted}
 use Rattle.ledger.specs.Ledger.{Ledger, intact, end}
-use Rattle.ledger.proofs.Reflects.{Reflects, used-end, blocks-intact}
+use Rattle.ledger.specs.Reflects.{Reflects}
+use Rattle.ledger.proofs.Reflects.{used-end, blocks-intact}
 use Rattle.demands.specs.Ledger.{firstRow}
 use Rattle.demands.specs.Instance.{archive}
 use Rattle.demands.specs.Corollaries.{Writes, Reads}
-use Rattle.demands.proofs.Seen.{given, shelved, kept, Mirrors, held-zero, empty-score, held-other}
+use Rattle.demands.proofs.Seen.{given, storedAs, kept, Mirrors, held-zero, empty-score, held-other}
 use Rattle.demands.proofs.Step.{mirrors}
 use Rattle.demands.proofs.Laws.{lawful as laws}
 use Rattle.demands.proofs.Greeted.{write-step, read-step}
@@ -53,7 +54,7 @@ module _ (log : Bytes) (L : Ledger archive) (R : Reflects archive log L) where
 
   pub known-writes : (t : ℕ) (d m buffer : Bytes) → Known t d L → Writes m buffer log t d
       → steps.step Greeted m log buffer ≡ steps.granted (writeReply (tagOf m) (sha1Of d)) Greeted log buffer
-  unfolding shelf.store
+  unfolding stores.store
   known-writes t d m buffer k W =
       let f = known-held t d (W .lawful-type) k in
-      write-step m buffer log t d W ∙ ap (λ o. kept m buffer (shelved log t d o)) (f .1) ∙ rw (f .2, same-refl d)
+      write-step m buffer log t d W ∙ ap (λ o. kept m buffer (storedAs log t d o)) (f .1) ∙ rw (f .2, same-refl d)

@@ -16,7 +16,7 @@ use Rattle.kind.specs.Kind.{lawful, zeroScore}
 use Rattle.block.specs.Block.{Row, written}
 use Rattle.block.specs.Log.{used}
 use Rattle.log.specs.LookUp as look
-use Rattle.log.specs.Store as shelf
+use Rattle.log.specs.Store as stores
 use Rattle.log.specs.declared.Stored.the-variants.{New, Duplicate, Refused}
 use Rattle.archive.specs.Step as steps
 use Rattle.archive.specs.declared.Session.{Session}
@@ -34,18 +34,18 @@ given log m buffer count o =
     (λ r. cond (ltb count (length (r .bytes))) (steps.refused OverCount (tagOf m) Greeted log buffer) (steps.granted (readReply (tagOf m) (r .bytes)) Greeted log buffer))
 
 -- what a store gives, by what is held
-abbrev pub shelved : Bytes → ℕ → Bytes → Option Row → shelf.After
-shelved log t d o =
+abbrev pub storedAs : Bytes → ℕ → Bytes → Option Row → stores.After
+storedAs log t d o =
     look.on o
-    (cond (shelf.roomFor log d)
-    (shelf.after (shelf.receipt (sha1Of d) (New (record { 0 = used log }))) (written log (shelf.newRow log t d)))
-    (shelf.after (shelf.receipt (sha1Of d) (Refused NoRoom)) log))
+    (cond (stores.roomFor log d)
+    (stores.after (stores.receipt (sha1Of d) (New (record { 0 = used log }))) (written log (stores.newRow log t d)))
+    (stores.after (stores.receipt (sha1Of d) (Refused NoRoom)) log))
     (λ r. cond (same (r .bytes) d)
-    (shelf.after (shelf.receipt (sha1Of d) (Duplicate (record { 0 = r .first }))) log)
-    (shelf.after (shelf.receipt (sha1Of d) (Refused Clash)) log))
+    (stores.after (stores.receipt (sha1Of d) (Duplicate (record { 0 = r .first }))) log)
+    (stores.after (stores.receipt (sha1Of d) (Refused Clash)) log))
 
 -- what the archive answers of a store
-abbrev pub kept : Bytes → Bytes → shelf.After → steps.Outcome
+abbrev pub kept : Bytes → Bytes → stores.After → steps.Outcome
 kept m buffer a = steps.written (a .receipt .stored) (tagOf m) (a .receipt .score) (a .log) buffer
 
 -- what is seen of the archive's outcome

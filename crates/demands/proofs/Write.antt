@@ -18,18 +18,18 @@ use Rattle.kind.specs.Kind.{lawful, longest, zeroScore}
 use Rattle.block.specs.Block.{Row, partsOf}
 use Rattle.block.specs.Log.{sectors}
 use Rattle.log.specs.LookUp as look
-use Rattle.log.specs.Store as shelf
+use Rattle.log.specs.Store as stores
 use Rattle.archive.specs.Step as steps
 use Rattle.archive.specs.declared.Session.{Session}
 use Rattle.archive.specs.declared.Session.the-variants.{Greeted}
 use Rattle.ledger.specs.Archive.{Seen, on}
 use Rattle.demands.specs.Ledger.{Answer, Decision, refusal, reply, firstRow, newRow, writeRow}
 use Rattle.demands.proofs.Tests.{alike, contrary, ltb-not}
-use Rattle.demands.proofs.Seen.{shelved, kept, seen, view, Mirrors, held-zero, empty-score, held-other}
+use Rattle.demands.proofs.Seen.{storedAs, kept, seen, view, Mirrors, held-zero, empty-score, held-other}
 
 module _ (log : Bytes) (rows : List Row) (end : ℕ) (M : Mirrors log rows end) (m buffer : Bytes) (t : ℕ) where
   -- what is seen of a store
-  abbrev view-kept : shelf.After → Seen Answer Session Bytes
+  abbrev view-kept : stores.After → Seen Answer Session Bytes
   view-kept a = seen (kept m buffer a)
 
   -- what the ledger decides of data that is not empty, by its first row
@@ -38,8 +38,8 @@ module _ (log : Bytes) (rows : List Row) (end : ℕ) (M : Mirrors log rows end) 
       on o (newRow rows end (length log) t d (tagOf m))
       (λ r. cond (same (r .bytes) d) (reply (writeReply (tagOf m) (sha1Of d)) Greeted none) (refusal Clash))
 
-  by-row : (d : Bytes) (o : Option Row) → same (sha1Of d) zeroScore ≡ false → view-kept (shelved log t d o) ≡ view log Greeted m buffer (decided d o)
-  unfolding shelf.roomFor
+  by-row : (d : Bytes) (o : Option Row) → same (sha1Of d) zeroScore ≡ false → view-kept (storedAs log t d o) ≡ view log Greeted m buffer (decided d o)
+  unfolding stores.roomFor
   by-row d none z = rw (z, M .ends)
       (sym (contrary (view log Greeted m buffer) view-kept (ltb (sectors (length log)) (end + partsOf (length d))) (leb (end + partsOf (length d)) (sectors (length log)))
       (ltb-not (sectors (length log)) (end + partsOf (length d))) (λ _. refl) (λ _. refl)))
@@ -47,15 +47,15 @@ module _ (log : Bytes) (rows : List Row) (end : ℕ) (M : Mirrors log rows end) 
 
   -- data of the zero score that is not empty: the empty block is found, of other bytes
   clash : (a : ℕ) (x : Bytes) → same (sha1Of (a ∷ x)) zeroScore ≡ true
-      → view-kept (shelved log t (a ∷ x) (some (look.emptyRow t))) ≡ view log Greeted m buffer (decided (a ∷ x) (firstRow t (sha1Of (a ∷ x)) rows))
+      → view-kept (storedAs log t (a ∷ x) (some (look.emptyRow t))) ≡ view log Greeted m buffer (decided (a ∷ x) (firstRow t (sha1Of (a ∷ x)) rows))
   clash a x z = rw (same-true (sha1Of (a ∷ x)) zeroScore z, M .no-zero t, same-refl zeroScore)
 
-  stored : (d : Bytes) → lawful t ≡ true → view-kept (shelf.store log t d) ≡ view log Greeted m buffer (writeRow rows end (length log) t d (tagOf m))
-  unfolding shelf.store
+  stored : (d : Bytes) → lawful t ≡ true → view-kept (stores.store log t d) ≡ view log Greeted m buffer (writeRow rows end (length log) t d (tagOf m))
+  unfolding stores.store
   stored [] l = rw (held-zero log t (sha1Of []) l empty-score)
   stored (a ∷ x) l = rw (ne-eqb (suc (length x)) 0 (λ z. omega arith)) (go (same (sha1Of (a ∷ x)) zeroScore) refl)
     where
-      go : (b : Bool) → same (sha1Of (a ∷ x)) zeroScore ≡ b → view-kept (shelved log t (a ∷ x) (look.held log t (sha1Of (a ∷ x)))) ≡ view log Greeted m buffer (decided (a ∷ x) (firstRow t (sha1Of (a ∷ x)) rows))
+      go : (b : Bool) → same (sha1Of (a ∷ x)) zeroScore ≡ b → view-kept (storedAs log t (a ∷ x) (look.held log t (sha1Of (a ∷ x)))) ≡ view log Greeted m buffer (decided (a ∷ x) (firstRow t (sha1Of (a ∷ x)) rows))
       go true q = rw (held-zero log t (sha1Of (a ∷ x)) l q) (clash a x q)
       go false q = rw (held-other log rows end M t (sha1Of (a ∷ x)) q) (by-row (a ∷ x) (firstRow t (sha1Of (a ∷ x)) rows) q)
 

@@ -1,19 +1,11 @@
--- The checked example of an entry, proved of the definitions, and one in which 64 bits don't hold the product.
+-- Two entries more than the marked ones: p rounded down, and one in which 64 bits don't hold the product.
 use mathlib.Core.Path.{_≡_, refl}
 use mathlib.Core.Bool.{true, false}
 use Rattle.word.specs.Number.{digits, valueFrom}
 use Rattle.entry.specs.Entry.{entryOf, wellFormed, entryAllowed}
 use Rattle.entry.specs.Examples.{entryBytes}
 
--- "p 3, dsize 1,024, depth 1: size 3,072 passes, 3,073 is 16"; psize 60 and 79 both make p 3
-pub passes : entryAllowed (entryBytes 60 1024 1 3072) ≡ true
-unfolding digits valueFrom entryOf wellFormed
-passes = refl
-
-pub too-long : entryAllowed (entryBytes 60 1024 1 3073) ≡ false
-unfolding digits valueFrom entryOf wellFormed
-too-long = refl
-
+-- p is psize over 20 rounded down: 79 makes 3, so 3,073 bytes are too many
 pub rounded-down : entryAllowed (entryBytes 79 1024 1 3073) ≡ false
 unfolding digits valueFrom entryOf wellFormed
 rounded-down = refl

@@ -1,7 +1,6 @@
--- "p 3, dsize 1,024 .. Depth 2, offset 4,096: second pointer, then second", proved of the definitions.
+-- "Depth 2, offset 4,096: second pointer, then second": where that leads.
 use mathlib.Core.Path.{_≡_, refl}
 use mathlib.Core.Bool.{true, false}
-use mathlib.Core.List.{[], _∷_}
 use mathlib.Core.Option.{some}
 use Prim.Native.Nat.{ℕ, _%_}
 use lib.Dec.{leb, eqb}
@@ -14,18 +13,13 @@ use Rattle.log.specs.LookUp.{held}
 use Rattle.entry.specs.declared.Entry.{Entry}
 use Rattle.entry.specs.Entry.{entryOf}
 use Rattle.entry.specs.Examples.{entryBytes}
-use Rattle.file.specs.File.{pointer, pointerIndex, leafRun, under}
+use Rattle.file.specs.File.{pointer, leafRun, under}
 
 -- the entry: psize 60, which makes p 3, dsize 1,024, depth 2, size 9,216
 abbrev pub entry : Entry
 entry = entryOf (entryBytes 60 1024 2 9216)
 
--- which pointer at level 2 and at level 1, counted from 0
-pub table : (pointerIndex entry 4096 1 ∷ pointerIndex entry 4096 0 ∷ []) ≡ (1 ∷ 1 ∷ [])
-unfolding digits valueFrom entryOf
-table = refl
-
--- so the run is that of the leaf to which the second pointer of the second pointer's block leads
+-- the run is that of the leaf to which the second pointer of the second pointer's block leads
 module _ (log : Bytes) (page : ℕ) (s : Bytes) (two one leaf : Row)
     (a : held log 4 s ≡ some two) (b : held log 3 (pointer (two .bytes) 1) ≡ some one) (c : held log 13 (pointer (one .bytes) 1) ≡ some leaf)
     (za : same s zeroScore ≡ false) (zb : same (pointer (two .bytes) 1) zeroScore ≡ false) (zc : same (pointer (one .bytes) 1) zeroScore ≡ false)

@@ -7,7 +7,7 @@ use Rattle.ledger.specs.Archive.{Outcome, on, Archive}
 use Rattle.ledger.specs.Ledger.{Ledger, empty, told, enter, next}
 use Rattle.ledger.specs.Laws.{Lawful}
 use Rattle.ledger.specs.History.{Item, given, logAfter, sessionsAfter, ledgerAfter, accountSessions, Damage, AllOfBytes}
-use Rattle.ledger.proofs.Reflects.{Reflects}
+use Rattle.ledger.specs.Reflects.{Reflects}
 use Rattle.ledger.proofs.Steps.{reflects-empty, reflects-told}
 use Rattle.ledger.proofs.Lists.{reflects-after, sessions-agree, extent-after}
 

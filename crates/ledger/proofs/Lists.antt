@@ -6,7 +6,7 @@ use Rattle.ledger.specs.Archive.{Outcome, on, Archive}
 use Rattle.ledger.specs.Ledger.{Ledger, shown, next}
 use Rattle.ledger.specs.Laws.{Lawful}
 use Rattle.ledger.specs.History.{Item, given, run, logAfter, sessionsAfter, overlaid, plus, account, ledgerAfter, accountSessions, AllOfBytes}
-use Rattle.ledger.proofs.Reflects.{Reflects}
+use Rattle.ledger.specs.Reflects.{Reflects}
 use Rattle.ledger.proofs.Steps.{serve-tell, reflects-serve, extent-serve}
 
 module _ (A : Archive) where

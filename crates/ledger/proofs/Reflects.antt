@@ -1,4 +1,4 @@
--- The invariant between a log and a ledger, and what follows from it: the log's sound blocks are the intact rows, its used part ends at the end.
+-- What follows from the invariant: the log's sound blocks are the intact rows, its used part ends at the end.
 use mathlib.Core.Path.{_≡_, refl, sym, ap, _∙_}
 use mathlib.Core.Bool.{Bool, true, false, true≢false}
 use mathlib.Core.List.{List·Memᴰ, Memᴰ·cast}
@@ -9,28 +9,14 @@ use native.Mathlib.Nat.{le-antisymm}
 use native.Mathlib.Omega.{arith}
 use Rattle.ledger.specs.Archive.{Archive}
 use Rattle.ledger.specs.Ledger.{has, Ledger, covers, hit, intact, end, blocks}
+use Rattle.ledger.specs.Reflects.{cell, Reflects}
 use Rattle.ledger.specs.Laws.{Lawful}
 use Rattle.ledger.proofs.Ascending.{ascending-ext}
 use Rattle.ledger.proofs.Covers.{covers-reads, covers-in, hit-none, hit-not}
-use Rattle.ledger.proofs.Apart.{Apart}
 use Rattle.ledger.proofs.Ends.{end-row, end-rows-le, end-changed, end-changed-le}
 use Rattle.ledger.proofs.Intact.{intact-in, intact-out, intact-ascends}
-use Rattle.ledger.proofs.Cells.{cell, cell-in, cell-blank, cell-cases, Held}
+use Rattle.ledger.proofs.Cells.{cell-in, cell-blank, cell-cases, Held}
 use Rattle.ledger.proofs.Blocks.{blocks-in, blocks-out, blocks-ascend}
-
-module _ (A : Archive) where
-  open Archive A using (Log, extent, sectors, at, isBlank, fits, Row, valid, owned)
-
-  -- a log as a ledger has it: the rows stand one behind the other and inside; a sector not changed holds what the rows put there,
-  -- a changed one does not fit its check and is not blank
-  pub record Reflects (log : Log) (L : Ledger A) : Type 0 where
-    pub valids : (r : Row) → List·Memᴰ r (L .rows) → valid r ≡ true
-    pub owneds : (r : Row) → List·Memᴰ r (L .rows) → owned r ≡ true
-    pub apart : Apart A 0 (L .rows)
-    pub room : end A L ≤ sectors (extent log)
-    pub plain : (n : ℕ) → has n (L .changed) ≡ false → at log n ≡ cell A (L .rows) n
-    pub unfit : (n : ℕ) → has n (L .changed) ≡ true → fits (at log n) ≡ false
-    pub marked : (n : ℕ) → has n (L .changed) ≡ true → isBlank (at log n) ≡ false
 
 module _ (A : Archive) (W : Lawful A) (log : A .Log) (L : Ledger A) (R : Reflects A log L) where
   open Archive A using (extent, sectors, at, blank, isBlank, fits, used, Row, first, parts, image, valid, sound)

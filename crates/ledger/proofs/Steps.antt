@@ -13,8 +13,9 @@ use Rattle.ledger.specs.History.{Damage}
 use Rattle.ledger.proofs.Covers.{covers-reads, covers-before}
 use Rattle.ledger.proofs.Apart.{apart-last}
 use Rattle.ledger.proofs.Ends.{end-last, end-changed, end-changed-le}
-use Rattle.ledger.proofs.Cells.{cell, cell-cases, Held, cell-last}
-use Rattle.ledger.proofs.Reflects.{Reflects, used-end, blocks-intact}
+use Rattle.ledger.proofs.Cells.{cell-cases, Held, cell-last}
+use Rattle.ledger.specs.Reflects.{cell, Reflects}
+use Rattle.ledger.proofs.Reflects.{used-end, blocks-intact}
 
 module _ (A : Archive) (W : Lawful A) where
   open Archive A using (Log, Extent, Sector, extent, sectors, void, at, blank, fits, Near, Row, first, parts, image, valid, owned, written, Request, Answer, Session, OfBytes, serve, tell)

@@ -2,3 +2,4 @@ pub mod Archive
 pub mod Ledger
 pub mod Laws
 pub mod History
+pub mod Reflects

@@ -1,4 +1,3 @@
--- What the clauses of `message` cite, and the paper's examples.
+-- What the clauses of `message` cite.
 pub mod Message
 pub mod Reply
-pub mod Examples

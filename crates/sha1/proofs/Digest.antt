@@ -4,21 +4,22 @@ use mathlib.Core.List.{List, [], _∷_, _++_}
 use Prim.Native.Nat.{ℕ, zero, suc, _+_, _/_, _%_, _<_}
 use native.Mathlib.Omega.{arith}
 use lib.ListN.{length, getD}
+use Rattle.word.specs.Number.{digits, beBytes}
 use Rattle.sha1_block.specs.declared.Hash.{Hash}
 use Rattle.sha1_block.specs.Block.{wordsOf, snocWord, scheduleOf, roundOf, roundsOf, addHash, compressOf}
-use Rattle.sha1.specs.Sha1.{hashOf, beBytes, padOf, padded, digestOf, sha1Of}
+use Rattle.sha1.specs.Sha1.{hashOf, padOf, padded, digestOf, sha1Of}
 
 -- the score of no bytes, da39a3ee5e6b4b0d3255bfef95601890afd80709
 pub empty : sha1Of [] ≡ 0xda ∷ 0x39 ∷ 0xa3 ∷ 0xee ∷ 0x5e ∷ 0x6b ∷ 0x4b ∷ 0x0d ∷ 0x32 ∷ 0x55 ∷ 0xbf ∷ 0xef ∷ 0x95 ∷ 0x60 ∷ 0x18 ∷ 0x90 ∷ 0xaf ∷ 0xd8 ∷ 0x07 ∷ 0x09 ∷ []
-unfolding wordsOf snocWord scheduleOf roundOf roundsOf addHash compressOf hashOf beBytes padOf padded digestOf sha1Of
+unfolding wordsOf snocWord scheduleOf roundOf roundsOf addHash compressOf hashOf digits padOf padded digestOf sha1Of
 empty = refl
 
 pub abc : sha1Of (0x61 ∷ 0x62 ∷ 0x63 ∷ []) ≡ 0xa9 ∷ 0x99 ∷ 0x3e ∷ 0x36 ∷ 0x47 ∷ 0x06 ∷ 0x81 ∷ 0x6a ∷ 0xba ∷ 0x3e ∷ 0x25 ∷ 0x71 ∷ 0x78 ∷ 0x50 ∷ 0xc2 ∷ 0x6c ∷ 0x9c ∷ 0xd0 ∷ 0xd8 ∷ 0x9d ∷ []
-unfolding wordsOf snocWord scheduleOf roundOf roundsOf addHash compressOf hashOf beBytes padOf padded digestOf sha1Of
+unfolding wordsOf snocWord scheduleOf roundOf roundsOf addHash compressOf hashOf digits padOf padded digestOf sha1Of
 abc = refl
 
 pub digest-length : (m : List ℕ) → length (sha1Of m) ≡ 20
-unfolding beBytes digestOf sha1Of
+unfolding digits digestOf sha1Of
 digest-length m = refl
 
 -- every element is a byte, also past the end, where `getD` gives 0
@@ -38,7 +39,7 @@ one x h zero = h
 one x h (suc k) = omega arith
 
 be-bytes : (n x : ℕ) → Bytes (beBytes n x)
-unfolding beBytes
+unfolding digits
 be-bytes zero x = record { at = λ k. omega arith }
 be-bytes (suc n) x = joined (be-bytes n (x / 256)) (record { at = one (x % 256) (omega arith) })
 

@@ -6,8 +6,9 @@ use native.Mathlib.Nat.{pow-suc, mul-assoc}
 use native.Mathlib.Numerals.{add-one}
 use native.Mathlib.Omega.{arith}
 use lib.ListN.{length, take, set, replicate, length-append, length-replicate}
+use Rattle.word.specs.Number.{digits, beBytes}
 use Rattle.sha1.specs.declared.Stream.{Stream}
-use Rattle.sha1.specs.Sha1.{digestOf, zerosOf, padOf, padded, beBytes, sha1Of}
+use Rattle.sha1.specs.Sha1.{digestOf, zerosOf, padOf, padded, sha1Of}
 use Rattle.sha1.specs.Stream.{Holds}
 
 take-replicate : (z n a : ℕ) → z ≤ n → take z (replicate n a) ≡ replicate z a
@@ -24,7 +25,7 @@ mark z h = rw add-one (ap (λ (l : List ℕ). 0x80 ∷ l) (take-replicate z 63 0
 
 -- n bytes hold a number modulo 256 ^ n
 be-wrap : (n x y : ℕ) → beBytes n (x + y * 256 ^ n) ≡ beBytes n x
-unfolding beBytes
+unfolding digits
 be-wrap zero x y = refl
 be-wrap (suc n) x y =
     let p : y * 256 ^ suc n ≡ y * 256 ^ n * 256 = rw (pow-suc, mul-assoc) in
@@ -51,7 +52,7 @@ zeros-fill : (n : ℕ) → (n + 1 + zerosOf n) % 64 ≡ 56
 zeros-fill n = omega arith
 
 be-length : (n x : ℕ) → length (beBytes n x) ≡ n
-unfolding beBytes
+unfolding digits
 be-length zero x = refl
 be-length (suc n) x = rw (length-append, be-length n (x / 256), add-one)
 

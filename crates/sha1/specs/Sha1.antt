@@ -1,16 +1,12 @@
 -- SHA-1 as FIPS 180-4 defines it, on lists of bytes.
 -- FIPS 180-4 defines the hash of messages of fewer than 2 ^ 64 bits, which is 2 ^ 61 bytes. Here a longer list has one too: its length in bits is
 -- padded modulo 2 ^ 64.
-use mathlib.Core.List.{List, [], _∷_, _++_}
+use mathlib.Core.List.{List, _∷_, _++_}
 use Prim.Native.Nat.{ℕ, zero, suc, _-_, _*_, _/_, _%_}
 use lib.ListN.{length, take, drop, replicate}
+use Rattle.word.specs.Number.{beBytes}
 use Rattle.sha1_block.specs.declared.Hash.{Hash}
 use Rattle.sha1_block.specs.Block.{initial, compressOf}
-
--- 3.1: x as n bytes, the highest first
-unfoldable pub beBytes : ℕ → ℕ → List ℕ
-beBytes zero x = []
-beBytes (suc n) x = beBytes n (x / 256) ++ (x % 256 ∷ [])
 
 -- 5.1.1: how many zero bytes follow the mark after a message of n bytes: the fewest that leave 8 bytes of a block
 abbrev pub zerosOf : ℕ → ℕ

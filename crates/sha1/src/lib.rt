@@ -5,7 +5,8 @@ ghost use mathlib.Core.List.{List, [], _++_};
 ghost use Prim.Native.Nat.{ℕ, _+_, _*_, _<_};
 ghost use lib.ListN.{length};
 ghost use lib.Seq.{sets};
-ghost use Rattle.sha1.specs.Sha1.{beBytes, digestOf, sha1Of};
+ghost use Rattle.word.specs.Number.{beBytes};
+ghost use Rattle.sha1.specs.Sha1.{digestOf, sha1Of};
 ghost use Rattle.sha1.specs.Stream.{Holds};
 
 // A message that is being taken in: the hash value of its whole blocks, the bytes after them in a

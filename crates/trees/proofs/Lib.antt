@@ -1,3 +1,2 @@
--- `Again`: what was answered about a tree is answered again. `Examples`: the table.
+-- `Again`: what was answered about a tree is answered again.
 pub mod Again
-pub mod Examples

@@ -1,3 +1,2 @@
 -- What the theorems of `trees` claim.
-pub mod Examples
 pub mod Again

@@ -1,7 +1,7 @@
 -- `sha1::be64` meets its contract. Assumes nothing.
 use mathlib.Core.Path.{refl}
 use borrow.Author.Needs.{needs}
-use Rattle.sha1.specs.Sha1.{beBytes}
+use Rattle.word.specs.Number.{digits}
 use Rattle.sha1.proofs.be64.Statement.{statement}
 use Rattle.sha1.proofs.be64.Tie as tie
 
@@ -30,7 +30,7 @@ cast-t24 : tie.Need-cast-t24
 cast-t24 c = search needs
 
 returns : tie.Need-returns
-unfolding beBytes
+unfolding digits
 returns c = refl
 
 pub be64-spec : {M : Type 1} → statement M

@@ -1,6 +1,7 @@
 -- `sha1::digest_bytes` meets its contract. Assumes nothing.
 use borrow.Author.Needs.{needs}
-use Rattle.sha1.specs.Sha1.{digestOf, beBytes}
+use Rattle.word.specs.Number.{digits}
+use Rattle.sha1.specs.Sha1.{digestOf}
 use Rattle.sha1.proofs.digest_bytes.Statement.{statement}
 use Rattle.sha1.proofs.digest_bytes.Tie as tie
 
@@ -20,7 +21,7 @@ put-word-requires-5 : tie.Need-put-word-requires-5
 put-word-requires-5 c κs = search needs
 
 returns : tie.Need-returns
-unfolding digestOf beBytes
+unfolding digestOf digits
 returns c =
     rw (c .put-word5 .ensures, c .before .before .put-word4 .ensures, c .before .before .before .before .put-word3 .ensures, c .before .before .before .before .before .before .put-word2 .ensures, c .before .before .before .before .before .before .before .before .put-word .ensures)
 

@@ -3,7 +3,7 @@ use mathlib.Core.Path.{_≡_}
 use Prim.Native.Nat.{suc, _+_, _*_}
 use native.Mathlib.Omega.{arith}
 use borrow.Author.Needs.{needs}
-use Rattle.sha1.specs.Sha1.{beBytes}
+use Rattle.word.specs.Number.{digits}
 use Rattle.sha1.proofs.put_word.Statement.{statement}
 use Rattle.sha1.proofs.put_word.Tie as tie
 
@@ -44,7 +44,7 @@ element-write-d-4 : tie.Need-element-write-d-4
 element-write-d-4 c = search needs
 
 returns : tie.Need-returns
-unfolding beBytes
+unfolding digits
 returns c =
     let i = 4 * c .args .at in
     let e1 : i + 1 ≡ suc i = omega arith in

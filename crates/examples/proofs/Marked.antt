@@ -1,0 +1,32 @@
+-- The table of marked examples, each row computed or by its tests.
+use mathlib.Core.Path.{refl}
+use native.Mathlib.Omega.{arith}
+use lib.ListN.{length}
+use borrow.Author.Tests.{lt-ltb, le-ltb}
+use Rattle.word.specs.Number.{digits, valueFrom}
+use Rattle.kind.specs.Kind.{longest}
+use Rattle.block.proofs.Counts.{counts}
+use Rattle.message.specs.Message.{framed, noZero, textEnd, countedEnd, bytesEnd, exactly, requestOf, dataOf}
+use Rattle.message.specs.Reply.{reply}
+use Rattle.archive.specs.Step.{replyRoom, write, fresh, greeted, inSession, step}
+use Rattle.cut.proofs.Examples as cut
+use Rattle.entry.specs.Entry.{entryOf, wellFormed}
+use Rattle.file.specs.File.{entryReadable, located}
+use Rattle.examples.specs.Marked.{Marked}
+
+pub marked : Marked
+unfolding digits valueFrom framed noZero textEnd countedEnd bytesEnd exactly requestOf reply step inSession fresh greeted write entryOf wellFormed entryReadable located
+marked = record {
+  ping = λ log buffer a h. rw (le-ltb (length buffer) replyRoom h, a) refl;
+  greeting = λ log buffer a h. rw (le-ltb (length buffer) replyRoom h, a) refl;
+  not-held = refl;
+  counts = counts;
+  ten = λ t m log buffer f h a q l n. rw (f, le-ltb (length buffer) replyRoom h, a, q, l, lt-ltb longest (length (dataOf m)) (omega arith)) refl;
+  hello-world = cut.hello-world;
+  all-zeros = cut.all-zeros;
+  three = refl;
+  passes = refl;
+  sixteen = λ log page offset l p. rw (l, p) refl;
+  second = refl;
+  then-second = refl;
+}
