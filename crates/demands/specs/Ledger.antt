@@ -1,6 +1,6 @@
 -- "The ledger of demands 2 and 3": how it answers a request from its rows, the changed sectors and the log's length. It decides
 -- nothing from log bytes. With the archive's step it shares how a message is taken apart and a reply put together, SHA-1, the
--- sectors of a row, and constants; each decision is written here anew.
+-- sectors of a row, the tests of a log's length and of a block type, and constants; each other decision is written here anew.
 use mathlib.Core.Bool.{Bool, true, false, cond, not, _&&_, _||_}
 use mathlib.Core.List.{List, [], _∷_}
 use mathlib.Core.Option.{Option, none, some}

@@ -19,7 +19,7 @@ ghost use Rattle.reader.specs.Reader.{bytesAt, sizeOf, numberOf};
 // The longest block.
 const LONGEST: usize = 57344;
 
-// Sector n. Every sector is read through this function.
+// Sector n.
 fn sector_at(log: &[u8], n: usize) -> &[u8]
     requires { ⌜ n < sectors (length (now log)) ⌝ }
     ensures { λ r. ⌜ now r ≡ at (now (log .entry)) n ⌝ }

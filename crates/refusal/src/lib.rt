@@ -31,7 +31,7 @@ pub enum Refusal {
     OverCount,
     // Too few sectors are left after the used part.
     NoRoom,
-    // A block of that score and type has other bytes.
+    // A block of that score and type has other bytes, or data that isn't empty has the zero score.
     Clash,
     // An ill-formed entry or root.
     Entry,

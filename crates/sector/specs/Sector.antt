@@ -54,7 +54,7 @@ labelLines l score =
 unfoldable pub labelOf : Label → Bytes → Bytes
 labelOf l score = lines (labelLines l score)
 
--- what the digits at their places in such a label say; digits that are none make a number that no label has there
+-- what the digits at their places in such a label say; characters that are no digits make some number too, whose label isn't these bytes
 abbrev pub recField : Bytes → ℕ
 recField s = hexValue (take 8 (drop 4 s))
 
@@ -70,7 +70,7 @@ scoreDigits s = take 40 (drop 55 s)
 abbrev pub scoreField : Bytes → Bytes
 scoreField s = readBytes (scoreDigits s)
 
--- "then crcName (8)": the line of the check over the bytes before it
+-- "then crc= (8)": the line of the check over the bytes before it
 unfoldable pub check : Bytes → Bytes
 check body = line crcName (hex 8 (crc32Of body))
 
