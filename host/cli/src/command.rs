@@ -111,13 +111,16 @@ pub const COMMANDS: [Command; 9] = [
 pub fn run(words: &[OsString], streams: &mut Streams) -> u8 {
     match choose(words, streams) {
         Ok(status) => status,
-        Err(failure) => {
-            if !failure.words.is_empty() {
-                streams.tell(&failure.words);
-            }
-            failure.status
-        }
+        Err(failure) => end(failure, streams),
     }
+}
+
+/// Tells what failed, and gives its status.
+pub fn end(failure: Failure, streams: &mut Streams) -> u8 {
+    if !failure.words.is_empty() {
+        streams.tell(&failure.words);
+    }
+    failure.status
 }
 
 fn choose(words: &[OsString], streams: &mut Streams) -> Result<u8, Failure> {
@@ -126,16 +129,17 @@ fn choose(words: &[OsString], streams: &mut Streams) -> Result<u8, Failure> {
         streams.tell_plain(&help::overview());
         return Ok(USAGE);
     };
-    match first.to_str() {
-        Some("--help" | "-h") => print(&help::overview(), streams),
-        Some("help") => match rest.first() {
-            None => print(&help::overview(), streams),
-            Some(name) => print(&help::of(find(name)?), streams),
-        },
-        Some("--version" | "-V") => print(
+    match (first.to_str(), rest) {
+        (Some("--help" | "-h" | "help"), []) => print(&help::overview(), streams),
+        (Some("help"), [name]) => print(&help::of(find(name)?), streams),
+        (Some("--version" | "-V"), []) => print(
             concat!("skywimple ", env!("CARGO_PKG_VERSION"), "\n"),
             streams,
         ),
+        (Some("--help" | "-h" | "help" | "--version" | "-V"), [.., extra]) => {
+            let words = format!("one word too many: {}", extra.display());
+            Err(Failure::usage(words))
+        }
         _ => start(find(first)?, rest, streams),
     }
 }

@@ -1,11 +1,11 @@
 //! `demo`: three donor cards, a damaged sector, and what is answered then.
 
+use std::env;
 use std::ffi::OsString;
 use std::fs::{self, OpenOptions};
 use std::io;
+use std::os::unix::fs::FileExt;
 use std::path::{Path, PathBuf};
-use std::time::{SystemTime, UNIX_EPOCH};
-use std::{env, process};
 
 use crate::arguments::Arguments;
 use crate::command;
@@ -13,6 +13,7 @@ use crate::hex;
 use crate::log_file::SECTOR;
 use crate::status::{Failure, CLAIM_FAILED, DONE, NOT_HELD, NOT_KNOWN, VERDICT_NOT_KNOWN};
 use crate::streams::Streams;
+use crate::unique;
 
 const LOG: &str = "cards.log";
 
@@ -101,7 +102,7 @@ impl Demo<'_, '_> {
         let path = self.folder.join(LOG);
         let damage = || {
             let file = OpenOptions::new().write(true).open(&path)?;
-            crate::log_file::write_at(&file, SECTOR as u64, &[0xdb; SECTOR])
+            file.write_all_at(&[0xdb; SECTOR], SECTOR as u64)
         };
         damage().map_err(|e| Failure::disk("write", &path, &e))
     }
@@ -209,9 +210,7 @@ struct Folder {
 
 impl Folder {
     fn new() -> Result<Folder, Failure> {
-        let now = SystemTime::now().duration_since(UNIX_EPOCH);
-        let unique = now.map_or(0, |now| now.as_nanos());
-        let name = format!("skywimple-demo-{}-{unique}", process::id());
+        let name = format!("skywimple-demo-{}", unique::name());
         let path = env::temp_dir().join(name);
         fs::create_dir(&path).map_err(|e| Failure::disk("make the folder", &path, &e))?;
         Ok(Folder { path })

@@ -1,12 +1,15 @@
 //! `doubt`: makes a log that lost its tail fit its mark again, with what is lost "not known".
 
 use std::fs::OpenOptions;
+use std::os::unix::fs::FileExt;
 use std::path::Path;
 
 use crate::arguments::Arguments;
+use crate::lock;
 use crate::log_file::{self, SECTOR};
 use crate::loss::Loss;
 use crate::mark::{self, Mark};
+use crate::sectors;
 use crate::status::{Failure, DONE};
 use crate::streams::Streams;
 
@@ -19,40 +22,31 @@ pub fn run(arguments: &Arguments, streams: &mut Streams) -> Result<u8, Failure> 
     Mark::require(path)?;
     let mut options = OpenOptions::new();
     let options = options.read(true).write(true).create(true).truncate(false);
-    let file = options.open(path).map_err(|e| Failure::open(path, &e))?;
-    log_file::lock(&file, path)?;
+    let file = lock::open(options, path)?;
     // Again, now that no writer can renew it.
     let mark = Mark::require(path)?;
     let failed = |e| Failure::disk("mend", path, &e);
 
-    let length = file.metadata().map_err(failed)?.len();
+    let mut bytes = log_file::load(&file, path, Some(mark), streams)?.bytes;
+    let length = bytes.len() as u64;
     let marked = mark.sectors * SECTOR;
-    if length >= marked as u64 && !log_file::allowed(length) {
-        return Err(Failure::refused_about(3, path.as_os_str()));
-    }
-    let mut bytes = log_file::read_all(&file, length).map_err(failed)?;
     let loss = Loss::new(mark, Some(length), log_file::used(&bytes));
     if loss.cut() {
-        log_file::write_at(&file, length, &vec![0; marked - bytes.len()]).map_err(failed)?;
+        let zeros = vec![0; marked - bytes.len()];
+        file.write_all_at(&zeros, length).map_err(failed)?;
         bytes.resize(marked, 0);
     }
     if log_file::used(&bytes) < mark.used {
         let at = (mark.used - 1) * SECTOR;
-        log_file::write_at(&file, at as u64, &sector_of_doubt()).map_err(failed)?;
+        let doubt = sectors::unsound(SENTENCE);
+        file.write_all_at(&doubt, at as u64).map_err(failed)?;
     }
     if loss.any() {
         file.sync_all().map_err(failed)?;
-        mark::sync_folder(path).map_err(failed)?;
+        mark::sync_folder(&mark::path_of(path)).map_err(failed)?;
     }
     streams.answer(answer(path, &loss).as_bytes())?;
     Ok(DONE)
-}
-
-/// A sector that isn't blank and fits no check: its last 13 bytes are zeros.
-fn sector_of_doubt() -> [u8; SECTOR] {
-    let mut sector = [0; SECTOR];
-    sector[..SENTENCE.len()].copy_from_slice(SENTENCE);
-    sector
 }
 
 fn answer(path: &Path, loss: &Loss) -> String {

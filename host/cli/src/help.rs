@@ -36,8 +36,10 @@ pub fn of(command: &Command) -> String {
 
 pub const INIT: &str = "\
 N is 0 to 131072. Writes N sectors of 512 zero bytes to LOG and the mark to LOG.mark, both synced.
-Never overwrites a file: where LOG or LOG.mark is there, the status is 73.
+Never overwrites a file: where LOG or LOG.mark is there, the status is 73. LOG must not end in .mark.
 Keep LOG and LOG.mark together; without the mark nobody can tell whether the log's tail was lost.
+Copy the mark first, then the log. When you restore an older log, keep the newer mark: an older one
+cannot tell what is lost.
 ";
 
 pub const PUT: &str = "\
@@ -72,13 +74,14 @@ pub const DOUBT: &str = "\
 For a log that does not fit its mark (status 65): brings a cut or missing file back to its length
 and writes at the last marked sector, where that is lost, one that is neither blank nor sound. After
 that all that was lost is \"not known\", never \"not held\". Writes nothing where nothing is lost.
-Restoring the log from a copy is better, where there is one.
+Restoring the log from a copy is better, where there is one. When you restore an older log, keep the
+newer mark: an older one cannot tell what is lost. Copy the mark first, then the log.
 ";
 
 pub const REPORT: &str = "\
 Prints sectors, used, records, doubtful and the verdict: sound (status 0) or notknown (status 32).
   --map       draws the log: # sound, ? doubtful, . blank; a cell with any doubtful sector is ?
-  --svg FILE  writes the map as a picture; overwrites FILE
+  --svg FILE  writes the map as a picture; overwrites FILE only if it is a picture
   --width N   cells in a row (default: COLUMNS, else the terminal's width, else 80)
   --adopt     take a log without a good mark as it is, and mark it
 ";

@@ -2,10 +2,12 @@
 
 use std::fs::{self, File};
 use std::io;
+use std::os::unix::fs::FileExt;
 use std::path::Path;
 
 use crate::arguments::Arguments;
-use crate::log_file::{self, SECTOR};
+use crate::lock;
+use crate::log_file::SECTOR;
 use crate::mark::{self, Mark, MOST_SECTORS};
 use crate::status::{Failure, DONE, EXISTS};
 use crate::streams::Streams;
@@ -19,6 +21,10 @@ pub fn run(arguments: &Arguments, _: &mut Streams) -> Result<u8, Failure> {
     if sectors > MOST_SECTORS {
         return Err(Failure::refused(3));
     }
+    let name = path.as_os_str().as_encoded_bytes();
+    if name.ends_with(mark::SUFFIX.as_bytes()) {
+        return Err(Failure::usage("a name that ends in .mark is a mark's name"));
+    }
     let mark_path = mark::path_of(path);
     if fs::symlink_metadata(&mark_path).is_ok() {
         return Err(exists(&mark_path));
@@ -27,9 +33,10 @@ pub fn run(arguments: &Arguments, _: &mut Streams) -> Result<u8, Failure> {
         io::ErrorKind::AlreadyExists => exists(path),
         _ => Failure::disk("create", path, &e),
     })?;
-    log_file::lock(&file, path)?;
     let mark = Mark { sectors, used: 0 };
-    let made = blank(&file, path, sectors).and_then(|()| mark.write(&mark_path));
+    let made = lock::take(&file, path)
+        .and_then(|()| blank(&file, path, sectors))
+        .and_then(|()| mark.write(&mark_path));
     if made.is_err() {
         // Both are this call's own files.
         let _ = fs::remove_file(&mark_path);
@@ -42,7 +49,7 @@ pub fn run(arguments: &Arguments, _: &mut Streams) -> Result<u8, Failure> {
 fn blank(file: &File, path: &Path, sectors: usize) -> Result<(), Failure> {
     let zeros = vec![0; sectors * SECTOR];
     let write = || {
-        log_file::write_at(file, 0, &zeros)?;
+        file.write_all_at(&zeros, 0)?;
         file.sync_all()?;
         mark::sync_folder(path)
     };

@@ -55,11 +55,21 @@ impl Loss {
                 self.used
             ),
         };
+        let advice = match self.sectors() {
+            0 => format!(
+                "The log is not served until it has its length again: run `skywimple doubt {log}`, \
+                 or restore the log from a copy and leave the mark as it is."
+            ),
+            _ => format!(
+                "The log is not served, because lost blocks would be called not held. Restore the \
+                 log from a copy and leave the mark as it is: an older mark cannot tell what is \
+                 lost. Or run `skywimple doubt {log}`: then what is lost is \"not known\", and \
+                 the rest can be read."
+            ),
+        };
         let words = format!(
             "{log} does not fit its mark, which says {sectors} sectors, {used} of them used; \
-             {found}: {}. The log is not served, because lost blocks would be called not held. \
-             Restore it from a copy, or run `skywimple doubt {log}`: then what is lost is \
-             \"not known\", and the rest can be read.",
+             {found}: {}. {advice}",
             self.words()
         );
         Failure::new(UNFIT, words)

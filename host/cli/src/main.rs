@@ -8,6 +8,7 @@ mod get;
 mod help;
 mod hex;
 mod init;
+mod lock;
 mod log_file;
 mod loss;
 mod map;
@@ -16,19 +17,25 @@ mod progress;
 mod put;
 mod read;
 mod report;
+mod sectors;
 mod serve;
 mod session;
 mod status;
 mod streams;
 mod svg;
 mod terminal;
+mod unique;
 mod walk;
 mod words;
+mod writer;
 
 use std::env;
+use std::fs::File;
 use std::io::{self, BufWriter, IsTerminal};
+use std::os::fd::AsFd;
 use std::process::ExitCode;
 
+use status::Failure;
 use streams::Streams;
 
 /// More than any reply has.
@@ -39,10 +46,19 @@ fn main() -> ExitCode {
     let (out_terminal, err_terminal) = (io::stdout().is_terminal(), io::stderr().is_terminal());
     let mut streams = Streams {
         input: &mut io::stdin().lock(),
-        out: &mut BufWriter::with_capacity(BUFFER, io::stdout().lock()),
+        out: &mut io::sink(),
         err: &mut io::stderr(),
         out_terminal,
         err_terminal,
     };
-    ExitCode::from(command::run(&words, &mut streams))
+    // Not through `Stdout`, which would cut replies at each line's end: a reply is one write.
+    let status = match io::stdout().as_fd().try_clone_to_owned() {
+        Ok(out) => {
+            let mut out = BufWriter::with_capacity(BUFFER, File::from(out));
+            streams.out = &mut out;
+            command::run(&words, &mut streams)
+        }
+        Err(e) => command::end(Failure::output(e), &mut streams),
+    };
+    ExitCode::from(status)
 }

@@ -13,6 +13,7 @@ use skywimple_archive::crc32;
 
 use crate::hex;
 use crate::status::{Failure, MISSING, UNFIT};
+use crate::unique;
 
 /// The most sectors a log may have.
 pub const MOST_SECTORS: usize = 131_072;
@@ -34,10 +35,36 @@ pub enum Found {
     Missing,
 }
 
+/// What marks' names end in.
+pub const SUFFIX: &str = ".mark";
+
 /// The mark of a log: beside the file itself where the path is a symbolic link.
 pub fn path_of(log: &Path) -> PathBuf {
-    let file = fs::canonicalize(log).unwrap_or_else(|_| log.to_path_buf());
-    with_suffix(&file, ".mark")
+    with_suffix(&resolved(log), SUFFIX)
+}
+
+/// The file that a path leads to, also one that isn't there.
+pub fn resolved(path: &Path) -> PathBuf {
+    if let Ok(path) = fs::canonicalize(path) {
+        return path;
+    }
+    let path = through_links(path);
+    match (fs::canonicalize(folder(&path)), path.file_name()) {
+        (Ok(folder), Some(name)) => folder.join(name),
+        _ => path,
+    }
+}
+
+/// Follows symbolic links to their end, as many as the system would.
+fn through_links(path: &Path) -> PathBuf {
+    let mut path = path.to_path_buf();
+    for _ in 0..40 {
+        match fs::read_link(&path) {
+            Ok(target) => path = folder(&path).join(target),
+            Err(_) => break,
+        }
+    }
+    path
 }
 
 fn with_suffix(path: &Path, suffix: &str) -> PathBuf {
@@ -92,15 +119,23 @@ impl Mark {
 
     /// Puts it in place of the one before, all or nothing, and on disk. Its caller holds the log's lock.
     pub fn write(&self, path: &Path) -> Result<(), Failure> {
-        let new = with_suffix(path, ".new");
-        let replace = || {
-            let mut file = File::create(&new)?;
-            file.write_all(self.text().as_bytes())?;
-            file.sync_all()?;
-            fs::rename(&new, path)?;
-            sync_folder(path)
-        };
-        replace().map_err(|e| Failure::disk("write the mark", path, &e))
+        let new = with_suffix(path, &format!(".{}.new", unique::name()));
+        let replaced = File::create_new(&new).and_then(|file| {
+            let replaced = self.replace(file, &new, path);
+            if replaced.is_err() {
+                let _ = fs::remove_file(&new);
+            }
+            replaced
+        });
+        let synced = replaced.and_then(|()| sync_folder(path));
+        synced.map_err(|e| Failure::disk("write the mark", path, &e))
+    }
+
+    /// Writes it to a new file and gives that the mark's name.
+    fn replace(&self, mut file: File, new: &Path, path: &Path) -> io::Result<()> {
+        file.write_all(self.text().as_bytes())?;
+        file.sync_all()?;
+        fs::rename(new, path)
     }
 }
 
@@ -113,11 +148,14 @@ fn read_front(file: File) -> io::Result<Vec<u8>> {
 
 /// Has the folder's own entries written to disk.
 pub fn sync_folder(file: &Path) -> io::Result<()> {
-    let folder = match file.parent() {
+    File::open(folder(file))?.sync_all()
+}
+
+fn folder(file: &Path) -> &Path {
+    match file.parent() {
         Some(folder) if !folder.as_os_str().is_empty() => folder,
         _ => Path::new("."),
-    };
-    File::open(folder)?.sync_all()
+    }
 }
 
 fn missing(log: &Path, path: &Path) -> Failure {

@@ -7,26 +7,33 @@ use std::path::Path;
 
 use crate::arguments::Arguments;
 use crate::hex;
-use crate::log_file::Writer;
 use crate::session::{Client, Score, MOST_DATA};
 use crate::status::{Failure, DONE};
 use crate::streams::Streams;
+use crate::writer::Writer;
 
 pub fn run(arguments: &Arguments, streams: &mut Streams) -> Result<u8, Failure> {
     let kind = arguments.kind()?;
-    let mut log = Writer::open(arguments.path(0), arguments.flag("--adopt"), streams)?;
-    let mut client = Client::greet(&mut log.bytes)?;
     let standard_input = [OsStr::new("-").to_os_string()];
     let files = match &arguments.words[1..] {
         [] => &standard_input[..],
         files => files,
     };
+    // A block that someone may be slow to send holds up no other writer.
+    let mut early = match files {
+        [file] if file == "-" => Some(read_block(file, streams.input)),
+        _ => None,
+    };
+    let mut log = Writer::open(arguments.path(0), arguments.flag("--adopt"), streams)?;
+    let mut client = Client::greet(&mut log.bytes)?;
 
     let mut status = DONE;
     for file in files {
-        let stored = read_block(file, streams.input).and_then(|block| {
+        let block = early.take();
+        let block = block.unwrap_or_else(|| read_block(file, streams.input));
+        let stored = block.and_then(|block| {
             let score = client.write(&mut log.bytes, kind, &block);
-            score.map_err(|number| Failure::refused_about(number, file))
+            score.map_err(|number| Failure::refused_about(number, shown(file)))
         });
         match stored {
             Ok(score) => {
@@ -35,15 +42,22 @@ pub fn run(arguments: &Arguments, streams: &mut Streams) -> Result<u8, Failure> 
             }
             Err(failure) => {
                 streams.tell(&failure.words);
-                status = if status == DONE {
-                    failure.status
-                } else {
-                    status
-                };
+                if status == DONE {
+                    status = failure.status;
+                }
             }
         }
     }
     Ok(status)
+}
+
+/// A file as it is called in words.
+fn shown(file: &OsStr) -> &OsStr {
+    if file == "-" {
+        OsStr::new("standard input")
+    } else {
+        file
+    }
 }
 
 /// The block that a file or standard input holds, and one byte more where it is too long.
@@ -52,10 +66,10 @@ fn read_block(file: &OsStr, input: &mut dyn Read) -> Result<Vec<u8>, Failure> {
     let mut read = |input: &mut dyn Read| -> io::Result<usize> {
         input.take(MOST_DATA as u64 + 1).read_to_end(&mut block)
     };
+    let path = Path::new(shown(file));
     if file == "-" {
-        read(input).map_err(|e| Failure::disk("read", Path::new("standard input"), &e))?;
+        read(input).map_err(|e| Failure::disk("read", path, &e))?;
     } else {
-        let path = Path::new(file);
         let mut opened = File::open(path).map_err(|e| Failure::open(path, &e))?;
         read(&mut opened).map_err(|e| Failure::disk("read", path, &e))?;
     }

@@ -43,7 +43,7 @@ fn copy(
             // An offset that is refused so, and no other, is the end: all tests before it passed.
             Err(PAST_THE_END) => return Ok(DONE),
             Err(number) => {
-                let words = words::refusal(number);
+                let words = words::refusal_in_tree(number);
                 let words = format!("reading stopped at offset {offset}: {words}");
                 return Err(Failure::new(number, words));
             }

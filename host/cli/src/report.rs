@@ -1,15 +1,16 @@
 //! `report`: the log's numbers and verdict, and its map.
 
 use std::ffi::OsStr;
-use std::fs;
-use std::os::unix::fs::MetadataExt;
+use std::fs::{self, File};
+use std::io::Read;
+use std::os::unix::fs::{FileTypeExt, MetadataExt};
 use std::path::Path;
 
 use crate::arguments::Arguments;
 use crate::log_file;
 use crate::map::Map;
 use crate::mark;
-use crate::status::{Failure, DONE, VERDICT_NOT_KNOWN};
+use crate::status::{Failure, DONE, EXISTS, VERDICT_NOT_KNOWN};
 use crate::streams::Streams;
 use crate::svg;
 use crate::terminal;
@@ -26,7 +27,7 @@ pub fn run(arguments: &Arguments, streams: &mut Streams) -> Result<u8, Failure> 
     }
     let picture = arguments.value("--svg");
     if let Some(picture) = picture {
-        apart(path, picture)?;
+        may_draw(path, picture)?;
     }
 
     let log = log_file::read(path, arguments.flag("--adopt"), streams)?;
@@ -54,14 +55,39 @@ pub fn run(arguments: &Arguments, streams: &mut Streams) -> Result<u8, Failure> 
     })
 }
 
-/// The picture must not overwrite the log or its mark, by whatever name.
-fn apart(log: &Path, picture: &OsStr) -> Result<(), Failure> {
+/// A picture may overwrite a picture only: not the log or its mark, by whatever name, nor any other
+/// file.
+fn may_draw(log: &Path, picture: &OsStr) -> Result<(), Failure> {
+    let picture = Path::new(picture);
+    let mark = mark::path_of(log);
     let identity = |path: &Path| fs::metadata(path).ok().map(|file| (file.dev(), file.ino()));
-    let file = identity(Path::new(picture));
-    let kept = [identity(log), identity(&mark::path_of(log))];
-    if file.is_some() && kept.contains(&file) {
+    let file = identity(picture);
+    let same = file.is_some() && [identity(log), identity(&mark)].contains(&file);
+    if same || mark::resolved(picture) == mark {
         let words = format!("--svg would overwrite the log: {}", picture.display());
         return Err(Failure::usage(words));
     }
+    if holds_something_else(picture) {
+        let words = format!(
+            "{} is there already and no picture, so it is not overwritten. Give --svg another \
+             name, or move it away.",
+            picture.display()
+        );
+        return Err(Failure::new(EXISTS, words));
+    }
     Ok(())
+}
+
+/// Whether a file is there that doesn't begin as a picture. Pipes and terminals hold nothing.
+fn holds_something_else(path: &Path) -> bool {
+    let Ok(kind) = fs::metadata(path).map(|file| file.file_type()) else {
+        return false;
+    };
+    if kind.is_fifo() || kind.is_char_device() {
+        return false;
+    }
+    let mut front = Vec::new();
+    // Where nothing can be read, nobody knows what would be overwritten.
+    let read = File::open(path).and_then(|file| file.take(5).read_to_end(&mut front));
+    read.is_err() || !(front.starts_with(b"<svg") || front == b"<?xml")
 }

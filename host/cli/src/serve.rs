@@ -6,12 +6,12 @@ use std::path::Path;
 use skywimple_archive::Session;
 
 use crate::arguments::Arguments;
-use crate::log_file::Writer;
 use crate::progress::Progress;
 use crate::session::{whole_reply, REPLY};
 use crate::status::{Failure, DONE};
 use crate::streams::Streams;
 use crate::words;
+use crate::writer::Writer;
 
 pub fn run(arguments: &Arguments, streams: &mut Streams) -> Result<u8, Failure> {
     let mut log = Writer::open(arguments.path(0), arguments.flag("--adopt"), streams)?;

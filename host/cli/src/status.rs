@@ -30,10 +30,10 @@ pub const TABLE: [(&str, &str); 9] = [
     ("64", "the words given make no command"),
     (
         "65",
-        "the log does not fit its mark, or the mark is damaged",
+        "the log does not fit its mark, the mark is damaged, or the log has a second name",
     ),
     ("66", "no such file, or the log has no mark (see --adopt)"),
-    ("73", "init would overwrite a file"),
+    ("73", "init or --svg would overwrite a file"),
     ("74", "reading or writing failed"),
     ("75", "another writer holds the log"),
 ];

@@ -9,6 +9,7 @@ use crate::arguments::Arguments;
 use crate::log_file;
 use crate::status::{Failure, DONE};
 use crate::streams::Streams;
+use crate::words;
 use skywimple_archive::walk;
 
 /// The most visits a walk may be allowed, and the usual allowance.
@@ -26,7 +27,7 @@ pub fn run(arguments: &Arguments, streams: &mut Streams) -> Result<u8, Failure> 
     };
     if number != 0 {
         streams.answer(format!("visits={visits}\n").as_bytes())?;
-        return Err(Failure::refused(number));
+        return Err(Failure::new(number, words::refusal_in_tree(number)));
     }
     streams.answer(format!("visits={visits}\ndone\n").as_bytes())?;
     Ok(DONE)

@@ -83,7 +83,7 @@ const REFUSALS: [Words; 23] = [
         "log full",
         "too few sectors are left after the used part",
         "Nothing was stored. Lengthen the log with zeros while no writer runs \
-         (`truncate -s +1M LOG`), or begin another one with `skywimple init`.",
+         (`truncate -s +1M LOG`) (at most 131,072 sectors in all), or begin another one with `skywimple init`.",
     ),
     words(
         "clash",
@@ -136,15 +136,35 @@ const REFUSALS: [Words; 23] = [
 
 /// A refusal in words, on one line.
 pub fn refusal(number: u8) -> String {
+    told(number, None)
+}
+
+/// A refusal of a block that a tree leads to: no option changes its type or its count.
+pub fn refusal_in_tree(number: u8) -> String {
+    let advice = match number {
+        11 => Some(
+            "Check the score or entry given; if it is right, a block below it is missing: \
+             store the tree again from its source.",
+        ),
+        13 => Some("The tree was written wrongly; store it again from its source."),
+        _ => None,
+    };
+    told(number, advice)
+}
+
+fn told(number: u8, advice: Option<&str>) -> String {
     match REFUSALS.get(usize::from(number).wrapping_sub(1)) {
-        Some(w) => format!("{} ({number}): {}. {}", w.name, w.when, w.advice),
+        Some(w) => {
+            let advice = advice.unwrap_or(w.advice);
+            format!("{} ({number}): {}. {advice}", w.name, w.when)
+        }
         None => format!("refused ({number})"),
     }
 }
 
 #[cfg(test)]
 mod tests {
-    use super::refusal;
+    use super::{refusal, refusal_in_tree};
 
     #[test]
     fn not_held_and_not_known_differ() {
@@ -156,7 +176,17 @@ mod tests {
     #[test]
     fn any_number_has_words() {
         for number in 0..=255 {
-            assert!(refusal(number).contains(&format!("({number})")));
+            let sign = format!("({number})");
+            assert!(refusal(number).contains(&sign));
+            assert!(refusal_in_tree(number).contains(&sign));
+        }
+    }
+
+    #[test]
+    fn no_advice_on_options_that_are_not_there() {
+        for (number, option) in [(11, "--type"), (13, "--count")] {
+            assert!(refusal(number).contains(option));
+            assert!(!refusal_in_tree(number).contains(option));
         }
     }
 }

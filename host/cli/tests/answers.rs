@@ -81,6 +81,20 @@ fn init_never_overwrites() {
     init("no/such/folder").fails(74, "cannot create");
 }
 
+/// A mark's name is no log's, and where the mark cannot be written there is no log either.
+#[test]
+fn init_that_fails_leaves_nothing() {
+    let place = Place::new();
+    let init = |name: &str| place.run(&["init", name, "--sectors", "3"]);
+    for name in ["log.mark", ".mark"] {
+        init(name).fails(64, "ends in .mark");
+    }
+    for length in [250, 255] {
+        init(&"x".repeat(length)).fails(74, "cannot write the mark");
+    }
+    assert!(only(&place.folder, &[]));
+}
+
 #[test]
 fn sectors_of_a_log() {
     let place = Place::new();
@@ -103,13 +117,31 @@ fn sectors_of_a_log() {
     place.not_held(&score(b"x"));
 }
 
+/// As many sectors as a log may have, and the last of them used.
+#[test]
+fn the_longest_log() {
+    let place = Place::with_log(131_072);
+    let first = place.put(b"first");
+    place.reads(&first, b"first");
+    place.damage(|log| log[131_070 * SECTOR] = 1);
+    let last = place.put(b"last");
+    place.reads(&last, b"last");
+    place.reads(&first, b"first");
+    place.not_known(&score(b"never stored"));
+    let full = place.feed(&["put", "log"], b"no room");
+    full.fails(14, "log full (14)");
+    assert_eq!(place.file("log.mark"), mark(131_072, 131_072).as_bytes());
+    let report = place.run(&["report", "log"]).with(32).text();
+    assert!(report.starts_with("sectors=131072\nused=131072\nrecords=2\n"));
+}
+
 #[test]
 fn a_full_log_may_be_lengthened() {
     let place = Place::with_log(1);
     place.put(b"first");
     place
         .feed(&["put", "log"], b"second")
-        .fails(14, "truncate -s");
+        .fails(14, "truncate -s +1M LOG`) (at most 131,072 sectors in all)");
     place.damage(|log| log.resize(2 * SECTOR, 0));
     let second = place.put(b"second");
     place.reads(&second, b"second");
@@ -148,7 +180,7 @@ fn long_blocks() {
     place.reads(&score, &longest);
     for length in [57_345, 65_529, 65_530, 200_000] {
         let put = place.feed(&["put", "log"], &block(8, length));
-        put.fails(10, "block too long (10)");
+        put.fails(10, "standard input: block too long (10)");
     }
     assert_eq!(place.file("log.mark"), mark(300, 143).as_bytes());
 }

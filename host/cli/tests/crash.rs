@@ -5,6 +5,7 @@ mod common;
 use std::io::Write;
 use std::ops::Range;
 use std::thread;
+use std::time::Duration;
 
 use common::*;
 
@@ -46,7 +47,7 @@ fn torn(place: &Place, blocks: &[Vec<u8>; 2]) {
 fn the_first_sectors_of_an_append() {
     let (place, blocks, after, mark) = before_and_after();
     let before = place.file("log");
-    let (start, end) = (2 * SECTOR, 7 * SECTOR);
+    let start = 2 * SECTOR;
     for sectors in 1..5 {
         tear(
             &place,
@@ -64,16 +65,36 @@ fn the_first_sectors_of_an_append() {
 
     tear(&place, &before, &after, &mark, start..start);
     place.not_held(&score(&blocks[1]));
-    tear(&place, &before, &after, &mark, start..end);
-    place.reads(&score(&blocks[1]), &blocks[1]);
-    assert_eq!(place.file("log.mark"), mark.as_bytes());
-    place.put(&blocks[0]);
+}
+
+/// A crash between the log and its mark: who comes next renews the mark, so that a block that was
+/// read once is never lost unseen.
+#[test]
+fn a_whole_append_without_its_mark() {
+    let (place, blocks, after, mark) = before_and_after();
+    let before = place.file("log");
+    let second = score(&blocks[1]);
+    let whole = || tear(&place, &before, &after, &mark, 2 * SECTOR..7 * SECTOR);
     let renewed = common::mark(16, 7);
-    assert_eq!(
-        place.file("log.mark"),
-        renewed.as_bytes(),
-        "by the next writer"
-    );
+    whole();
+    place.put(&blocks[0]);
+    assert_eq!(place.file("log.mark"), renewed.as_bytes(), "by a writer");
+    whole();
+    place.reads(&second, &blocks[1]);
+    assert_eq!(place.file("log.mark"), renewed.as_bytes(), "by a reader");
+    place.damage(|log| log[2 * SECTOR..].fill(0));
+    place
+        .get(&second)
+        .fails(65, "the last 5 used sectors are lost");
+
+    place.write("log", &before);
+    place.write("log.mark", &mark);
+    let mut server = place.serve();
+    assert_eq!(server.ask(&HELLO), HELLO_REPLY);
+    whole();
+    place.reads(&second, &blocks[1]);
+    assert_eq!(place.file("log.mark"), mark.as_bytes(), "beside a writer");
+    server.end();
 }
 
 /// A disk may write later sectors first.
@@ -93,11 +114,12 @@ fn a_piece_of_a_new_mark() {
     let (place, blocks, after, mark) = before_and_after();
     let before = place.file("log");
     tear(&place, &before, &after, &mark, 2 * SECTOR..7 * SECTOR);
-    place.write("log.mark.new", "sectors=0000");
+    place.write("log.mark.7-7.new", "sectors=0000");
     place.reads(&score(&blocks[1]), &blocks[1]);
     place.put(b"next");
     assert_eq!(place.file("log.mark"), common::mark(16, 8).as_bytes());
-    assert!(only(&place.folder, &["log", "log.mark"]));
+    let files = ["log", "log.mark", "log.mark.7-7.new"];
+    assert!(only(&place.folder, &files), "no other piece is left");
 }
 
 /// Kills a server that is busy with writes, again and again on one log. Every block that was
@@ -167,4 +189,52 @@ fn check(place: &Place, known: &[Vec<u8>], others: &[Vec<u8>]) {
         assert!(lawful.contains(&next()), "wrong bytes");
     }
     assert!(rest.is_empty());
+}
+
+/// Runs a command and kills it after so many milliseconds; whether that came before its end.
+fn killed(place: &Place, words: &[&str], delay: u64) -> bool {
+    let mut child = place.command(words).spawn().unwrap();
+    thread::sleep(Duration::from_millis(delay));
+    child.kill().unwrap();
+    child.wait().unwrap().code().is_none()
+}
+
+const LONG: usize = 40_000;
+
+/// A log is there with its mark, or is not served.
+#[test]
+fn killed_in_init() {
+    let sectors = LONG.to_string();
+    let init = ["init", "log", "--sectors", &sectors];
+    let mut kills = 0;
+    for delay in 0..12 {
+        let place = Place::new();
+        kills += usize::from(killed(&place, &init, delay));
+        let answer = place.get(&score(b"any"));
+        if answer.status == 11 {
+            assert!(place.file("log") == vec![0; LONG * SECTOR]);
+            assert_eq!(place.file("log.mark"), mark(LONG, 0).as_bytes());
+        } else {
+            answer.fails(66, "log");
+        }
+    }
+    assert!(kills > 0, "no kill came in time");
+}
+
+/// What was lost is "not known" or the log is not served, and `doubt` can be run again.
+#[test]
+fn killed_in_doubt() {
+    let place = Place::with_log(LONG);
+    let lost = place.put(&block(1, 1000));
+    let mut kills = 0;
+    for delay in 0..12 {
+        place.write("log", b"");
+        kills += usize::from(killed(&place, &["doubt", "log"], delay));
+        let status = place.get(&lost).status;
+        assert!([12, 65].contains(&status), "{status}");
+        place.run(&["doubt", "log"]).with(0);
+        place.not_known(&lost);
+        assert_eq!(place.file("log").len(), LONG * SECTOR);
+    }
+    assert!(kills > 0, "no kill came in time");
 }

@@ -115,6 +115,31 @@ fn a_picture_never_overwrites_the_log() {
     assert_eq!((place.file("log"), place.file("log.mark")), before);
 }
 
+/// Nor the place of a mark that is missing, nor any file that is no picture.
+#[test]
+fn a_picture_overwrites_pictures_only() {
+    let place = damaged();
+    let draw = |file: &str| place.run(&["report", "log", "--svg", file]);
+    for other in ["precious", "", "<sv", "<html>"] {
+        place.write("other", other);
+        draw("other").fails(73, "other is there already and no picture");
+        assert_eq!(place.file("other"), other.as_bytes());
+    }
+    draw(".").fails(73, "no picture");
+    for picture in ["<svg", "<?xml version=\"1.0\"?>\n<svg"] {
+        place.write("other", picture);
+        draw("other").with(32);
+        assert!(place.file("other").ends_with(b"</svg>\n"));
+    }
+    draw("/dev/null").with(32);
+    fs::remove_file(place.path("log.mark")).unwrap();
+    fs::create_dir(place.path("folder")).unwrap();
+    for mark in ["log.mark", "./folder/../log.mark"] {
+        let words = ["report", "log", "--adopt", "--svg", mark];
+        place.run(&words).fails(64, "--svg would overwrite the log");
+    }
+}
+
 #[test]
 fn maps_of_no_sectors() {
     let place = Place::with_log(0);

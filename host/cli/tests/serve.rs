@@ -2,6 +2,11 @@
 
 mod common;
 
+use std::fs;
+use std::os::fd::OwnedFd;
+use std::os::unix::net::UnixDatagram;
+use std::process::Stdio;
+
 use common::*;
 
 #[test]
@@ -126,4 +131,38 @@ fn not_known_over_the_wire() {
         error_reply(5, 12),
     ];
     assert_eq!(answer.out, replies.concat());
+}
+
+/// Over a socket that keeps writes apart: each reply is one, also where its bytes look like lines.
+#[test]
+fn a_reply_is_one_write() {
+    let place = Place::with_log(200);
+    let lines = b"line\n".repeat(8000);
+    let (ours, theirs) = UnixDatagram::pair().unwrap();
+    let sent = [
+        &HELLO[..],
+        &write_message(10, &lines),
+        &read_message(10, &lines),
+    ]
+    .concat();
+    place.write("sent", sent);
+    let mut command = place.command(&["serve", "log"]);
+    command.stdin(fs::File::open(place.path("sent")).unwrap());
+    command.stdout(Stdio::from(OwnedFd::from(theirs)));
+    assert!(command.status().unwrap().success());
+    ours.set_nonblocking(true).unwrap();
+    let mut buffer = vec![0; 70_000];
+    let mut next = || {
+        ours.recv(&mut buffer)
+            .map(|count| buffer[..count].to_vec())
+            .ok()
+    };
+    for reply in [
+        HELLO_REPLY.to_vec(),
+        write_reply(10, &lines),
+        message(13, 10, &lines),
+    ] {
+        assert!(next() == Some(reply));
+    }
+    assert_eq!(next(), None);
 }

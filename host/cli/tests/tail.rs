@@ -38,7 +38,13 @@ fn refused(place: &Place, status: i32, words: &str) {
 fn lost(place: &Place, sectors: usize) {
     let words = lost_words(sectors);
     refused(place, 65, &words);
-    place.get(&score(b"any")).fails(65, "skywimple doubt log");
+    let answer = place.get(&score(b"any"));
+    let answer = answer.fails(65, "skywimple doubt log");
+    assert!(answer.err.contains("leave the mark as it is"), "{answer:?}");
+    let lossy = ["lost blocks", "an older mark cannot tell what is lost"];
+    for words in lossy {
+        assert_eq!(answer.err.contains(words), sectors > 0, "{answer:?}");
+    }
 }
 
 fn lost_words(sectors: usize) -> String {
@@ -248,7 +254,7 @@ fn files_that_are_no_logs() {
     let place = Place::new();
     let get = |name: &str| place.run(&["get", name, &score(b""), "--adopt"]);
     get("none").fails(66, "no such log: none");
-    get(".").fails(66, "is not a file");
+    get(".").fails(66, ". is not a file. Give the path of a log");
     place.write("odd", [0; 700]);
     get("odd").fails(3, "odd: not a log (3)");
     let long = fs::File::create(place.path("long")).unwrap();
@@ -257,14 +263,19 @@ fn files_that_are_no_logs() {
     assert!(only(&place.folder, &["long", "odd"]));
 }
 
-/// The mark stands beside the file that a symbolic link leads to.
+/// Beside a good mark the refusal says how to cut a file back, and that is right.
 #[test]
-fn through_a_symbolic_link() {
-    let (place, blocks, scores) = filled();
-    std::os::unix::fs::symlink(place.path("log"), place.path("link")).unwrap();
-    let get = place.run(&["get", "link", &scores[0]]).with(0);
-    assert_eq!(get.out, blocks[0]);
-    place.feed(&["put", "link"], b"new").with(0);
-    assert_eq!(place.file("log.mark"), mark(10, 7).as_bytes());
-    assert!(only(&place.folder, &["link", "log", "log.mark"]));
+fn a_log_with_bytes_too_many() {
+    for length in [10 * SECTOR + 1, 131_073 * SECTOR] {
+        let (place, blocks, scores) = filled();
+        let log = fs::OpenOptions::new().write(true).open(place.path("log"));
+        let log = log.unwrap();
+        log.set_len(length as u64).unwrap();
+        let told = format!("This file has {length} bytes, and its mark says 5120");
+        refused(&place, 3, &told);
+        let doubt = place.run(&["doubt", "log"]).fails(3, &told);
+        assert!(doubt.err.contains("`truncate -s 5120 log`"), "{doubt:?}");
+        log.set_len(5120).unwrap();
+        place.reads(&scores[2], &blocks[2]);
+    }
 }

@@ -80,7 +80,9 @@ fn entries_that_cannot_be_read() {
     }
     let odd = place.put_as("ptr1", &[7; 39]);
     read(&entry(1, 1, 500, 700, &odd)).fails(18, "(18)");
-    read(&entry(1, 0, 500, 500, &score(b"never stored"))).fails(11, "offset 0: not held (11)");
+    let never = read(&entry(1, 0, 500, 500, &score(b"never stored")));
+    let never = never.fails(11, "offset 0: not held (11)");
+    assert!(!never.err.contains("--type"), "{never:?}");
     let long = place.put(&block(9, 501));
     read(&entry(1, 0, 500, 500, &long)).fails(13, "(13)");
     assert!(read(&entry(1, 0, 500, 0, &long)).with(0).out.is_empty());
@@ -136,6 +138,8 @@ fn a_walk_that_is_refused() {
     let walk = |score: &str| place.run(&["walk", "log", score]);
     let answer = walk(&score(b"never stored")).with(11);
     assert_eq!(answer.text(), "visits=1");
+    assert!(answer.err.contains("not held (11)"), "{answer:?}");
+    assert!(!answer.err.contains("--type"), "{answer:?}");
     place.damage(|log| log[100] ^= 1); // in the first leaf
     let answer = walk(&root).with(12);
     assert_eq!(answer.text(), "visits=5");

@@ -5,6 +5,7 @@ mod common;
 use std::ffi::{OsStr, OsString};
 use std::fs::{self, OpenOptions};
 use std::os::unix::ffi::OsStrExt;
+use std::os::unix::fs::{MetadataExt, PermissionsExt};
 use std::process::Stdio;
 
 use common::*;
@@ -31,6 +32,12 @@ fn help_and_version() {
         assert!(help.text().starts_with(&format!("skywimple {command}")));
         assert_eq!(place.run(&["help", command]).with(0).out, help.out);
     }
+    for command in ["init", "doubt"] {
+        let help = place.run(&["help", command]).text().replace('\n', " ");
+        for words in ["Copy the mark first, then the log.", "keep the newer mark"] {
+            assert!(help.contains(words), "{help}");
+        }
+    }
     let version = place.run(&["--version"]).with(0).text();
     assert_eq!(version, concat!("skywimple ", env!("CARGO_PKG_VERSION")));
     assert!(only(&place.folder, &[]));
@@ -40,12 +47,15 @@ fn help_and_version() {
 fn words_that_make_no_command() {
     let place = Place::with_log(2);
     let never = score(b"never");
-    let bad: [&[&str]; 16] = [
+    let bad: [&[&str]; 19] = [
         &[],
         &[""],
         &["fetch"],
         &["--put"],
         &["help", "fetch"],
+        &["help", "get", "extra"],
+        &["--help", "extra"],
+        &["--version", "extra"],
         &["init"],
         &["init", "a", "b", "--sectors", "1"],
         &["put"],
@@ -85,8 +95,10 @@ fn odd_words_never_bring_it_down() {
             for second in odd {
                 let words = [OsStr::new(command), first, second];
                 let words: Vec<OsString> = words.iter().map(OsString::from).collect();
-                let status = place.run(&words).status;
-                assert!(status != 101, "{words:?}");
+                let answer = place.run(&words);
+                assert!(answer.status != 101, "{words:?}");
+                let silent = answer.out.is_empty();
+                assert!(silent || answer.status == 0, "{words:?}: {answer:?}");
             }
         }
     }
@@ -119,10 +131,13 @@ fn output_that_fails() {
         &["report", "log"],
     ] {
         let full = OpenOptions::new().write(true).open("/dev/full").unwrap();
-        let output = place.command(words).stdout(full).output().unwrap();
-        assert_eq!(output.status.code(), Some(74), "{words:?}");
-        let told = String::from_utf8(output.stderr).unwrap();
-        assert!(told.contains("cannot write standard output"), "{told}");
+        let unwritable = fs::File::open("/dev/null").unwrap();
+        for out in [full, unwritable] {
+            let output = place.command(words).stdout(out).output().unwrap();
+            assert_eq!(output.status.code(), Some(74), "{words:?}");
+            let told = String::from_utf8(output.stderr).unwrap();
+            assert!(told.contains("cannot write standard output"), "{told}");
+        }
     }
     let output = place
         .command(&["get", "log", "odd"])
@@ -138,15 +153,57 @@ fn output_that_fails() {
     );
 }
 
-/// An append that cannot be marked ends the server: no reply, and an I/O status.
+/// Files and folders that may not be read or written. The superuser may always.
+#[test]
+fn missing_permissions() {
+    let place = Place::with_log(8);
+    if fs::metadata("/proc/self").unwrap().uid() == 0 {
+        return;
+    }
+    let card = place.put(b"card");
+    let allow = |name: &str, mode| {
+        fs::set_permissions(place.path(name), fs::Permissions::from_mode(mode)).unwrap();
+    };
+    let put = || place.feed(&["put", "log"], b"other");
+    allow("log", 0o400);
+    place.reads(&card, b"card");
+    put().fails(74, "cannot open log");
+    place.run(&["doubt", "log"]).fails(74, "cannot open log");
+    allow("log", 0o000);
+    place.get(&card).fails(74, "cannot open log");
+    allow("log", 0o600);
+    allow("log.mark", 0o000);
+    place.get(&card).fails(74, "cannot read the mark");
+    put().fails(74, "cannot read the mark");
+    allow("log.mark", 0o600);
+    allow(".", 0o500);
+    put().fails(74, "cannot write the mark");
+    place
+        .run(&["init", "new", "--sectors", "1"])
+        .fails(74, "cannot create new");
+    // Read-only altogether, and ahead of its mark: readers go on.
+    allow("log", 0o400);
+    place.reads(&score(b"other"), b"other");
+    assert_eq!(place.file("log.mark"), mark(8, 1).as_bytes());
+    allow(".", 0o700);
+    allow("log", 0o600);
+    put().with(0);
+    assert_eq!(place.file("log.mark"), mark(8, 2).as_bytes());
+}
+
+/// An append that cannot be marked ends the server: no reply, an I/O status, nothing left over.
 #[test]
 fn no_reply_for_what_is_not_on_disk() {
     let place = Place::with_log(8);
-    fs::create_dir(place.path("log.mark.new")).unwrap();
-    let sent = [&HELLO[..], &write_message(1, b"card")].concat();
-    let answer = place.feed(&["serve", "log"], &sent).with(74);
-    assert_eq!(answer.out, HELLO_REPLY);
-    assert!(answer.err.contains("cannot write the mark"), "{answer:?}");
-    let put = place.feed(&["put", "log"], b"other");
-    put.fails(74, "cannot write the mark");
+    let mut server = place.serve();
+    assert_eq!(server.ask(&HELLO), HELLO_REPLY);
+    fs::remove_file(place.path("log.mark")).unwrap();
+    fs::create_dir(place.path("log.mark")).unwrap();
+    server.send(&write_message(1, b"card"));
+    assert_eq!(server.reply(), None);
+    let (status, told) = server.end();
+    assert_eq!(status, 74);
+    assert!(told.contains("cannot write the mark"), "{told}");
+    assert!(only(&place.folder, &["log", "log.mark"]));
+    place.feed(&["put", "log"], b"other").fails(74, "the mark");
 }

@@ -2,13 +2,18 @@
 
 mod common;
 
+use std::fs;
+use std::io::Write;
+use std::process::Stdio;
+use std::thread;
+use std::time::Duration;
+
 use common::*;
 
 #[test]
 fn a_second_writer_fails_at_once() {
     let place = Place::with_log(8);
     let first = place.put(b"first");
-    place.write("cut.log", b"");
     let mut server = place.serve();
     assert_eq!(server.ask(&HELLO), HELLO_REPLY);
 
@@ -33,6 +38,22 @@ fn a_second_writer_fails_at_once() {
     assert_eq!(server.end(), (0, String::new()));
     place.put(b"third");
     place.reads(&score(b"third"), b"third");
+}
+
+/// A block that is slow to come is waited for without the lock.
+#[test]
+fn waiting_for_a_block_holds_up_nobody() {
+    for words in [&["put", "log"][..], &["put", "log", "-"]] {
+        let place = Place::with_log(8);
+        let mut command = place.command(words);
+        let mut slow = command.stdin(Stdio::piped()).spawn().unwrap();
+        slow.stdin.as_mut().unwrap().write_all(b"slow").unwrap();
+        thread::sleep(Duration::from_millis(50));
+        place.put(b"quick");
+        let output = slow.wait_with_output().unwrap();
+        assert!(output.status.success(), "{output:?}");
+        place.reads(&score(b"slow"), b"slow");
+    }
 }
 
 /// Another log in the same folder has a lock of its own.
@@ -61,4 +82,93 @@ fn readers_beside_a_writer() {
     }
     assert_eq!(server.end().0, 0);
     place.run(&["report", "log"]).with(0);
+}
+
+/// A server that has stored one block.
+fn busy(place: &Place) -> Server {
+    let mut server = place.serve();
+    assert_eq!(server.ask(&HELLO), HELLO_REPLY);
+    let reply = server.ask(&write_message(1, b"first"));
+    assert_eq!(reply, write_reply(1, b"first"));
+    server
+}
+
+/// The server ends without a reply to this block.
+#[track_caller]
+fn unanswered(mut server: Server, block: &[u8], words: &str) {
+    server.send(&write_message(2, block));
+    assert_eq!(server.reply(), None);
+    let (status, told) = server.end();
+    assert_eq!(status, 74, "{told}");
+    assert!(told.contains(words), "{told}");
+}
+
+const REPLACED: &str = "log was replaced while this program was writing it";
+
+/// The lock is on the file: what is written to one that nobody finds is not acknowledged.
+#[test]
+fn a_log_replaced_under_a_writer() {
+    for next in [&b"first"[..], b"second"] {
+        let place = Place::with_log(8);
+        let older = place.file("log");
+        let server = busy(&place);
+        place.write("copy", older);
+        fs::rename(place.path("copy"), place.path("log")).unwrap();
+        unanswered(server, next, REPLACED);
+        assert_eq!(place.file("log.mark"), mark(8, 1).as_bytes());
+        place.get(&score(b"first")).fails(65, "is lost");
+    }
+}
+
+#[test]
+fn a_log_moved_away_under_a_writer() {
+    for next in [&b"first"[..], b"second"] {
+        let place = Place::with_log(8);
+        let server = busy(&place);
+        fs::create_dir(place.path("away")).unwrap();
+        for name in ["log", "log.mark"] {
+            fs::rename(place.path(name), place.path("away").join(name)).unwrap();
+        }
+        unanswered(server, next, REPLACED);
+        assert!(only(&place.folder, &["away"]), "no mark without a log");
+        let get = place.run(&["get", "away/log", &score(b"first")]).with(0);
+        assert_eq!(get.out, b"first");
+    }
+}
+
+/// The mark's place is another then, though the working folder went along.
+#[test]
+fn a_folder_moved_away_under_a_writer() {
+    let place = Place::new();
+    fs::create_dir(place.path("here")).unwrap();
+    let init = ["init", "here/log", "--sectors", "8"];
+    place.run(&init).with(0);
+    let mut command = place.command(&["serve", "log"]);
+    command.current_dir(place.path("here"));
+    let mut server = Server::start(command);
+    assert_eq!(server.ask(&HELLO), HELLO_REPLY);
+    fs::rename(place.path("here"), place.path("away")).unwrap();
+    fs::create_dir(place.path("here")).unwrap();
+    place.run(&init).with(0);
+    unanswered(server, b"card", REPLACED);
+    assert_eq!(place.file("here/log.mark"), mark(8, 0).as_bytes());
+}
+
+/// Changes in place are seen before a write would go over them.
+#[test]
+fn a_log_changed_in_place_under_a_writer() {
+    let changes: [fn(&mut Vec<u8>); 3] = [
+        |log| log[2 * SECTOR + 511] = 1, // in the second of the next two sectors
+        |log| log.truncate(3 * SECTOR - 1),
+        |log| log.clear(),
+    ];
+    for change in changes {
+        let place = Place::with_log(8);
+        let server = busy(&place);
+        place.damage(change);
+        let before = place.file("log");
+        unanswered(server, &block(1, 500), "log was changed by another program");
+        assert_eq!(place.file("log"), before);
+        assert_eq!(place.file("log.mark"), mark(8, 1).as_bytes());
+    }
 }

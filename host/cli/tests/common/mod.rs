@@ -165,13 +165,7 @@ impl Place {
 
     /// `serve` over `log`, with pipes.
     pub fn serve(&self) -> Server {
-        let mut command = self.command(&["serve", "log"]);
-        let mut child = command.stdin(Stdio::piped()).spawn().expect("it runs");
-        Server {
-            input: child.stdin.take(),
-            output: child.stdout.take().expect("piped"),
-            child,
-        }
+        Server::start(self.command(&["serve", "log"]))
     }
 }
 
@@ -189,6 +183,15 @@ pub struct Server {
 }
 
 impl Server {
+    pub fn start(mut command: Command) -> Server {
+        let mut child = command.stdin(Stdio::piped()).spawn().expect("it runs");
+        Server {
+            input: child.stdin.take(),
+            output: child.stdout.take().expect("piped"),
+            child,
+        }
+    }
+
     pub fn send(&mut self, message: &[u8]) {
         let input = self.input.as_mut().expect("open");
         input.write_all(message).expect("it listens");

@@ -1,0 +1,135 @@
+//! Reads a log, also where some of its sectors cannot be read.
+
+use std::io::{self, ErrorKind};
+
+use crate::log_file::SECTOR;
+
+pub struct Loaded {
+    pub bytes: Vec<u8>,
+    /// How many sectors could not be read. They are neither blank nor sound in `bytes`.
+    pub unreadable: usize,
+}
+
+/// A sector that isn't blank and fits no check: its last 13 bytes are zeros.
+pub fn unsound(sentence: &[u8]) -> [u8; SECTOR] {
+    let mut sector = [0; SECTOR];
+    sector[..sentence.len()].copy_from_slice(sentence);
+    sector
+}
+
+/// The first `length` bytes, or as many as there are: at once, or else sector by sector.
+pub fn load(read_at: impl Fn(&mut [u8], u64) -> io::Result<usize>, length: u64) -> Loaded {
+    let mut bytes = vec![0; length as usize];
+    let (mut end, mut unreadable) = (0, 0);
+    if let Ok(count) = fill(&read_at, &mut bytes, 0) {
+        end = count;
+    } else {
+        for sector in bytes.chunks_mut(SECTOR) {
+            let count = fill(&read_at, sector, end as u64).unwrap_or_else(|_| {
+                sector.copy_from_slice(&unsound(b"unreadable")[..sector.len()]);
+                unreadable += 1;
+                sector.len()
+            });
+            end += count;
+            if count < sector.len() {
+                break;
+            }
+        }
+    }
+    bytes.truncate(end);
+    Loaded { bytes, unreadable }
+}
+
+/// Reads until the buffer is full or the file ends, and gives the count of bytes.
+fn fill(
+    read_at: &impl Fn(&mut [u8], u64) -> io::Result<usize>,
+    buffer: &mut [u8],
+    start: u64,
+) -> io::Result<usize> {
+    let mut count = 0;
+    while count < buffer.len() {
+        match read_at(&mut buffer[count..], start + count as u64) {
+            Ok(0) => break,
+            Ok(more) => count += more,
+            Err(e) if e.kind() == ErrorKind::Interrupted => {}
+            Err(e) => return Err(e),
+        }
+    }
+    Ok(count)
+}
+
+#[cfg(test)]
+mod tests {
+    use super::*;
+    use crate::session::Client;
+    use std::cell::Cell;
+
+    /// Loads from a file that gives 300 bytes at a time, is interrupted, and fails in some sectors.
+    fn load_with(file: &[u8], length: usize, bad: &[usize]) -> Loaded {
+        let calls = Cell::new(0);
+        let read_at = |buffer: &mut [u8], at: u64| {
+            calls.set(calls.get() + 1);
+            if calls.get() % 3 == 0 {
+                return Err(ErrorKind::Interrupted.into());
+            }
+            let start = (at as usize).min(file.len());
+            let end = file.len().min(start + buffer.len().min(300));
+            if bad
+                .iter()
+                .any(|bad| (start..end).any(|i| i / SECTOR == *bad))
+            {
+                return Err(io::Error::other("bad sector"));
+            }
+            buffer[..end - start].copy_from_slice(&file[start..end]);
+            Ok(end - start)
+        };
+        load(read_at, length as u64)
+    }
+
+    #[test]
+    fn whole_and_short_files() {
+        let file: Vec<u8> = (0..1500).map(|i| i as u8).collect();
+        let cases: [(usize, &[usize], usize, usize); 5] = [
+            (1500, &[], 0, 1500),
+            (700, &[2], 0, 700), // the bad sector is not asked for
+            (9000, &[], 0, 1500),
+            (9000, &[0], SECTOR, 1500),
+            (0, &[0], 0, 0),
+        ];
+        for (length, bad, sound, end) in cases {
+            let loaded = load_with(&file, length, bad);
+            assert_eq!(loaded.bytes.len(), end);
+            assert_eq!(loaded.bytes[sound..], file[sound..end]);
+        }
+        let loaded = load_with(&file, 1500, &[2]);
+        assert_eq!((loaded.bytes.len(), loaded.unreadable), (1500, 1));
+        assert_eq!(loaded.bytes[..1024], file[..1024]);
+    }
+
+    /// A block with an unreadable sector is not known, and so is any that isn't found; others read.
+    #[test]
+    fn unreadable_sectors_are_doubtful() {
+        let mut log = vec![0; 8 * SECTOR];
+        let mut client = Client::greet(&mut log).unwrap();
+        let blocks = [vec![1; 500], vec![2; 50], vec![3; 1000]];
+        let scores = [0, 1, 2].map(|i| client.write(&mut log, 13, &blocks[i]).unwrap());
+        for (bad, lost) in [(&[1][..], 0), (&[2], 1), (&[3, 5], 2)] {
+            let mut loaded = load_with(&log, log.len(), bad);
+            assert_eq!(loaded.unreadable, bad.len());
+            for i in 0..3 {
+                let read = client.read(&mut loaded.bytes, 13, &scores[i], 60_000);
+                let expected = if i == lost {
+                    Err(12)
+                } else {
+                    Ok(&blocks[i][..])
+                };
+                assert_eq!(read, expected);
+            }
+            let never = client.read(&mut loaded.bytes, 13, &[9; 20], 60_000);
+            assert_eq!(never, Err(12));
+        }
+        let mut loaded = load_with(&log, log.len(), &[7]);
+        let never = client.read(&mut loaded.bytes, 13, &[9; 20], 60_000);
+        assert_eq!(never, Err(12), "a blank sector could have been another");
+    }
+}

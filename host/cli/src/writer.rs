@@ -1,0 +1,148 @@
+//! A log that is written: its lock, what is appended, its mark.
+
+use std::fs::{File, OpenOptions};
+use std::io::ErrorKind;
+use std::os::unix::fs::{FileExt, MetadataExt};
+use std::path::{Path, PathBuf};
+
+use crate::lock;
+use crate::log_file::{fits, is_file, load, used, BLANK, SECTOR};
+use crate::mark::{self, Found, Mark};
+use crate::sectors::Loaded;
+use crate::status::{Failure, INPUT_OUTPUT, UNFIT};
+use crate::streams::Streams;
+
+/// A log that this process alone may write.
+pub struct Writer {
+    file: File,
+    path: PathBuf,
+    mark_path: PathBuf,
+    mark: Option<Mark>,
+    used: usize,
+    pub bytes: Vec<u8>,
+}
+
+impl Writer {
+    /// Opens a log that fits its mark. With `adopt`, a log without a good mark gets one.
+    pub fn open(path: &Path, adopt: bool, streams: &mut Streams) -> Result<Writer, Failure> {
+        is_file(path)?;
+        let file = lock::open(OpenOptions::new().read(true).write(true), path)?;
+        one_name(&file, path)?;
+        let mark_path = mark::path_of(path);
+        let mark = match Mark::find(&mark_path)? {
+            Found::Good(mark) => Some(mark),
+            Found::Missing | Found::Damaged if adopt => None,
+            Found::Missing | Found::Damaged => Some(Mark::require(path)?),
+        };
+        let Loaded { bytes, unreadable } = load(&file, path, mark, streams)?;
+        if let Some(mark) = mark {
+            fits(path, mark, &bytes)?;
+        }
+        let mut log = Writer {
+            file,
+            path: path.to_path_buf(),
+            mark_path,
+            mark,
+            used: used(&bytes),
+            bytes,
+        };
+        // A sector that cannot be read looks used; it is marked only with what is appended after it.
+        if unreadable == 0 || mark.is_none() {
+            log.renew_mark()?;
+        }
+        if mark.is_none() {
+            let (sectors, used) = (log.bytes.len() / SECTOR, log.used);
+            streams.tell(&format!(
+                "adopted {} as it is: {sectors} sectors, {used} of them used. \
+                 Whether its tail was lost before, nobody can tell.",
+                path.display()
+            ));
+        }
+        Ok(log)
+    }
+
+    /// Has what the last request appended on disk, with the mark. Gives the sectors appended.
+    pub fn keep(&mut self) -> Result<usize, Failure> {
+        let appended = self.bytes[self.used * SECTOR..].chunks_exact(SECTOR);
+        let appended = appended.take_while(|sector| *sector != BLANK).count();
+        if appended > 0 {
+            let (start, end) = (self.used * SECTOR, (self.used + appended) * SECTOR);
+            self.still_blank(start, end)?;
+            let written = self
+                .file
+                .write_all_at(&self.bytes[start..end], start as u64);
+            written.map_err(|e| Failure::disk("write", &self.path, &e))?;
+            self.used += appended;
+            self.renew_mark()?;
+        }
+        // A reply acknowledges, also where nothing was appended.
+        self.in_place()?;
+        Ok(appended)
+    }
+
+    /// Fails unless these bytes of the file are there and blank, as they were when the log was read.
+    fn still_blank(&self, start: usize, end: usize) -> Result<(), Failure> {
+        let mut found = vec![0; end - start];
+        let read = self.file.read_exact_at(&mut found, start as u64);
+        match read {
+            Ok(()) if found.iter().all(|byte| *byte == 0) => Ok(()),
+            Err(e) if e.kind() != ErrorKind::UnexpectedEof => {
+                Err(Failure::disk("read", &self.path, &e))
+            }
+            _ => Err(changed(&self.path)),
+        }
+    }
+
+    /// Has the log on disk, then the mark, unless the mark has it so already.
+    fn renew_mark(&mut self) -> Result<(), Failure> {
+        let now = Mark {
+            sectors: self.bytes.len() / SECTOR,
+            used: self.used,
+        };
+        if self.mark != Some(now) {
+            self.file
+                .sync_data()
+                .map_err(|e| Failure::disk("sync", &self.path, &e))?;
+            self.in_place()?;
+            now.write(&self.mark_path)?;
+            self.mark = Some(now);
+        }
+        Ok(())
+    }
+
+    /// Fails unless the log and the place of its mark are what they were.
+    fn in_place(&self) -> Result<(), Failure> {
+        if mark::path_of(&self.path) != self.mark_path {
+            return Err(lock::replaced(&self.path));
+        }
+        lock::in_place(&self.file, &self.path)
+    }
+}
+
+/// Fails where the log has a second name: its mark stands beside one of them only.
+fn one_name(file: &File, path: &Path) -> Result<(), Failure> {
+    let found = file.metadata();
+    let found = found.map_err(|e| Failure::disk("look at", path, &e))?;
+    let names = found.nlink();
+    if names < 2 {
+        return Ok(());
+    }
+    let words = format!(
+        "{0} is a file with {names} names (hard links), and its mark stands beside one of them \
+         only, so it is not written. Find the names with `find / -samefile {0}`, keep the \
+         one that the mark stands beside and remove the others; a symbolic link may take their \
+         place.",
+        path.display()
+    );
+    Err(Failure::new(UNFIT, words))
+}
+
+fn changed(path: &Path) -> Failure {
+    let words = format!(
+        "{} was changed by another program while this one was writing it: the next sectors are \
+         cut off or no longer blank. The last request wrote nothing and is not acknowledged. Find \
+         that program; restore the log from a copy, and store again what got no answer.",
+        path.display()
+    );
+    Failure::new(INPUT_OUTPUT, words)
+}
