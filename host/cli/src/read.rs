@@ -4,9 +4,11 @@ use std::fs::File;
 use std::io::{self, Read};
 use std::path::Path;
 
+use skywimple_archive::{locate, sound_at, Run};
+
 use crate::arguments::Arguments;
 use crate::hex;
-use crate::log_file;
+use crate::log_file::{self, SECTOR};
 use crate::progress::Progress;
 use crate::session::MOST_DATA;
 use crate::status::{Failure, DONE};
@@ -15,6 +17,9 @@ use crate::words;
 
 /// Bytes in an entry.
 const ENTRY: usize = 40;
+/// Bytes in a sector's label, and in its payload.
+const LABEL: usize = 96;
+const PAYLOAD: usize = 403;
 /// The number of an offset at or past the file's size.
 const PAST_THE_END: u8 = 17;
 
@@ -38,8 +43,8 @@ fn copy(
     let page = vec![0; MOST_DATA];
     let mut offset = 0;
     loop {
-        let bytes = match skywimple_archive::read(log, &page, entry, offset) {
-            Ok(bytes) => bytes,
+        let runs = match runs(log, &page, entry, offset) {
+            Ok(runs) => runs,
             // An offset that is refused so, and no other, is the end: all tests before it passed.
             Err(PAST_THE_END) => return Ok(DONE),
             Err(number) => {
@@ -48,15 +53,36 @@ fn copy(
                 return Err(Failure::new(number, words));
             }
         };
-        streams.out.write_all(bytes).map_err(Failure::output)?;
-        offset += bytes.len() as u64;
+        for bytes in runs {
+            streams.out.write_all(bytes).map_err(Failure::output)?;
+            offset += bytes.len() as u64;
+        }
         progress.show(streams, || {
             format!("{offset} of {} bytes read", size(entry))
         });
     }
 }
 
-/// The size that an entry says, for the progress line.
+/// The run at an offset and, where it is the front of a stored leaf, the leaf's other runs too: the
+/// block is sound, so its payloads lie in the sectors that follow, and none has to be looked up anew.
+fn runs<'a>(log: &'a [u8], page: &'a [u8], entry: &[u8], offset: u64) -> Result<Vec<&'a [u8]>, u8> {
+    let (at, length) = match locate(log, page, entry, offset)? {
+        Run::Log { at, length } => (at, length),
+        Run::Page { length } => return Ok(vec![&page[..length]]),
+    };
+    let mut runs = vec![&log[at..at + length]];
+    if at % SECTOR == LABEL {
+        let block = sound_at(log, at / SECTOR)? as u64;
+        let end = block.min(size(entry) - offset) as usize;
+        for (before, start) in (PAYLOAD..end).step_by(PAYLOAD).enumerate() {
+            let at = at + (before + 1) * SECTOR;
+            runs.push(&log[at..at + PAYLOAD.min(end - start)]);
+        }
+    }
+    Ok(runs)
+}
+
+/// The size that an entry says.
 fn size(entry: &[u8]) -> u64 {
     let digits = entry.get(14..20).unwrap_or_default();
     digits
@@ -82,4 +108,50 @@ fn front(file: File) -> io::Result<Vec<u8>> {
     let mut bytes = Vec::new();
     file.take(ENTRY as u64 + 1).read_to_end(&mut bytes)?;
     Ok(bytes)
+}
+
+#[cfg(test)]
+mod tests {
+    use super::*;
+    use crate::session::Client;
+
+    /// A data entry of depth 0 with leaves of 1,000 bytes.
+    fn file(size: u64, score: &[u8; 20]) -> Vec<u8> {
+        let mut entry = vec![0; ENTRY];
+        entry[4..6].copy_from_slice(&40_u16.to_be_bytes());
+        entry[6..8].copy_from_slice(&1000_u16.to_be_bytes());
+        entry[8] = 1;
+        entry[14..20].copy_from_slice(&size.to_be_bytes()[2..]);
+        entry[20..].copy_from_slice(score);
+        entry
+    }
+
+    /// All runs of a file laid end to end, each looked up by itself.
+    fn run_by_run(log: &[u8], page: &[u8], entry: &[u8]) -> Vec<u8> {
+        let mut bytes = Vec::new();
+        while let Ok(run) = skywimple_archive::read(log, page, entry, bytes.len() as u64) {
+            bytes.extend(run);
+        }
+        bytes
+    }
+
+    #[test]
+    fn a_leaf_at_once_is_the_leaf_run_by_run() {
+        let mut log = vec![0; 40 * SECTOR];
+        let mut client = Client::greet(&mut log).unwrap();
+        let page = [0; 64];
+        for stored in [1, 402, 403, 404, 805, 806, 807, 1000] {
+            let block: Vec<u8> = (0..stored).map(|i| (i * 7 + stored) as u8 | 1).collect();
+            let score = client.write(&mut log, 13, &block).unwrap();
+            for size in [1, 402, 403, 404, 806, 807, 999, 1000] {
+                let entry = file(size, &score);
+                let mut bytes = Vec::new();
+                while let Ok(runs) = runs(&log, &page, &entry, bytes.len() as u64) {
+                    bytes.extend(runs.concat());
+                }
+                assert_eq!(bytes, run_by_run(&log, &page, &entry), "{stored} {size}");
+                assert_eq!(bytes.len() as u64, size);
+            }
+        }
+    }
 }
