@@ -11,14 +11,6 @@ ghost use Rattle.block.specs.Block.{partsOf, image, images, written};
 ghost use Rattle.block.specs.Log.{sectors};
 ghost use Rattle.append.specs.Append.{rowOf};
 
-// The sectors that so many bytes take.
-pub fn parts_of(size: usize) -> usize
-    requires { ⌜ size ≤ 57344 ⌝ }
-    ensures { λ r. ⌜ r ≡ partsOf size ⌝ }
-{
-    (size + 402) / 403
-}
-
 // The smaller of two numbers.
 fn smaller(a: usize, b: usize) -> usize
     ensures { λ r. ⌜ r ≡ min a b ⌝ }
@@ -35,7 +27,7 @@ fn write_part(part: &mut [u8], first: SectorNumber, kind: u8, score: &[u8], data
     let from = k * PAYLOAD;
     let to = smaller(next * PAYLOAD, data.len());
     let piece = &data[from..to];
-    let of = parts_of(data.len());
+    let of = block::parts_of(data.len());
     let label = Label {
         first: first,
         part: k,
@@ -53,7 +45,7 @@ fn write_parts(part: &mut [u8], first: SectorNumber, kind: u8, score: &[u8], dat
     requires { ⌜ (length (now «data») ≤ 57344) × (length (now score) ≡ 20) × (512 * partsOf (length (now «data»)) ≤ length (now part)) ⌝ }
     ensures { λ _. ⌜ now (part .exit) ≡ put (now (part .entry)) 0 (images (rowOf kind (now (score .entry)) (now («data» .entry)) (first .0)) (partsOf (length (now («data» .entry)))) 0) ⌝ }
 {
-    let count = parts_of(data.len());
+    let count = block::parts_of(data.len());
     let mut k: usize = 0;
     while k < count {
         write_part(part, first, kind, score, data, k);

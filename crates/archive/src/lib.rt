@@ -1,4 +1,5 @@
 // One request: a session, a message, the lent log and the lent reply buffer. Any bytes are answered.
+use kind::LONGEST;
 use log::Look;
 use log::Receipt;
 use log::Stored;
@@ -191,7 +192,7 @@ fn serve_write(message: &[u8], log: &mut [u8], reply: &mut [u8], kind: u8) -> An
     if !kind::is_lawful(kind) {
         return refuse(Refusal::BlockType, tag, Session::Greeted, reply);
     }
-    if 57344 < message.len() - 8 {
+    if LONGEST < message.len() - 8 {
         return refuse(Refusal::DataLength, tag, Session::Greeted, reply);
     }
     let receipt = store::store(log, kind, &message[8..]);

@@ -4,6 +4,9 @@ ghost use mathlib.Core.Path.{_≡_};
 ghost use Rattle.buffer.specs.Bytes.{same};
 ghost use Rattle.kind.specs.Kind.{lawful, isPointer, zeroScore, wireType};
 
+// The most bytes that a block has.
+pub const LONGEST: usize = 57344;
+
 pub enum Wire {
     Type(u8),
     Refused(Refusal),

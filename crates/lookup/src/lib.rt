@@ -1,6 +1,8 @@
 // Look-up of a score and type in a log, by scan.
 use log::Look;
 use refusal::Refusal;
+use sector::PAYLOAD;
+use sector::SECTOR;
 use sector::SectorNumber;
 ghost use mathlib.Core.Path.{_≡_};
 ghost use mathlib.Core.Bool.{true};
@@ -20,10 +22,10 @@ pub enum Place {
 pub fn is_allowed(length: usize) -> bool
     ensures { λ r. ⌜ r ≡ logAllowed length ⌝ }
 {
-    if length % 512 != 0 {
+    if length % SECTOR != 0 {
         return false;
     }
-    length / 512 <= 131072
+    length / SECTOR <= 131072
 }
 
 // The first sound block of a type and score. Only a block whose label has the score is looked at.
@@ -33,10 +35,10 @@ fn find(log: &[u8], kind: u8, score: &[u8]) -> Place
 {
     let mut digits = [0u8; 40];
     word::hex::put_hex_bytes(&mut digits, score);
-    let count = log.len() / 512;
+    let count = log.len() / SECTOR;
     let mut n: usize = 0;
     while n < count {
-        let from = n * 512 + 55;
+        let from = n * SECTOR + 55;
         let end = from + 40;
         if buffer::equal(&log[from..end], &digits) {
             let size = reader::sound_as(log, SectorNumber(n), kind, score);
@@ -79,7 +81,7 @@ pub fn first_doubtful(log: &[u8], end: usize) -> usize
         if size == 0 {
             return n;
         }
-        n += (size + 402) / 403;
+        n += (size + 402) / PAYLOAD;
     }
     end
 }

@@ -1,5 +1,6 @@
 // One block of a log, read: whether it is sound, its digest, its bytes compared and copied out; and the end of the used part.
 // A log here is any bytes: nothing assumes that the archive wrote them.
+use kind::LONGEST;
 use sector::BODY;
 use sector::LABEL;
 use sector::Label;
@@ -15,9 +16,6 @@ ghost use Rattle.sha1.specs.Sha1.{sha1Of};
 ghost use Rattle.block.specs.Block.{partsOf};
 ghost use Rattle.block.specs.Log.{sectors, at, used, payloads, labelled, checked, soundAs, sound};
 ghost use Rattle.reader.specs.Reader.{bytesAt, sizeOf, numberOf};
-
-// The longest block.
-const LONGEST: usize = 57344;
 
 // Sector n.
 fn sector_at(log: &[u8], n: usize) -> &[u8]
@@ -43,21 +41,13 @@ pub fn used_part(log: &[u8]) -> usize
     0
 }
 
-// How many sectors a block of `size` bytes takes.
-pub fn parts_of(size: usize) -> usize
-    requires { ⌜ size + 402 < 2 ^ 64 ⌝ }
-    ensures { λ r. ⌜ r ≡ partsOf size ⌝ }
-{
-    (size + 402) / PAYLOAD
-}
-
 // Whether the sectors from `first` on have the labels of the parts of a block that starts there.
 fn labels_agree(log: &[u8], first: SectorNumber, kind: u8, size: usize, score: &[u8]) -> bool
     requires { ⌜ (first .0 + partsOf size ≤ sectors (length (now log))) × (length (now score) ≡ 20) ⌝ }
     ensures { λ r. ⌜ r ≡ labelled (now (log .entry)) (first .0) kind size (now (score .entry)) (partsOf size) 0 ⌝ }
 {
     let n = first.0;
-    let of = parts_of(size);
+    let of = block::parts_of(size);
     let mut i: usize = 0;
     while i < of {
         let label = Label {
@@ -162,7 +152,7 @@ pub fn sound_as(log: &[u8], first: SectorNumber, kind: u8, score: &[u8]) -> usiz
     if !kind::is_lawful(kind) {
         return 0;
     }
-    let of = parts_of(size);
+    let of = block::parts_of(size);
     if log.len() / SECTOR < n + of {
         return 0;
     }

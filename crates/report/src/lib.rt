@@ -36,7 +36,7 @@ fn scan(log: &[u8], end: usize) -> Survey
             doubtful += 1;
             n += 1;
         } else {
-            let parts = reader::parts_of(size);
+            let parts = block::parts_of(size);
             records += 1;
             n += parts;
         }

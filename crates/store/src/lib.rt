@@ -3,6 +3,7 @@ use log::Receipt;
 use log::Stored;
 use lookup::Place;
 use refusal::Refusal;
+use sector::SECTOR;
 use sector::SectorNumber;
 ghost use mathlib.Core.Path.{_≡_};
 ghost use Prim.Native.Nat.{_+_, _≤_, _^_};
@@ -20,8 +21,8 @@ fn append_new(log: &mut [u8], kind: u8, score: &[u8; 20], data: &[u8]) -> Stored
     ensures { λ r. ⌜ after (receipt (sha1Of (now («data» .entry))) r) (now (log .exit)) ≡ appended (now (log .entry)) kind (now («data» .entry)) ⌝ }
 {
     let used = reader::used_part(log);
-    let count = append::parts_of(data.len());
-    if log.len() / 512 - used < count {
+    let count = block::parts_of(data.len());
+    if log.len() / SECTOR - used < count {
         return Stored::Refused(Refusal::NoRoom);
     }
     append::append_block(log, SectorNumber(used), kind, score, data);

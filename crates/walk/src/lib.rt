@@ -1,5 +1,6 @@
 // Walking from a root score: every block below it is visited, in order, while the allowance lasts.
 use entry::Entry;
+use kind::LONGEST;
 use log::Look;
 use refusal::Refusal;
 use sector::LABEL;
@@ -300,7 +301,7 @@ fn walk_top(log: &[u8], score: &[u8], left: usize) -> Walked
     ensures within { λ r. ⌜ r .visits ≤ left ⌝ }
     ensures exact { λ r. ⌜ r ≡ walkTop (now (log .entry)) (now (score .entry)) left ⌝ }
 {
-    let m = visit(log, 1, left, 2, 57344, score);
+    let m = visit(log, 1, left, 2, LONGEST, score);
     let look = m.look;
     let Look::Found { first, size } = look else {
         return answer(m);

@@ -14,7 +14,7 @@ use Rattle.store.proofs.append_new.Tie as tie
 use Rattle.store.proofs.append_new.Reads as reads
 use Rattle.store.proofs.append_new.Lts as lts
 use Rattle.append.proofs.append_block.Reads as append-block-reads
-use Rattle.append.proofs.parts_of.Reads as parts-of-reads
+use Rattle.block.proofs.parts_of.Reads as parts-of-reads
 use Rattle.reader.proofs.used_part.Reads as used-part-reads
 
 used-part-requires : tie.Need-used-part-requires

@@ -1,9 +1,9 @@
--- `parts_of` meets its contract.
+-- `block::parts_of` meets its contract.
 use mathlib.Core.Path.{refl}
+use Rattle.block.specs.Block.{partsOf}
 use borrow.Author.Needs.{needs}
-use Rattle.block.specs.Block.{partsOf}
-use Rattle.append.proofs.parts_of.Statement.{statement}
-use Rattle.append.proofs.parts_of.Tie as tie
+use Rattle.block.proofs.parts_of.Statement.{statement}
+use Rattle.block.proofs.parts_of.Tie as tie
 
 add-result : tie.Need-add-result
 add-result c = search needs
