@@ -15,7 +15,7 @@ use Rattle.ledger.specs.Ledger.{hit, intactOf}
 use Rattle.demands.specs.Ledger.{firstRow}
 use Rattle.demands.specs.Instance.{archive}
 
-same-some : (x r : Row) → some x ≡ some r → x ≡ r
+pub same-some : (x r : Row) → some x ≡ some r → x ≡ r
 same-some x r e = cc
 
 module _ (t : ℕ) (s : Bytes) where
@@ -33,6 +33,19 @@ module _ (t : ℕ) (s : Bytes) where
           let p = and-true (eqb (r .kind) t) (same (r .score) s) q in
           absurd (f r (List·Memᴰ·head refl) (eqb-true (r .kind) t (p .0)) (same-true (r .score) s (p .1)))
       go false q e = e
+
+  pub first-in : (rows : List Row) (r : Row) → firstRow t s rows ≡ some r → List·Memᴰ r rows × (r .kind ≡ t) × (r .score ≡ s)
+  unfolding firstRow
+  first-in [] r e = let z : _≡_ {A = ℕ} 0 1 = cc in absurd (omega arith)
+  first-in (x ∷ rows) r e = go (is x) refl e (first-in rows r)
+    where
+      go : (b : Bool) → is x ≡ b → cond b (some x) (firstRow t s rows) ≡ some r → (firstRow t s rows ≡ some r → List·Memᴰ r rows × (r .kind ≡ t) × (r .score ≡ s))
+          → List·Memᴰ r (x ∷ rows) × (r .kind ≡ t) × (r .score ≡ s)
+      go true q e f =
+          let same-row : x ≡ r = same-some x r e in
+          let p = and-true (eqb (x .kind) t) (same (x .score) s) q in
+          (List·Memᴰ·head (sym same-row), ap (λ (y : Row). y .kind) (sym same-row) ∙ eqb-true (x .kind) t (p .0), ap (λ (y : Row). y .score) (sym same-row) ∙ same-true (x .score) s (p .1))
+      go false q e f = let m = f e in (List·Memᴰ·tail (m .0), m .1, m .2)
 
   pub first-front : (xs ys : List Row) (r : Row) → firstRow t s xs ≡ some r → firstRow t s (xs ++ ys) ≡ some r
   unfolding firstRow

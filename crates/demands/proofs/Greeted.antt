@@ -12,7 +12,7 @@ use Rattle.log.specs.LookUp as look
 use Rattle.log.specs.Store as stores
 use Rattle.archive.specs.Step as steps
 use Rattle.archive.specs.declared.Session.the-variants.{Greeted}
-use Rattle.demands.specs.Corollaries.{Asks, Writes, Reads}
+use Rattle.demands.specs.Requests.{Asks, Writes, Reads}
 use Rattle.demands.proofs.Seen.{given, kept}
 
 module _ (m buffer log : Bytes) where

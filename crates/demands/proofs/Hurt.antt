@@ -1,7 +1,7 @@
--- A damaged log: a block that was found and has no changed sector is found there still.
+-- A damaged log: a block that was found and has no changed sector is found there still, after any requests that follow.
 use mathlib.Core.Path.{_≡_, refl, sym, ap, _∙_}
 use mathlib.Core.Bool.{Bool, true, false}
-use mathlib.Core.List.{List, []}
+use mathlib.Core.List.{[]}
 use mathlib.Core.Option.{some}
 use Prim.Native.Nat.{ℕ}
 use lib.Dec.{ltb}
@@ -12,66 +12,54 @@ use Rattle.block.specs.Block.{Row}
 use Rattle.log.specs.LookUp as look
 use Rattle.log.specs.LookUp.{logAllowed}
 use Rattle.archive.specs.Step as steps
-use Rattle.archive.specs.declared.Session.the-variants.{Greeted}
-use Rattle.ledger.specs.Ledger.{Ledger, told, hit, intact, end}
-use Rattle.ledger.specs.History.{Damage}
-use Rattle.ledger.specs.Reflects.{Reflects}
-use Rattle.ledger.proofs.Steps.{reflects-told}
+use Rattle.ledger.specs.Ledger.{told, hit, intact, end}
 use Rattle.demands.specs.Ledger.{firstRow}
 use Rattle.demands.specs.Instance.{archive}
-use Rattle.demands.specs.Corollaries.{Reads}
+use Rattle.demands.specs.Requests.{Reads}
+use Rattle.demands.specs.Histories.{History, cleanLog, logOf, toldLedger}
 use Rattle.demands.proofs.First.{first-intact, intact-all}
 use Rattle.demands.proofs.Seen.{given, held-zero, held-other}
-use Rattle.demands.proofs.Laws.{lawful as laws}
-use Rattle.demands.proofs.Greeted.{read-step}
 use Rattle.demands.proofs.Reflected.{mirrored}
+use Rattle.demands.proofs.Histories.{cleanLedger, clean, stands-told, later-keeps}
 
-told-none : (log : Bytes) (L : Ledger archive) → L .changed ≡ [] → Reflects archive log L → Reflects archive log (told archive [] L)
-told-none log L e R = rw (← e) R
+-- the answer of a read that finds a block is the same in two logs, but for the log
+pub given-same : (a b m buffer : Bytes) (count : ℕ) (r : Row) → let o = given a m buffer count (some r) in
+    given b m buffer count (some r) ≡ record { number = o .number; session = o .session; log = b; reply = o .reply }
+given-same a b m buffer count r = go (ltb count (length (r .bytes))) refl
+  where
+    go : (t : Bool) → ltb count (length (r .bytes)) ≡ t → let o = given a m buffer count (some r) in
+        given b m buffer count (some r) ≡ record { number = o .number; session = o .session; log = b; reply = o .reply }
+    go true q = rw q
+    go false q = rw q
 
-module _ (clean : Bytes) (L : Ledger archive) (cs : List ℕ) (hurt : Bytes) (R : Reflects archive clean L) (none-changed : L .changed ≡ []) (D : Damage archive clean cs hurt) where
-  reflects-clean : Reflects archive clean (told archive [] L)
-  reflects-clean = told-none clean L none-changed R
+-- a read that is well-formed with one log is so with another of its length
+pub reads-with : (a b m buffer : Bytes) (t count : ℕ) (s : Bytes) → length b ≡ length a → Reads m buffer a t count s → Reads m buffer b t count s
+reads-with a b m buffer t count s e Q = record {
+  asks = record {
+    frame = Q .asks .frame;
+    buffer-room = Q .asks .buffer-room;
+    log-length = ap logAllowed e ∙ Q .asks .log-length;
+    request = Q .asks .request;
+  };
+  score = Q .score;
+  lawful-type = Q .lawful-type;
+}
 
-  reflects-hurt : Reflects archive hurt (told archive cs L)
-  reflects-hurt = reflects-told archive laws clean L cs hurt reflects-clean D
+module _ (h : History) where
+  -- what look-up finds before the damage, other than the empty block, is the ledger's first row of that type and score
+  pub clean-first : (t : ℕ) (s : Bytes) → same s zeroScore ≡ false → look.held (cleanLog h) t s ≡ firstRow t s (cleanLedger h .rows)
+  clean-first t s q =
+      held-other (cleanLog h) (intact archive (told archive [] (cleanLedger h))) (end archive (told archive [] (cleanLedger h)))
+      (mirrored (cleanLog h) (told archive [] (cleanLedger h)) (clean h)) t s q ∙ ap (firstRow t s) (intact-all (cleanLedger h .rows))
 
-  held-hurt : (t : ℕ) (s : Bytes) (r : Row) → lawful t ≡ true → look.held clean t s ≡ some r → hit archive cs r ≡ false → look.held hurt t s ≡ some r
-  held-hurt t s r l e h = go (same s zeroScore) refl
+  pub length-later : length (logOf h) ≡ length (cleanLog h)
+  length-later = later-keeps h .0 ∙ h .damage .size
+
+  pub held-later : (t : ℕ) (s : Bytes) (r : Row) → lawful t ≡ true → look.held (cleanLog h) t s ≡ some r → hit archive (h .changed) r ≡ false → look.held (logOf h) t s ≡ some r
+  held-later t s r l e n = later-keeps h .1 t s r (go (same s zeroScore) refl)
     where
-      go : (b : Bool) → same s zeroScore ≡ b → look.held hurt t s ≡ some r
-      go true q = held-zero hurt t s l q ∙ sym (held-zero clean t s l q) ∙ e
+      go : (b : Bool) → same s zeroScore ≡ b → look.held (h .hurt) t s ≡ some r
+      go true q = held-zero (h .hurt) t s l q ∙ sym (held-zero (cleanLog h) t s l q) ∙ e
       go false q =
-          let was : firstRow t s (L .rows) ≡ some r =
-          ap (firstRow t s) (sym (intact-all (L .rows))) ∙ sym (held-other clean (intact archive (told archive [] L)) (end archive (told archive [] L)) (mirrored clean (told archive [] L) reflects-clean) t s q) ∙ e in
-          held-other hurt (intact archive (told archive cs L)) (end archive (told archive cs L)) (mirrored hurt (told archive cs L) reflects-hurt) t s q ∙ first-intact t s cs (L .rows) r was h
-
-  -- the answer but for the log
-  given-same : (m buffer : Bytes) (count : ℕ) (r : Row) → let o = given clean m buffer count (some r) in
-      given hurt m buffer count (some r) ≡ record { number = o .number; session = o .session; log = hurt; reply = o .reply }
-  given-same m buffer count r = go (ltb count (length (r .bytes))) refl
-    where
-      go : (b : Bool) → ltb count (length (r .bytes)) ≡ b → let o = given clean m buffer count (some r) in
-          given hurt m buffer count (some r) ≡ record { number = o .number; session = o .session; log = hurt; reply = o .reply }
-      go true q = rw q
-      go false q = rw q
-
-  reads-hurt : (m buffer : Bytes) (t count : ℕ) (s : Bytes) → Reads m buffer clean t count s → Reads m buffer hurt t count s
-  reads-hurt m buffer t count s Q = record {
-    asks = record {
-      frame = Q .asks .frame;
-      buffer-room = Q .asks .buffer-room;
-      log-length = ap logAllowed (D .size) ∙ Q .asks .log-length;
-      request = Q .asks .request;
-    };
-    score = Q .score;
-    lawful-type = Q .lawful-type;
-  }
-
-  pub same-answer : (t count : ℕ) (s m buffer : Bytes) (r : Row) → Reads m buffer clean t count s → look.held clean t s ≡ some r → hit archive cs r ≡ false
-      → let o = steps.step Greeted m clean buffer in steps.step Greeted m hurt buffer ≡ record { number = o .number; session = o .session; log = hurt; reply = o .reply }
-  same-answer t count s m buffer r Q e h =
-      let before : steps.step Greeted m clean buffer ≡ given clean m buffer count (some r) = read-step m buffer clean t count s Q ∙ ap (given clean m buffer count) e in
-      let after : steps.step Greeted m hurt buffer ≡ given hurt m buffer count (some r) =
-      read-step m buffer hurt t count s (reads-hurt m buffer t count s Q) ∙ ap (given hurt m buffer count) (held-hurt t s r (Q .lawful-type) e h) in
-      rw before (after ∙ given-same m buffer count r)
+          held-other (h .hurt) (intact archive (toldLedger h)) (end archive (toldLedger h)) (mirrored (h .hurt) (toldLedger h) (stands-told h .mirrors)) t s q
+          ∙ first-intact t s (h .changed) (cleanLedger h .rows) r (sym (clean-first t s q) ∙ e) n

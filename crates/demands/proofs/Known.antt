@@ -1,7 +1,7 @@
 -- What a write was answered for is known to the ledger from then on.
 use mathlib.Core.Path.{_≡_, refl, ap, _∙_}
 use mathlib.Core.Bool.{Bool, true, false}
-use mathlib.Core.List.{List, [], _∷_, _++_}
+use mathlib.Core.List.{List, [], _∷_}
 use mathlib.Core.Logic.{_⊎_, inl, inr}
 use mathlib.Core.Option.{Option, none, some}
 use Prim.Native.Nat.{ℕ, _+_}
@@ -19,15 +19,17 @@ use Rattle.block.specs.Log.{sectors}
 use Rattle.archive.specs.Step.{replyRoom}
 use Rattle.archive.specs.declared.Session.{Session}
 use Rattle.archive.specs.declared.Session.the-variants.{Greeted}
-use Rattle.ledger.specs.Archive.{Outcome, on}
+use Rattle.ledger.specs.Archive.{Ruling, on}
 use Rattle.ledger.specs.Ledger.{Ledger, has, covers, hit, intactOf, intact, enter, end, next}
-use Rattle.ledger.specs.History.{Item, given, ledgerAfter}
+use Rattle.ledger.specs.Trace.{trace}
+use Rattle.ledger.specs.History.{Item, AllOfBytes, given, Books, recount}
+use Rattle.ledger.proofs.Trace.{trace-keeps}
 use Rattle.ledger.proofs.Tests.{cond-ind, on-ind}
 use Rattle.ledger.proofs.Covers.{covers-reads, hit-not}
 use Rattle.ledger.proofs.Ends.{end-changed}
 use Rattle.demands.specs.Ledger.{Answer, Decision, outcome, firstRow, writeRow, decision, tell}
 use Rattle.demands.specs.Instance.{archive}
-use Rattle.demands.specs.Corollaries.{Writes}
+use Rattle.demands.specs.Requests.{Writes}
 use Rattle.demands.proofs.First.{first-front, first-behind, intact-append}
 use Rattle.demands.proofs.TellAdds.{rowOf}
 
@@ -48,7 +50,7 @@ module _ (t : ℕ) (d : Bytes) where
   known-enter L r (inl e) = inl e
   known-enter L r (inr k) = inr (k .0, rw (intact-append (L .changed) (L .rows) (r ∷ [])) (first-front t (sha1Of d) (intact archive L) (intactOf archive (L .changed) (r ∷ [])) (k .0) (k .1)), k .2)
 
-  known-next : (L : Ledger archive) (o : Outcome Answer Session Row) → Known L → Known (next archive L o)
+  known-next : (L : Ledger archive) (o : Ruling Answer Session Row) → Known L → Known (next archive L o)
   known-next L o k = go (o .adds)
     where
       go : (a : Option Row) → Known (on a L (λ r. enter archive r L))
@@ -56,11 +58,10 @@ module _ (t : ℕ) (d : Bytes) where
       go (some r) = known-enter L r k
 
   -- requests leave it so
-  pub known-after : (x : ℕ) (L : Ledger archive) (past : List Session) (qs : List (Item archive)) → Known L → Known (ledgerAfter archive x L past qs)
-  known-after x L past [] k = k
-  known-after x L past (q ∷ qs) k =
-      let o = tell (L .rows) (L .changed) x (given archive past q) (q .request) in
-      known-after x (next archive L o) (past ++ (o .session ∷ [])) qs (known-next L o k)
+  pub known-after : (b : Books archive) (qs : List (Item archive)) → AllOfBytes archive qs → Known (b .ledger) → Known (trace (recount archive) b qs .left .ledger)
+  known-after =
+      trace-keeps (recount archive) (λ b. Known (b .ledger)) (λ q. archive .OfBytes (q .request))
+      (λ b q _. known-next (b .ledger) (tell (b .ledger .rows) (b .ledger .changed) (length (b .start)) (given archive (b .past) q) (q .request)))
 
   known-new : (L : Ledger archive) → firstRow t (sha1Of d) (intact archive L) ≡ none → Known (enter archive (rowOf t d (end archive L)) L)
   unfolding firstRow

@@ -14,6 +14,9 @@ pub mod Outcomes
 pub mod Uncovered
 pub mod Known
 pub mod Reflected
+pub mod Keeps
 pub mod Lost
+pub mod Histories
 pub mod Hurt
 pub mod Corollaries
+pub mod Witness

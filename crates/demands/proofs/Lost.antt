@@ -1,42 +1,95 @@
--- What was lost or never stored stays so until it is written.
-use mathlib.Core.Path.{_≡_, refl, sym, ap, _∙_}
+-- What was lost or never stored stays so until it is stored; and while no sector is changed, no two rows have one type and score.
+use mathlib.Core.Path.{_≡_, refl, sym, ap, subst, _∙_}
 use mathlib.Core.Bool.{true}
-use mathlib.Core.List.{List, [], _∷_, _++_, List·Memᴰ, List·Memᴰ·append-cases, List·Memᴰ·eq-of-singleton}
+use mathlib.Core.List.{List, [], _∷_, _++_, List·Memᴰ, List·Memᴰ·not-nil, List·Memᴰ·append-cases, List·Memᴰ·eq-of-singleton}
 use mathlib.Core.Logic.{_⊎_, inl, inr, _≢_}
 use mathlib.Core.Option.{Option, none, some}
 use Prim.Native.Nat.{ℕ}
+use lib.ListN.{length}
+use borrow.Author.Tests.{eq-eqb}
 use Rattle.buffer.specs.Bytes.{Bytes}
+use Rattle.buffer.proofs.Bytes.{same-refl}
 use Rattle.sha1.specs.Sha1.{sha1Of}
 use Rattle.word.specs.Number.{small}
 use Rattle.message.specs.Message.{dataOf, requestOf}
 use Rattle.message.specs.declared.Request.the-variants.{Write}
 use Rattle.block.specs.Block.{Row}
 use Rattle.archive.specs.declared.Session.{Session}
-use Rattle.ledger.specs.Archive.{on}
-use Rattle.ledger.specs.Ledger.{Ledger, hit, enter, end, next}
-use Rattle.ledger.specs.History.{Item, given, ledgerAfter, AllOfBytes}
-use Rattle.demands.specs.Ledger.{Item as Asked, tell}
+use Rattle.ledger.specs.Archive.{Ruling, Seen, on}
+use Rattle.ledger.specs.Ledger.{Ledger, empty, hit, enter, intactOf, intact, end, next}
+use Rattle.ledger.specs.Trace.{trace}
+use Rattle.ledger.specs.History.{Item, AllOfBytes, given, Standing, answer, Books, recount}
+use Rattle.ledger.proofs.Trace.{trace-keeps}
+use Rattle.ledger.proofs.Lists.{Stands, seen-alike, goes-on, changed-next}
+use Rattle.demands.specs.Ledger.{Asked, Answer, firstRow, decision, tell}
 use Rattle.demands.specs.Instance.{archive}
-use Rattle.demands.specs.Corollaries.{NoneIntact, NoneWrites}
-use Rattle.demands.proofs.TellAdds.{Fits, tell-fits}
+use Rattle.demands.specs.Histories.{NoneIntact, NoneStored}
+use Rattle.demands.proofs.Laws.{lawful}
+use Rattle.demands.proofs.First.{first-front, first-behind, intact-all}
+use Rattle.demands.proofs.TellAdds.{Fits, tell-fits, added-answered}
+
+-- what the ledger says of a request
+abbrev ruling : Ledger archive → ℕ → Session → Asked → Ruling Answer Session Row
+ruling L size u q = tell (L .rows) (L .changed) size u q
 
 module _ (t : ℕ) (s : Bytes) where
-  lost-next : (L : Ledger archive) (size : ℕ) (u : Session) (q : Asked) → small (q .message) ≡ true → (requestOf (q .message) ≡ Write t → sha1Of (dataOf (q .message)) ≢ s)
-      → NoneIntact t s L → NoneIntact t s (next archive L (tell (L .rows) (L .changed) size u q))
-  lost-next L size u q sm n l = go ((tell (L .rows) (L .changed) size u q) .adds) (λ r e. tell-fits L size u q r sm e)
+  -- one request: if it stores no block of the type and score
+  lost-next : (L : Ledger archive) (size : ℕ) (u : Session) (q : Asked) → small (q .message) ≡ true
+      → (requestOf (q .message) ≡ Write t → sha1Of (dataOf (q .message)) ≡ s → ruling L size u q .answer .number ≢ 0)
+      → NoneIntact t s L → NoneIntact t s (next archive L (ruling L size u q))
+  lost-next L size u q sm n l = go (ruling L size u q .adds) (λ r e. tell-fits L size u q r sm e) (λ r e. added-answered u (q .message) (q .buffer) (decision (intact archive L) (end archive L) size u q) r e)
     where
-      last : (r x : Row) → Fits (end archive L) size (requestOf (q .message)) (q .message) r → List·Memᴰ x (L .rows) ⊎ List·Memᴰ x (r ∷ []) → x .kind ≡ t → x .score ≡ s → hit archive (L .changed) x ≡ true
-      last r x f (inl m) k e = l x m k e
-      last r x f (inr m) k e =
+      last : (r x : Row) → Fits (intact archive L) (end archive L) size (requestOf (q .message)) (q .message) r → ruling L size u q .answer .number ≡ 0
+          → List·Memᴰ x (L .rows) ⊎ List·Memᴰ x (r ∷ []) → x .kind ≡ t → x .score ≡ s → hit archive (L .changed) x ≡ true
+      last r x f z (inl m) k e = l x m k e
+      last r x f z (inr m) k e =
           let same-row : x ≡ r = List·Memᴰ·eq-of-singleton m in
-          absurd (n (f .asked ∙ ap Write (ap (λ (y : Row). y .kind) (sym same-row) ∙ k)) (sym (f .scored) ∙ ap (λ (y : Row). y .score) (sym same-row) ∙ e))
+          absurd (n (f .asked ∙ ap Write (ap (λ (y : Row). y .kind) (sym same-row) ∙ k)) (sym (f .scored) ∙ ap (λ (y : Row). y .score) (sym same-row) ∙ e) z)
 
-      go : (a : Option Row) → ((r : Row) → a ≡ some r → Fits (end archive L) size (requestOf (q .message)) (q .message) r) → NoneIntact t s (on a L (λ r. enter archive r L))
-      go none f = l
-      go (some r) f = λ x m. last r x (f r refl) (List·Memᴰ·append-cases (L .rows) m)
+      go : (a : Option Row) → ((r : Row) → a ≡ some r → Fits (intact archive L) (end archive L) size (requestOf (q .message)) (q .message) r)
+          → ((r : Row) → a ≡ some r → ruling L size u q .answer .number ≡ 0) → NoneIntact t s (on a L (λ r. enter archive r L))
+      go none f z = l
+      go (some r) f z = λ x m. last r x (f r refl) (z r refl) (List·Memᴰ·append-cases (L .rows) m)
 
-  pub lost-after : (x : ℕ) (L : Ledger archive) (past : List Session) (qs : List (Item archive)) → AllOfBytes archive qs → NoneWrites t s qs → NoneIntact t s L → NoneIntact t s (ledgerAfter archive x L past qs)
-  lost-after x L past [] b n l = l
-  lost-after x L past (q ∷ qs) b n l =
-      let o = tell (L .rows) (L .changed) x (given archive past q) (q .request) in
-      lost-after x (next archive L o) (past ++ (o .session ∷ [])) qs (b .1) (n .1) (lost-next L x (given archive past q) (q .request) (b .0) (n .0) l)
+  -- a list
+  pub lost-after : (S : Standing archive) (b : Books archive) (qs : List (Item archive)) → AllOfBytes archive qs → Stands archive S b → NoneStored t s S qs
+      → NoneIntact t s (b .ledger) → NoneIntact t s (trace (recount archive) b qs .left .ledger)
+  lost-after S b [] ok st n l = l
+  lost-after S b (q ∷ qs) ok st n l =
+      let same-number = ap (λ (o : Seen Answer Session Bytes). o .answer .number) (seen-alike archive lawful S b q (ok .0) st) in
+      lost-after (answer archive S q .state) (recount archive b q .state) qs (ok .1) (goes-on archive lawful S b q (ok .0) st) (n .1)
+      (lost-next (b .ledger) (length (b .start)) (given archive (b .past) q) (q .request) (ok .0) (λ a e z. n .0 a e (same-number ∙ z)) l)
+
+-- each row is the first of its type and score
+abbrev pub Single : Ledger archive → Type 0
+Single L = (L .changed ≡ []) × ((x : Row) → List·Memᴰ x (L .rows) → firstRow (x .kind) (x .score) (L .rows) ≡ some x)
+
+single-next : (L : Ledger archive) (size : ℕ) (u : Session) (q : Asked) → small (q .message) ≡ true → Single L → Single (next archive L (ruling L size u q))
+unfolding firstRow
+single-next L size u q sm S = (changed-next archive L (ruling L size u q) ∙ S .0, go (ruling L size u q .adds) (λ r e. tell-fits L size u q r sm e))
+  where
+    all-intact : intact archive L ≡ L .rows
+    all-intact = ap (λ (cs : List ℕ). intactOf archive cs (L .rows)) (S .0) ∙ intact-all (L .rows)
+
+    last : (r x : Row) → Fits (intact archive L) (end archive L) size (requestOf (q .message)) (q .message) r → List·Memᴰ x (L .rows) ⊎ List·Memᴰ x (r ∷ [])
+        → firstRow (x .kind) (x .score) (L .rows ++ (r ∷ [])) ≡ some x
+    last r x f (inl m) = first-front (x .kind) (x .score) (L .rows) (r ∷ []) x (S .1 x m)
+    last r x f (inr m) =
+        let same-row : x ≡ r = List·Memᴰ·eq-of-singleton m in
+        let new : firstRow (r .kind) (r .score) (L .rows ++ (r ∷ [])) ≡ some r =
+        first-behind (r .kind) (r .score) (L .rows) (r ∷ []) (ap (firstRow (r .kind) (r .score)) (sym all-intact) ∙ f .alone) ∙ rw (eq-eqb (r .kind) (r .kind) refl, same-refl (r .score)) in
+        subst (λ (y : Row). firstRow (y .kind) (y .score) (L .rows ++ (r ∷ [])) ≡ some y) (sym same-row) new
+
+    go : (a : Option Row) → ((r : Row) → a ≡ some r → Fits (intact archive L) (end archive L) size (requestOf (q .message)) (q .message) r)
+        → (x : Row) → List·Memᴰ x ((on a L (λ r. enter archive r L)) .rows) → firstRow (x .kind) (x .score) ((on a L (λ r. enter archive r L)) .rows) ≡ some x
+    go none f = S .1
+    go (some r) f = λ x m. last r x (f r refl) (List·Memᴰ·append-cases (L .rows) m)
+
+-- so after a list on a blank log
+pub single-after : (b : Books archive) (qs : List (Item archive)) → AllOfBytes archive qs → Single (b .ledger) → Single (trace (recount archive) b qs .left .ledger)
+single-after =
+    trace-keeps (recount archive) (λ b. Single (b .ledger)) (λ q. archive .OfBytes (q .request))
+    (λ b q ok. single-next (b .ledger) (length (b .start)) (given archive (b .past) q) (q .request) ok)
+
+pub single-empty : Single (empty archive)
+single-empty = (refl, λ x m. absurd (List·Memᴰ·not-nil m))

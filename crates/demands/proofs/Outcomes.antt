@@ -18,7 +18,7 @@ use Rattle.message.specs.Message.{framed, tagOf, versionOf, scoreOf, dataOf, re
 use Rattle.message.specs.declared.Request.{Request}
 use Rattle.message.specs.declared.Request.the-variants.{Ping, Hello, Goodbye, Read, Write, Sync, Unknown, Ill}
 use Rattle.kind.specs.Kind.{lawful, longest}
-use Rattle.block.specs.Block.{Row, parts, partsOf, valid, written}
+use Rattle.block.specs.Block.{Row, partsOf}
 use Rattle.block.specs.Log.{sectors, used}
 use Rattle.log.specs.LookUp as look
 use Rattle.log.specs.Store as stores
@@ -27,28 +27,24 @@ use Rattle.log.specs.LookUp.{logAllowed}
 use Rattle.archive.specs.Step as steps
 use Rattle.archive.specs.declared.Session.{Session}
 use Rattle.archive.specs.declared.Session.the-variants.{Fresh, Greeted, Closed as Shut}
+use Rattle.demands.specs.Corollaries.{AtMostOne, alike, adds, AppendsAtMostOne}
 use Rattle.demands.proofs.TellAdds.{rowOf, row-valid}
 use Rattle.demands.proofs.Seen.{storedAs, kept, held-zero, empty-score}
 
--- what a request does to a log
-pub data Ways (log : Bytes) (o : steps.Outcome) : Type 0 where
-  alike : o .log ≡ log → (o .number ≡ 11 → look.doubtful log ≡ 0) → Ways log o
-  adds : (r : Row) → o .log ≡ written log r → o .number ≡ 0 → valid r ≡ true → r .first ≡ used log → r .first + parts r ≤ sectors (length log) → Ways log o
-
 module _ {log : Bytes} where
-  plain : {o : steps.Outcome} → o .log ≡ log → (o .number ≡ 11 → ⊥) → Ways log o
+  plain : {o : steps.Outcome} → o .log ≡ log → (o .number ≡ 11 → ⊥) → AtMostOne log o
   plain e n = alike e (λ f. absurd (n f))
 
-  by-test : (b : Bool) {x y : steps.Outcome} → (b ≡ true → Ways log x) → (b ≡ false → Ways log y) → Ways log (cond b x y)
+  by-test : (b : Bool) {x y : steps.Outcome} → (b ≡ true → AtMostOne log x) → (b ≡ false → AtMostOne log y) → AtMostOne log (cond b x y)
   by-test true f g = f refl
   by-test false f g = g refl
 
-  by-row : (o : Option Row) {x : steps.Outcome} {f : Row → steps.Outcome} → (o ≡ none → Ways log x) → ((r : Row) → o ≡ some r → Ways log (f r)) → Ways log (look.on o x f)
+  by-row : (o : Option Row) {x : steps.Outcome} {f : Row → steps.Outcome} → (o ≡ none → AtMostOne log x) → ((r : Row) → o ≡ some r → AtMostOne log (f r)) → AtMostOne log (look.on o x f)
   by-row none g h = g refl
   by-row (some r) g h = h r refl
 
 module _ (log m buffer : Bytes) where
-  absent : Ways log (steps.refused (look.absence log) (tagOf m) Greeted log buffer)
+  absent : AtMostOne log (steps.refused (look.absence log) (tagOf m) Greeted log buffer)
   unfolding look.absence
   absent = alike refl (go (eqb (look.doubtful log) 0) refl)
     where
@@ -56,7 +52,7 @@ module _ (log m buffer : Bytes) where
       go true q e = eqb-true (look.doubtful log) 0 q
       go false q e = absurd (omega arith)
 
-  read-ways : (t count : ℕ) → Ways log (steps.read t count (tagOf m) (scoreOf m) log buffer)
+  read-ways : (t count : ℕ) → AtMostOne log (steps.read t count (tagOf m) (scoreOf m) log buffer)
   unfolding steps.read
   read-ways t count =
       by-test (not (lawful t)) (λ _. plain refl (λ e. omega arith)) (λ _.
@@ -64,40 +60,40 @@ module _ (log m buffer : Bytes) where
       (λ r _. by-test (ltb count (length (r .bytes))) (λ _. plain refl (λ e. omega arith)) (λ _. plain refl (λ e. omega arith))))
 
   -- data that is not found
-  new-ways : (t : ℕ) (d : Bytes) → logAllowed (length log) ≡ true → lawful t ≡ true → length d ≤ longest → small d ≡ true → (length d ≡ 0 → ⊥) → Ways log (kept m buffer (storedAs log t d none))
+  new-ways : (t : ℕ) (d : Bytes) → logAllowed (length log) ≡ true → lawful t ≡ true → length d ≤ longest → small d ≡ true → (length d ≡ 0 → ⊥) → AtMostOne log (kept m buffer (storedAs log t d none))
   unfolding stores.roomFor
   new-ways t d a l le sm n = go (leb (used log + partsOf (length d)) (sectors (length log))) refl
     where
-      go : (b : Bool) → leb (used log + partsOf (length d)) (sectors (length log)) ≡ b → Ways log (kept m buffer (storedAs log t d none))
+      go : (b : Bool) → leb (used log + partsOf (length d)) (sectors (length log)) ≡ b → AtMostOne log (kept m buffer (storedAs log t d none))
       go true q =
           let room : used log + partsOf (length d) ≤ sectors (length log) = leb-true (used log + partsOf (length d)) (sectors (length log)) q in
           rw q (adds (rowOf t d (used log)) refl refl (row-valid t d (used log) (length log) a l le n sm room) refl room)
       go false q = rw q (plain refl (λ e. omega arith))
 
-  held-ways : (t : ℕ) (d : Bytes) (r : Row) → Ways log (kept m buffer (storedAs log t d (some r)))
+  held-ways : (t : ℕ) (d : Bytes) (r : Row) → AtMostOne log (kept m buffer (storedAs log t d (some r)))
   held-ways t d r = go (same (r .bytes) d)
     where
-      go : (b : Bool) → Ways log (kept m buffer (cond b (stores.after (stores.receipt (sha1Of d) (Duplicate (record { 0 = r .first }))) log) (stores.after (stores.receipt (sha1Of d) (Refused Clash)) log)))
+      go : (b : Bool) → AtMostOne log (kept m buffer (cond b (stores.after (stores.receipt (sha1Of d) (Duplicate (record { 0 = r .first }))) log) (stores.after (stores.receipt (sha1Of d) (Refused Clash)) log)))
       go true = plain refl (λ e. omega arith)
       go false = plain refl (λ e. omega arith)
 
-  store-ways : (t : ℕ) (d : Bytes) → logAllowed (length log) ≡ true → lawful t ≡ true → length d ≤ longest → small d ≡ true → Ways log (kept m buffer (stores.store log t d))
+  store-ways : (t : ℕ) (d : Bytes) → logAllowed (length log) ≡ true → lawful t ≡ true → length d ≤ longest → small d ≡ true → AtMostOne log (kept m buffer (stores.store log t d))
   unfolding stores.store
   store-ways t [] a l le sm = rw (held-zero log t (sha1Of []) l empty-score) (held-ways t [] (look.emptyRow t))
   store-ways t (c ∷ x) a l le sm = go (look.held log t (sha1Of (c ∷ x)))
     where
-      go : (o : Option Row) → Ways log (kept m buffer (storedAs log t (c ∷ x) o))
+      go : (o : Option Row) → AtMostOne log (kept m buffer (storedAs log t (c ∷ x) o))
       go none = new-ways t (c ∷ x) a l le sm (λ e. omega arith)
       go (some r) = held-ways t (c ∷ x) r
 
-  write-ways : (t : ℕ) → logAllowed (length log) ≡ true → small m ≡ true → Ways log (steps.write t (tagOf m) (dataOf m) log buffer)
+  write-ways : (t : ℕ) → logAllowed (length log) ≡ true → small m ≡ true → AtMostOne log (steps.write t (tagOf m) (dataOf m) log buffer)
   unfolding steps.write
   write-ways t a sm =
       by-test (not (lawful t)) (λ _. plain refl (λ e. omega arith)) (λ l.
       by-test (ltb longest (length (dataOf m))) (λ _. plain refl (λ e. omega arith)) (λ le.
       store-ways t (dataOf m) a (not-false (lawful t) l) (ltb-false longest (length (dataOf m)) le) (small-drop 8 m sm)))
 
-  fresh-ways : (q : Request) → Ways log (steps.fresh q (tagOf m) m log buffer)
+  fresh-ways : (q : Request) → AtMostOne log (steps.fresh q (tagOf m) m log buffer)
   unfolding steps.fresh
   fresh-ways Unknown = plain refl (λ e. omega arith)
   fresh-ways Ill = plain refl (λ e. omega arith)
@@ -108,7 +104,7 @@ module _ (log m buffer : Bytes) where
   fresh-ways (Read t c) = plain refl (λ e. omega arith)
   fresh-ways (Write t) = plain refl (λ e. omega arith)
 
-  greeted-ways : (q : Request) → logAllowed (length log) ≡ true → small m ≡ true → Ways log (steps.greeted q (tagOf m) m log buffer)
+  greeted-ways : (q : Request) → logAllowed (length log) ≡ true → small m ≡ true → AtMostOne log (steps.greeted q (tagOf m) m log buffer)
   unfolding steps.greeted
   greeted-ways Unknown a sm = plain refl (λ e. omega arith)
   greeted-ways Ill a sm = plain refl (λ e. omega arith)
@@ -119,16 +115,19 @@ module _ (log m buffer : Bytes) where
   greeted-ways (Read t c) a sm = read-ways t c
   greeted-ways (Write t) a sm = write-ways t a sm
 
-  session-ways : (s : Session) → logAllowed (length log) ≡ true → small m ≡ true → Ways log (steps.inSession s m log buffer)
+  session-ways : (s : Session) → logAllowed (length log) ≡ true → small m ≡ true → AtMostOne log (steps.inSession s m log buffer)
   unfolding steps.inSession
   session-ways Shut a sm = plain refl (λ e. omega arith)
   session-ways Fresh a sm = fresh-ways (requestOf m)
   session-ways Greeted a sm = greeted-ways (requestOf m) a sm
 
-  pub step-ways : (s : Session) → small m ≡ true → Ways log (steps.step s m log buffer)
+  step-ways : (s : Session) → small m ≡ true → AtMostOne log (steps.step s m log buffer)
   unfolding steps.step
   step-ways s sm =
       by-test (not (framed m)) (λ _. plain refl (λ e. omega arith)) (λ _.
       by-test (ltb (length buffer) steps.replyRoom) (λ _. plain refl (λ e. omega arith)) (λ _.
       by-test (not (logAllowed (length log))) (λ _. plain refl (λ e. omega arith)) (λ a.
       session-ways s (not-false (logAllowed (length log)) a) sm)))
+
+pub appends-at-most-one : AppendsAtMostOne
+appends-at-most-one s m log buffer sm = step-ways log m buffer s sm

@@ -23,7 +23,7 @@ use Rattle.ledger.specs.Reflects.{Reflects}
 use Rattle.ledger.proofs.Reflects.{used-end, blocks-intact}
 use Rattle.demands.specs.Ledger.{firstRow}
 use Rattle.demands.specs.Instance.{archive}
-use Rattle.demands.specs.Corollaries.{Writes, Reads}
+use Rattle.demands.specs.Requests.{Writes, Reads}
 use Rattle.demands.proofs.Seen.{given, storedAs, kept, Mirrors, held-zero, empty-score, held-other}
 use Rattle.demands.proofs.Step.{mirrors}
 use Rattle.demands.proofs.Laws.{lawful as laws}

@@ -1,6 +1,6 @@
 -- Any request: the archive answers it from the log's bytes as the ledger does from its rows.
 use mathlib.Core.Path.{_≡_, refl, sym, _∙_}
-use mathlib.Core.Bool.{true, false, cond, not, true≢false}
+use mathlib.Core.Bool.{true, false, not, true≢false}
 use mathlib.Core.List.{List, List·Memᴰ}
 use Prim.Native.Nat.{ℕ}
 use lib.Dec.{leb, ltb}
@@ -21,7 +21,7 @@ use Rattle.archive.specs.declared.Session.{Session}
 use Rattle.archive.specs.declared.Session.the-variants.{Fresh, Greeted, Closed as Shut}
 use Rattle.ledger.specs.Ledger.{Ledger, intact, end, blocks, shown}
 use Rattle.ledger.proofs.Intact.{intact-out}
-use Rattle.demands.specs.Ledger.{Item, silence, decide, isShut, decision, tell}
+use Rattle.demands.specs.Ledger.{Asked, silence, decide, bySession, decision, tell}
 use Rattle.demands.specs.Instance.{served, archive}
 use Rattle.demands.proofs.Tests.{alike, contrary, ltb-not}
 use Rattle.demands.proofs.LookUp.{blocks-same}
@@ -31,7 +31,7 @@ use Rattle.demands.proofs.Read.{read-agrees}
 use Rattle.demands.proofs.Write.{write-agrees}
 
 module _ (log : Bytes) (rows : List Row) (last : ℕ) (M : Mirrors log rows last) (m buffer : Bytes) where
-  fresh-agrees : (r : Request) → seen (steps.fresh r (tagOf m) m log buffer) ≡ view log Fresh m buffer (decide rows last (length log) Fresh r m)
+  fresh-agrees : (r : Request) → seen (steps.fresh r (tagOf m) m log buffer) ≡ view log Fresh m buffer (decide rows last (length log) false r m)
   unfolding steps.fresh
   fresh-agrees Unknown = refl
   fresh-agrees Ill = refl
@@ -42,7 +42,7 @@ module _ (log : Bytes) (rows : List Row) (last : ℕ) (M : Mirrors log rows last
   fresh-agrees (Read t c) = refl
   fresh-agrees (Write t) = refl
 
-  greeted-agrees : (r : Request) → seen (steps.greeted r (tagOf m) m log buffer) ≡ view log Greeted m buffer (decide rows last (length log) Greeted r m)
+  greeted-agrees : (r : Request) → seen (steps.greeted r (tagOf m) m log buffer) ≡ view log Greeted m buffer (decide rows last (length log) true r m)
   unfolding steps.greeted
   greeted-agrees Unknown = refl
   greeted-agrees Ill = refl
@@ -54,7 +54,7 @@ module _ (log : Bytes) (rows : List Row) (last : ℕ) (M : Mirrors log rows last
   greeted-agrees (Write t) = write-agrees log rows last M m buffer t (dataOf m)
 
   session-agrees : (s : Session) → seen (steps.inSession s m log buffer)
-      ≡ view log s m buffer (cond (isShut s) (silence Closed) (decide rows last (length log) s (requestOf m) m))
+      ≡ view log s m buffer (bySession s (silence Closed) (λ g. decide rows last (length log) g (requestOf m) m))
   unfolding steps.inSession
   session-agrees Fresh = fresh-agrees (requestOf m)
   session-agrees Greeted = greeted-agrees (requestOf m)
@@ -80,5 +80,5 @@ module _ (log : Bytes) (L : Ledger archive) (owned : (r : Row) → List·Memᴰ 
         true≢false (sym (same-refl zeroScore) ∙ z));
   }
 
-  pub agrees : (s : Session) (q : Item) → served log s q ≡ shown archive log (tell (L .rows) (L .changed) (length log) s q)
+  pub agrees : (s : Session) (q : Asked) → served log s q ≡ shown archive log (tell (L .rows) (L .changed) (length log) s q)
   agrees s q = step-agrees log (intact archive L) (end archive L) mirrors (q .message) (q .buffer) s

@@ -12,6 +12,7 @@ use Rattle.buffer.specs.Bytes.{Bytes, same}
 use Rattle.buffer.proofs.Bytes.{small-drop}
 use Rattle.word.specs.Number.{small}
 use Rattle.sha1.specs.Sha1.{sha1Of}
+use Rattle.refusal.specs.declared.Refusal.the-variants.{Closed}
 use Rattle.message.specs.Message.{framed, tagOf, versionOf, scoreOf, dataOf, requestOf}
 use Rattle.message.specs.declared.Request.{Request}
 use Rattle.message.specs.declared.Request.the-variants.{Ping, Hello, Goodbye, Read, Write, Sync, Unknown, Ill}
@@ -25,7 +26,7 @@ use Rattle.archive.specs.declared.Session.{Session}
 use Rattle.archive.specs.declared.Session.the-variants.{Fresh, Greeted, Closed as Shut}
 use Rattle.ledger.specs.Ledger.{Ledger, intact, end}
 use Rattle.ledger.proofs.Tests.{on-ind}
-use Rattle.demands.specs.Ledger.{Item, Decision, silence, refusal, reply, close, outcome, anyUncovered, firstRow, writeRow, readRow, decide, isShut, decision, tell}
+use Rattle.demands.specs.Ledger.{Asked, Decision, silence, refusal, reply, close, outcome, anyUncovered, firstRow, writeRow, readRow, decide, bySession, decision, tell}
 use Rattle.demands.specs.Instance.{archive}
 
 log-allowed : (m : ℕ) → logAllowed m ≡ true → sectors m ≤ mostSectors
@@ -52,14 +53,15 @@ row-valid t d e m a l le n sm room = facts-valid (rowOf t d e) (record {
   place = omega (arith, log-allowed m a);
 })
 
--- what holds of a row that is added: e is the end, size the log's length, q and m the request
-pub record Fits (e size : ℕ) (q : Request) (m : Bytes) (r : Row) : Type 0 where
+-- what holds of a row that is added: rows are the intact ones, e is the end, size the log's length, q and m the request
+pub record Fits (rows : List Row) (e size : ℕ) (q : Request) (m : Bytes) (r : Row) : Type 0 where
   pub ok : valid r ≡ true
   pub here : r .first ≡ e
   pub room : r .first + parts r ≤ sectors size
   pub owned : not (same (r .score) zeroScore) ≡ true
   pub asked : q ≡ Write (r .kind)
   pub scored : r .score ≡ sha1Of (dataOf m)
+  pub alone : firstRow (r .kind) (r .score) rows ≡ none
 
 -- the row that a decision adds
 abbrev added : Decision → Option Row
@@ -75,83 +77,91 @@ outcome-added s m buffer (reply b s′ a) = refl
 outcome-added s m buffer close = refl
 
 -- if a decision adds a row, it fits
-record Good (e size : ℕ) (q : Request) (m : Bytes) (d : Decision) : Type 0 where
-  fits : (r : Row) → added d ≡ some r → Fits e size q m r
+record Good (rows : List Row) (e size : ℕ) (q : Request) (m : Bytes) (d : Decision) : Type 0 where
+  fits : (r : Row) → added d ≡ some r → Fits rows e size q m r
 
-module _ {e size : ℕ} {q : Request} {m : Bytes} where
-  nothing : {d : Decision} → added d ≡ none → Good e size q m d
+module _ {rows : List Row} {e size : ℕ} {q : Request} {m : Bytes} where
+  nothing : {d : Decision} → added d ≡ none → Good rows e size q m d
   nothing n = record { fits = λ r g. let z : _≡_ {A = ℕ} 0 1 = cc in absurd (omega arith) }
 
-  by-test : (b : Bool) {x y : Decision} → (b ≡ true → Good e size q m x) → (b ≡ false → Good e size q m y) → Good e size q m (cond b x y)
+  by-test : (b : Bool) {x y : Decision} → (b ≡ true → Good rows e size q m x) → (b ≡ false → Good rows e size q m y) → Good rows e size q m (cond b x y)
   by-test true f g = f refl
   by-test false f g = g refl
 
 module _ (rows : List Row) (e size : ℕ) where
   write-good : (t : ℕ) (m : Bytes) → logAllowed size ≡ true → lawful t ≡ true → leb (length (dataOf m)) longest ≡ true → small (dataOf m) ≡ true
-      → Good e size (Write t) m (writeRow rows e size t (dataOf m) (tagOf m))
+      → Good rows e size (Write t) m (writeRow rows e size t (dataOf m) (tagOf m))
   write-good t m a l le sm =
       by-test (eqb (length (dataOf m)) 0) (λ _. nothing refl) (λ n.
-      on-ind (λ d. Good e size (Write t) m d) (firstRow t (sha1Of (dataOf m)) rows) _ _
-      (λ _. by-test (same (sha1Of (dataOf m)) zeroScore) (λ _. nothing refl) (λ z.
+      on-ind (λ d. Good rows e size (Write t) m d) (firstRow t (sha1Of (dataOf m)) rows) _ _
+      (λ f. by-test (same (sha1Of (dataOf m)) zeroScore) (λ _. nothing refl) (λ z.
       by-test (ltb (sectors size) (e + partsOf (length (dataOf m)))) (λ _. nothing refl) (λ room.
-      record { fits = λ r q. let eq : rowOf t (dataOf m) e ≡ r = cc in rw (← eq) (new n z (ltb-false (sectors size) (e + partsOf (length (dataOf m))) room)) })))
+      record { fits = λ r q. let eq : rowOf t (dataOf m) e ≡ r = cc in rw (← eq) (new f n z (ltb-false (sectors size) (e + partsOf (length (dataOf m))) room)) })))
       (λ r _. by-test (same (r .bytes) (dataOf m)) (λ _. nothing refl) (λ _. nothing refl)))
     where
-      new : eqb (length (dataOf m)) 0 ≡ false → same (sha1Of (dataOf m)) zeroScore ≡ false → e + partsOf (length (dataOf m)) ≤ sectors size → Fits e size (Write t) m (rowOf t (dataOf m) e)
-      new n z room = record {
+      new : firstRow t (sha1Of (dataOf m)) rows ≡ none → eqb (length (dataOf m)) 0 ≡ false → same (sha1Of (dataOf m)) zeroScore ≡ false → e + partsOf (length (dataOf m)) ≤ sectors size → Fits rows e size (Write t) m (rowOf t (dataOf m) e)
+      new f n z room = record {
         ok = row-valid t (dataOf m) e size a l (leb-true (length (dataOf m)) longest le) (eqb-false (length (dataOf m)) 0 n) sm room;
         here = refl;
         room = room;
         owned = ap not z;
         asked = refl;
         scored = refl;
+        alone = f;
       }
 
-  read-good : (q : Request) (m : Bytes) (t count : ℕ) (s : Bytes) (tag : ℕ) → Good e size q m (readRow rows e size t count s tag)
+  read-good : (q : Request) (m : Bytes) (t count : ℕ) (s : Bytes) (tag : ℕ) → Good rows e size q m (readRow rows e size t count s tag)
   read-good q m t count s tag =
       by-test (same s zeroScore) (λ _. nothing refl) (λ _.
-      on-ind (λ d. Good e size q m d) (firstRow t s rows) _ _
+      on-ind (λ d. Good rows e size q m d) (firstRow t s rows) _ _
       (λ _. by-test (anyUncovered rows e) (λ _. nothing refl) (λ _. nothing refl))
       (λ r _. by-test (leb (length (r .bytes)) count) (λ _. nothing refl) (λ _. nothing refl)))
 
-  decide-good : (s : Session) (q : Request) (m : Bytes) → logAllowed size ≡ true → small m ≡ true → Good e size q m (decide rows e size s q m)
-  decide-good s Unknown m a sm = nothing refl
-  decide-good s Ill m a sm = nothing refl
-  decide-good s Goodbye m a sm = nothing refl
-  decide-good Fresh Hello m a sm = by-test (same (versionOf m) version) (λ _. nothing refl) (λ _. nothing refl)
-  decide-good Fresh Ping m a sm = nothing refl
-  decide-good Fresh Sync m a sm = nothing refl
-  decide-good Fresh (Read t c) m a sm = nothing refl
-  decide-good Fresh (Write t) m a sm = nothing refl
-  decide-good Greeted Hello m a sm = nothing refl
-  decide-good Greeted Ping m a sm = nothing refl
-  decide-good Greeted Sync m a sm = nothing refl
-  decide-good Greeted (Read t c) m a sm = by-test (lawful t) (λ _. read-good (Read t c) m t c (scoreOf m) (tagOf m)) (λ _. nothing refl)
-  decide-good Greeted (Write t) m a sm =
+  decide-good : (g : Bool) (q : Request) (m : Bytes) → logAllowed size ≡ true → small m ≡ true → Good rows e size q m (decide rows e size g q m)
+  decide-good g Unknown m a sm = nothing refl
+  decide-good g Ill m a sm = nothing refl
+  decide-good g Goodbye m a sm = nothing refl
+  decide-good false Hello m a sm = by-test (same (versionOf m) version) (λ _. nothing refl) (λ _. nothing refl)
+  decide-good false Ping m a sm = nothing refl
+  decide-good false Sync m a sm = nothing refl
+  decide-good false (Read t c) m a sm = nothing refl
+  decide-good false (Write t) m a sm = nothing refl
+  decide-good true Hello m a sm = nothing refl
+  decide-good true Ping m a sm = nothing refl
+  decide-good true Sync m a sm = nothing refl
+  decide-good true (Read t c) m a sm = by-test (lawful t) (λ _. read-good (Read t c) m t c (scoreOf m) (tagOf m)) (λ _. nothing refl)
+  decide-good true (Write t) m a sm =
       by-test (lawful t) (λ l.
       by-test (leb (length (dataOf m)) longest) (λ le. write-good t m a l le (small-drop 8 m sm)) (λ _. nothing refl))
       (λ _. nothing refl)
-  decide-good Shut Hello m a sm = nothing refl
-  decide-good Shut Ping m a sm = nothing refl
-  decide-good Shut Sync m a sm = nothing refl
-  decide-good Shut (Read t c) m a sm = nothing refl
-  decide-good Shut (Write t) m a sm = nothing refl
 
-  decision-good : (s : Session) (q : Item) → small (q .message) ≡ true → Good e size (requestOf (q .message)) (q .message) (decision rows e size s q)
+  by-session : {q : Request} {m : Bytes} (s : Session) {f : Bool → Decision} → ((g : Bool) → Good rows e size q m (f g)) → Good rows e size q m (bySession s (silence Closed) f)
+  by-session Fresh h = h false
+  by-session Greeted h = h true
+  by-session Shut h = nothing refl
+
+  decision-good : (s : Session) (q : Asked) → small (q .message) ≡ true → Good rows e size (requestOf (q .message)) (q .message) (decision rows e size s q)
   unfolding decision
   decision-good s q sm =
       by-test (framed (q .message)) (λ _.
       by-test (leb replyRoom (length (q .buffer))) (λ _.
       by-test (logAllowed size) (λ a.
-      by-test (isShut s) (λ _. nothing refl) (λ _. decide-good s (requestOf (q .message)) (q .message) a sm))
+      by-session s (λ g. decide-good g (requestOf (q .message)) (q .message) a sm))
       (λ _. nothing refl)) (λ _. nothing refl)) (λ _. nothing refl)
 
-pub tell-fits : (L : Ledger archive) (size : ℕ) (s : Session) (q : Item) (r : Row) → small (q .message) ≡ true → (tell (L .rows) (L .changed) size s q) .adds ≡ some r
-    → Fits (end archive L) size (requestOf (q .message)) (q .message) r
+pub tell-fits : (L : Ledger archive) (size : ℕ) (s : Session) (q : Asked) (r : Row) → small (q .message) ≡ true → (tell (L .rows) (L .changed) size s q) .adds ≡ some r
+    → Fits (intact archive L) (end archive L) size (requestOf (q .message)) (q .message) r
 tell-fits L size s q r sm g =
     let d = decision (intact archive L) (end archive L) size s q in
     decision-good (intact archive L) (end archive L) size s q sm .fits r (sym (outcome-added s (q .message) (q .buffer) d) ∙ g)
 
-pub tell-adds : (L : Ledger archive) (size : ℕ) (s : Session) (q : Item) (r : Row) → small (q .message) ≡ true → (tell (L .rows) (L .changed) size s q) .adds ≡ some r
+pub tell-adds : (L : Ledger archive) (size : ℕ) (s : Session) (q : Asked) (r : Row) → small (q .message) ≡ true → (tell (L .rows) (L .changed) size s q) .adds ≡ some r
     → (valid r ≡ true) × (r .first ≡ end archive L) × (r .first + parts r ≤ sectors size) × (not (same (r .score) zeroScore) ≡ true)
 tell-adds L size s q r sm g = let f = tell-fits L size s q r sm g in (f .ok, f .here, f .room, f .owned)
+
+-- a row is added only with the answer 0
+pub added-answered : (s : Session) (m buffer : Bytes) (d : Decision) (r : Row) → (outcome s m buffer d) .adds ≡ some r → (outcome s m buffer d) .answer .number ≡ 0
+added-answered s m buffer (silence w) r e = let z : _≡_ {A = ℕ} 0 1 = cc in absurd (omega arith)
+added-answered s m buffer (refusal w) r e = let z : _≡_ {A = ℕ} 0 1 = cc in absurd (omega arith)
+added-answered s m buffer (reply b s′ a) r e = refl
+added-answered s m buffer close r e = refl

@@ -5,7 +5,7 @@ use Rattle.demands.specs.Demand3.{Demand, Blank}
 use Rattle.demands.proofs.Laws.{lawful}
 
 pub demand : Demand
-demand n before after b c changed hurt D = demand3 archive lawful n before changed hurt after b c D
+demand = demand3 archive lawful
 
 pub blank : Blank
-blank n qs b = demand2 archive lawful n qs b
+blank = demand2 archive lawful

@@ -1,48 +1,139 @@
--- Well-formed requests, in the words of the corollaries.
+-- What the demands say in plain terms; the words in quotes are theirs. `step` is the archive's answer to one request. Each holds after every history;
+-- those that speak of a log alone hold for any bytes.
 use mathlib.Core.Path.{_≡_}
-use mathlib.Core.Bool.{true}
-use mathlib.Core.List.{List, [], _∷_, List·Memᴰ}
-use mathlib.Core.Logic.{_≢_}
-use Prim.Native.Nat.{ℕ, _≤_}
+use mathlib.Core.Bool.{true, false}
+use mathlib.Core.List.{List, [], List·Memᴰ}
+use mathlib.Core.Logic.{_≢_, _⊎_}
+use mathlib.Core.Option.{none, some}
+use Prim.Native.Nat.{ℕ, _+_, _≤_, _<_}
 use lib.ListN.{length}
 use Rattle.buffer.specs.Bytes.{Bytes}
+use Rattle.word.specs.Number.{small}
 use Rattle.sha1.specs.Sha1.{sha1Of}
-use Rattle.message.specs.Message.{framed, scoreOf, dataOf, requestOf}
-use Rattle.message.specs.declared.Request.{Request}
-use Rattle.message.specs.declared.Request.the-variants.{Read, Write}
-use Rattle.kind.specs.Kind.{lawful, longest}
-use Rattle.block.specs.Block.{Row}
-use Rattle.log.specs.LookUp.{logAllowed}
-use Rattle.archive.specs.Step.{replyRoom}
-use Rattle.ledger.specs.Ledger.{Ledger, hit}
-use Rattle.ledger.specs.History.{Item}
+use Rattle.refusal.specs.declared.Refusal.the-variants.{NotKnown}
+use Rattle.message.specs.Message.{tagOf}
+use Rattle.message.specs.Reply.{readReply, writeReply}
+use Rattle.kind.specs.Kind.{zeroScore}
+use Rattle.block.specs.Block.{Row, parts, partsOf, valid, written}
+use Rattle.block.specs.Log.{sectors, at, used}
+use Rattle.log.specs.LookUp.{held, doubtful}
+use Rattle.archive.specs.Step.{Outcome, step, granted, refused}
+use Rattle.archive.specs.declared.Session.{Session}
+use Rattle.archive.specs.declared.Session.the-variants.{Greeted}
+use Rattle.ledger.specs.Ledger.{has, hit, intact, end}
+use Rattle.ledger.specs.History.{Item, AllOfBytes, first-log, first-books}
 use Rattle.demands.specs.Instance.{archive}
+use Rattle.demands.specs.Requests.{Writes, Reads}
+use Rattle.demands.specs.Histories.{History, cleanLog, atDamage, logOf, toldLedger, ledgerOf, afterwards, NoneIntact, NoneStored}
 
--- tests 1 to 3 pass, and the message makes this request
-pub record Asks (m buffer log : Bytes) (q : Request) : Type 0 where
-  pub frame : framed m ≡ true
-  pub buffer-room : replyRoom ≤ length buffer
-  pub log-length : logAllowed (length log) ≡ true
-  pub request : requestOf m ≡ q
+-- ---- any log
 
--- a well-formed write of data d, of a lawful type t and length
-pub record Writes (m buffer log : Bytes) (t : ℕ) (d : Bytes) : Type 0 where
-  pub asks : Asks m buffer log (Write t)
-  pub content : dataOf m ≡ d
-  pub lawful-type : lawful t ≡ true
-  pub not-long : length d ≤ longest
+-- "It answers, and appends at most one block": the log stays, and then 11 is answered only where nothing is doubtful; or it is answered with 0, and a block
+-- stands right after the used part
+pub data AtMostOne (log : Bytes) (o : Outcome) : Type 0 where
+  alike : o .log ≡ log → (o .number ≡ 11 → doubtful log ≡ 0) → AtMostOne log o
+  adds : (r : Row) → o .log ≡ written log r → o .number ≡ 0 → valid r ≡ true → r .first ≡ used log → r .first + parts r ≤ sectors (length log) → AtMostOne log o
 
--- a well-formed read of the score s, of a lawful type t, for at most count bytes
-pub record Reads (m buffer log : Bytes) (t count : ℕ) (s : Bytes) : Type 0 where
-  pub asks : Asks m buffer log (Read t count)
-  pub score : scoreOf m ≡ s
-  pub lawful-type : lawful t ≡ true
+abbrev pub AppendsAtMostOne : Type 0
+AppendsAtMostOne = (s : Session) (m log buffer : Bytes) → small m ≡ true → AtMostOne log (step s m log buffer)
 
--- each row of type t and score s has a changed sector: a block that lost one and has no other intact row, or one that was never stored
-abbrev pub NoneIntact : ℕ → Bytes → Ledger archive → Type 0
-NoneIntact t s L = (r : Row) → List·Memᴰ r (L .rows) → r .kind ≡ t → r .score ≡ s → hit archive (L .changed) r ≡ true
+-- "Nothing stored changes": the log keeps its length, and every sector of the used part its bytes
+abbrev pub NothingStoredChanges : Type 0
+NothingStoredChanges = (s : Session) (m log buffer : Bytes) → small m ≡ true
+    → (length (step s m log buffer .log) ≡ length log) × ((k : ℕ) → k < used log → at (step s m log buffer .log) k ≡ at log k)
 
--- no message of the list writes data of score s under type t
-abbrev pub NoneWrites : ℕ → Bytes → List (Item archive) → Type 0
-NoneWrites t s [] = Unit {0}
-NoneWrites t s (q ∷ qs) = (requestOf (q .request .message) ≡ Write t → sha1Of (dataOf (q .request .message)) ≢ s) × NoneWrites t s qs
+-- "A well-formed write ... fails only when room is lacking or other bytes already own its score": after a hello. The owner of the zero score is the empty block
+abbrev pub WriteFailsOnlySo : Type 0
+WriteFailsOnlySo = (t : ℕ) (d m log buffer : Bytes) → Writes m buffer log t d
+    → let n = step Greeted m log buffer .number in
+    (n ≡ 0)
+    ⊎ (((n ≡ 14) × (sectors (length log) < used log + partsOf (length d)))
+    ⊎ ((n ≡ 15) × ((r : Row) × (held log t (sha1Of d) ≡ some r) × (r .bytes ≢ d))))
+
+-- "the empty block stays known"
+abbrev pub EmptyStaysKnown : Type 0
+EmptyStaysKnown = (t count : ℕ) (m log buffer : Bytes) → Reads m buffer log t count zeroScore
+    → step Greeted m log buffer ≡ granted (readReply (tagOf m) []) Greeted log buffer
+
+-- what a read hands out has the score that was asked for: "never zeros" in the place of lost bytes
+abbrev pub AnswersHaveTheScore : Type 0
+AnswersHaveTheScore = (t count : ℕ) (s m log buffer : Bytes) → Reads m buffer log t count s → step Greeted m log buffer .number ≡ 0
+    → (d : Bytes) × (sha1Of d ≡ s) × (length d ≤ count) × (step Greeted m log buffer ≡ granted (readReply (tagOf m) d) Greeted log buffer)
+
+-- ---- histories
+
+-- the same of a write, in the ledger's words: after any history
+abbrev pub WriteFailsByTheLedger : Type 0
+WriteFailsByTheLedger = (h : History) (t : ℕ) (d m buffer : Bytes) → Writes m buffer (logOf h) t d
+    → let n = step Greeted m (logOf h) buffer .number in
+    (n ≡ 0)
+    ⊎ (((n ≡ 14) × (sectors (length (logOf h)) < end archive (ledgerOf h) + partsOf (length d)))
+    ⊎ ((n ≡ 15) × ((sha1Of d ≡ zeroScore)
+    ⊎ ((r : Row) × List·Memᴰ r (intact archive (ledgerOf h)) × (r .kind ≡ t) × (r .score ≡ sha1Of d) × (r .bytes ≢ d)))))
+
+-- "A block with no changed sector reads as before, byte for byte": whatever list follows the damage
+abbrev pub IntactReadsAsBefore : Type 0
+IntactReadsAsBefore = (h : History) (t count : ℕ) (s m buffer : Bytes) (r : Row)
+    → Reads m buffer (cleanLog h) t count s → held (cleanLog h) t s ≡ some r → hit archive (h .changed) r ≡ false
+    → let o = step Greeted m (cleanLog h) buffer in
+    step Greeted m (logOf h) buffer ≡ record { number = o .number; session = o .session; log = logOf h; reply = o .reply }
+
+-- a duplicate of such a block "adds nothing"
+abbrev pub IntactIsDuplicate : Type 0
+IntactIsDuplicate = (h : History) (t : ℕ) (d m buffer : Bytes) (r : Row)
+    → held (cleanLog h) t (sha1Of d) ≡ some r → r .bytes ≡ d → hit archive (h .changed) r ≡ false → Writes m buffer (logOf h) t d
+    → step Greeted m (logOf h) buffer ≡ granted (writeReply (tagOf m) (sha1Of d)) Greeted (logOf h) buffer
+
+-- "Blocks stored afterwards read as if nothing had happened": what a write was answered for reads back after any further requests
+abbrev pub StoredReadsBack : Type 0
+StoredReadsBack = (h : History) (t : ℕ) (d m buffer : Bytes) → small m ≡ true → Writes m buffer (logOf h) t d → step Greeted m (logOf h) buffer .number ≡ 0
+    → (past : List Session) (qs : List (Item archive)) → AllOfBytes archive qs → let log = afterwards (step Greeted m (logOf h) buffer .log) past qs in
+    (count : ℕ) (m′ buffer′ : Bytes) → length d ≤ count → Reads m′ buffer′ log t count (sha1Of d)
+    → step Greeted m′ log buffer′ ≡ granted (readReply (tagOf m′) d) Greeted log buffer′
+
+-- "a duplicate adds nothing": what a write was answered for is not stored again
+abbrev pub DuplicateAddsNothing : Type 0
+DuplicateAddsNothing = (h : History) (t : ℕ) (d m buffer : Bytes) → small m ≡ true → Writes m buffer (logOf h) t d → step Greeted m (logOf h) buffer .number ≡ 0
+    → (past : List Session) (qs : List (Item archive)) → AllOfBytes archive qs → let log = afterwards (step Greeted m (logOf h) buffer .log) past qs in
+    (m′ buffer′ : Bytes) → Writes m′ buffer′ log t d
+    → step Greeted m′ log buffer′ ≡ granted (writeReply (tagOf m′) (sha1Of d)) Greeted log buffer′
+
+-- what is read is what an intact row holds: "never zeros"
+abbrev pub AnswersAreStored : Type 0
+AnswersAreStored = (h : History) (t count : ℕ) (s m buffer : Bytes) → Reads m buffer (logOf h) t count s → s ≢ zeroScore → step Greeted m (logOf h) buffer .number ≡ 0
+    → (r : Row) × List·Memᴰ r (intact archive (ledgerOf h)) × (r .kind ≡ t) × (r .score ≡ s)
+    × (step Greeted m (logOf h) buffer ≡ granted (readReply (tagOf m) (r .bytes)) Greeted (logOf h) buffer)
+
+-- "never 11 .. while a sector is changed"
+abbrev pub NeverNotHeld : Type 0
+NeverNotHeld = (h : History) (s : Session) (m buffer : Bytes) (k : ℕ) → small m ≡ true → has k (h .changed) ≡ true → step s m (logOf h) buffer .number ≢ 11
+
+-- a block that lost a sector and has no other intact row, or was never stored, is "not known until a block of that score and type is stored": a refused
+-- write does not end it
+abbrev pub NotKnownUntilStored : Type 0
+NotKnownUntilStored = (h : History) (t count : ℕ) (s m buffer : Bytes) (k : ℕ) → s ≢ zeroScore → has k (h .changed) ≡ true
+    → NoneIntact t s (toldLedger h) → NoneStored t s (atDamage h) (h .later) → Reads m buffer (logOf h) t count s
+    → step Greeted m (logOf h) buffer ≡ refused NotKnown (tagOf m) Greeted (logOf h) buffer
+
+-- so is what look-up found before the damage, if that changed one of its sectors
+abbrev pub DamagedNotKnown : Type 0
+DamagedNotKnown = (h : History) (t count : ℕ) (s m buffer : Bytes) (r : Row) → s ≢ zeroScore
+    → held (cleanLog h) t s ≡ some r → hit archive (h .changed) r ≡ true → NoneStored t s (atDamage h) (h .later) → Reads m buffer (logOf h) t count s
+    → step Greeted m (logOf h) buffer ≡ refused NotKnown (tagOf m) Greeted (logOf h) buffer
+
+-- and what no request of the history stored, while any sector is changed
+abbrev pub NeverStoredNotKnown : Type 0
+NeverStoredNotKnown = (h : History) (t count : ℕ) (s m buffer : Bytes) (k : ℕ) → s ≢ zeroScore → has k (h .changed) ≡ true
+    → held (cleanLog h) t s ≡ none → NoneStored t s (atDamage h) (h .later) → Reads m buffer (logOf h) t count s
+    → step Greeted m (logOf h) buffer ≡ refused NotKnown (tagOf m) Greeted (logOf h) buffer
+
+-- ---- there is something to speak of
+
+-- a history whose damage changed a sector
+abbrev pub DamageCanBe : Type 0
+DamageCanBe = (h : History) × (k : ℕ) × (has k (h .changed) ≡ true)
+
+-- demand 2's histories are among them: any list of requests on a blank log, and no damage
+abbrev pub DamageMayBeNone : Type 0
+DamageMayBeNone = (n : ℕ) (qs : List (Item archive)) → AllOfBytes archive qs
+    → (h : History) × (h .changed ≡ []) × (logOf h ≡ first-log archive n qs .log) × (ledgerOf h .rows ≡ first-books archive n qs .ledger .rows)

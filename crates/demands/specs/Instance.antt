@@ -14,10 +14,10 @@ use Rattle.archive.specs.Step.{step}
 use Rattle.archive.specs.declared.Session.{Session}
 use Rattle.archive.specs.declared.Session.the-variants.{Fresh}
 use Rattle.ledger.specs.Archive.{Archive, Seen}
-use Rattle.demands.specs.Ledger.{Item, Answer, tell}
+use Rattle.demands.specs.Ledger.{Asked, Answer, tell}
 
 -- the step of the archive, which the contract of the request call equals, as it is seen: the answer, the session, the log
-abbrev pub served : Bytes → Session → Item → Seen Answer Session Bytes
+abbrev pub served : Bytes → Session → Asked → Seen Answer Session Bytes
 served log s q =
     let o = step s (q .message) log (q .buffer) in
     record { answer = record { number = o .number; buffer = o .reply }; session = o .session; log = o .log }
@@ -44,7 +44,7 @@ archive = record {
   owned = λ r. not (same (r .score) zeroScore);
   sound = sound;
   written = written;
-  Request = Item;
+  Request = Asked;
   Answer = Answer;
   Session = Session;
   OfBytes = λ q. small (q .message) ≡ true;

@@ -23,11 +23,11 @@ use Rattle.log.specs.LookUp.{logAllowed}
 use Rattle.archive.specs.Step.{replyRoom, version}
 use Rattle.archive.specs.declared.Session.{Session}
 use Rattle.archive.specs.declared.Session.the-variants.{Fresh, Greeted, Closed as Shut}
-use Rattle.ledger.specs.Archive.{Outcome, on}
+use Rattle.ledger.specs.Archive.{Ruling, on}
 use Rattle.ledger.specs.Ledger.{intactRows, rowsEnd, changedEnd}
 
 -- "a message, the reply buffer" lent with it
-pub record Item : Type 0 where
+pub record Asked : Type 0 where
   pub message : Bytes
   pub buffer : Bytes
 
@@ -59,17 +59,17 @@ pub data Decision : Type 0 where
   close : Decision
 
 -- "a refusal ... has its outcome from the table and adds no row"
-abbrev pub outcome : Session → Bytes → Bytes → Decision → Outcome Answer Session Row
+abbrev pub outcome : Session → Bytes → Bytes → Decision → Ruling Answer Session Row
 outcome s m buffer (silence w) = record { answer = record { number = numberOf w; buffer = buffer }; session = s; adds = none }
 outcome s m buffer (refusal w) = record { answer = record { number = numberOf w; buffer = answered buffer (errorReply (tagOf m) w) }; session = s; adds = none }
 outcome s m buffer (reply b s′ a) = record { answer = record { number = 0; buffer = answered buffer b }; session = s′; adds = a }
 outcome s m buffer close = record { answer = record { number = 0; buffer = buffer }; session = Shut; adds = none }
 
--- "session closed"
-abbrev pub isShut : Session → Bool
-isShut Fresh = false
-isShut Greeted = false
-isShut Shut = true
+-- by the session: "session closed", or open and whether a hello was accepted in it
+abbrev pub bySession : Session → Decision → (Bool → Decision) → Decision
+bySession Shut closed f = closed
+bySession Fresh closed f = f false
+bySession Greeted closed f = f true
 
 -- intact: the intact rows; end: "one past the last sector covered or changed, else 0"; size: the log's length
 module _ (intact : List Row) (end size : ℕ) where
@@ -96,41 +96,36 @@ module _ (intact : List Row) (end size : ℕ) where
       (on (firstRow t (sha1Of d) intact) (newRow t d tag)
       (λ r. cond (same (r .bytes) d) (reply (writeReply tag (sha1Of d)) Greeted none) (refusal Clash)))
 
-  -- tests 5 to 10 in their order, in an open session; what each request does
-  abbrev pub decide : Session → Request → Bytes → Decision
-  decide s Unknown m = refusal MessageType
-  decide s Ill m = refusal Body
-  decide s Goodbye m = close
-  decide Fresh Hello m = cond (same (versionOf m) version) (reply (helloReply (tagOf m)) Greeted none) (refusal BadHello)
-  decide Fresh Ping m = refusal NoHello
-  decide Fresh Sync m = refusal NoHello
-  decide Fresh (Read t c) m = refusal NoHello
-  decide Fresh (Write t) m = refusal NoHello
-  decide Greeted Hello m = refusal BadHello
-  decide Greeted Ping m = reply (pingReply (tagOf m)) Greeted none
-  decide Greeted Sync m = reply (syncReply (tagOf m)) Greeted none
-  decide Greeted (Read t c) m = cond (lawful t) (readRow t c (scoreOf m) (tagOf m)) (refusal BlockType)
-  decide Greeted (Write t) m =
+  -- tests 5 to 10 in their order, in an open session, by whether a hello was accepted; what each request does
+  abbrev pub decide : Bool → Request → Bytes → Decision
+  decide greeted Unknown m = refusal MessageType
+  decide greeted Ill m = refusal Body
+  decide greeted Goodbye m = close
+  decide false Hello m = cond (same (versionOf m) version) (reply (helloReply (tagOf m)) Greeted none) (refusal BadHello)
+  decide false Ping m = refusal NoHello
+  decide false Sync m = refusal NoHello
+  decide false (Read t c) m = refusal NoHello
+  decide false (Write t) m = refusal NoHello
+  decide true Hello m = refusal BadHello
+  decide true Ping m = reply (pingReply (tagOf m)) Greeted none
+  decide true Sync m = reply (syncReply (tagOf m)) Greeted none
+  decide true (Read t c) m = cond (lawful t) (readRow t c (scoreOf m) (tagOf m)) (refusal BlockType)
+  decide true (Write t) m =
       cond (lawful t) (cond (leb (length (dataOf m)) longest) (writeRow t (dataOf m) (tagOf m)) (refusal DataLength)) (refusal BlockType)
-  decide Shut Hello m = silence Closed
-  decide Shut Ping m = silence Closed
-  decide Shut Sync m = silence Closed
-  decide Shut (Read t c) m = silence Closed
-  decide Shut (Write t) m = silence Closed
 
   -- "Tests 1 to 10 come first": 1 to 4
-  unfoldable pub decision : Session → Item → Decision
+  unfoldable pub decision : Session → Asked → Decision
   decision s q =
       cond (framed (q .message))
       (cond (leb replyRoom (length (q .buffer)))
       (cond (logAllowed size)
-      (cond (isShut s) (silence Closed) (decide s (requestOf (q .message)) (q .message)))
+      (bySession s (silence Closed) (λ greeted. decide greeted (requestOf (q .message)) (q .message)))
       (silence LogLength))
       (silence Buffer))
       (silence Frame)
 
 -- "It keeps ... the changed sectors ... and rows": one request by the ledger, told the rows, the changed sectors and the log's length
-abbrev pub tell : List Row → List ℕ → ℕ → Session → Item → Outcome Answer Session Row
+abbrev pub tell : List Row → List ℕ → ℕ → Session → Asked → Ruling Answer Session Row
 tell rows changed size s q =
     let intact = intactRows (λ (r : Row). r .first) parts changed rows in
     let end = max (rowsEnd (λ (r : Row). r .first) parts rows) (changedEnd changed) in

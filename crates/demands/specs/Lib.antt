@@ -1,4 +1,6 @@
 pub mod Ledger
 pub mod Instance
 pub mod Demand3
+pub mod Requests
+pub mod Histories
 pub mod Corollaries

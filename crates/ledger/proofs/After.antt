@@ -1,32 +1,19 @@
 -- What holds after a list of requests on a blank log, after damage to what it left, and after a second list.
-use mathlib.Core.Path.{_≡_, refl, _∙_}
-use mathlib.Core.List.{List, [], _∷_, _++_}
-use mathlib.Core.Option.{Option, none, some}
+use mathlib.Core.Path.{_≡_, refl, ap, _∙_}
+use mathlib.Core.List.{List, []}
 use Prim.Native.Nat.{ℕ}
-use Rattle.ledger.specs.Archive.{Outcome, on, Archive}
-use Rattle.ledger.specs.Ledger.{Ledger, empty, told, enter, next}
+use Rattle.ledger.specs.Archive.{Archive}
+use Rattle.ledger.specs.Ledger.{Ledger, empty, told}
 use Rattle.ledger.specs.Laws.{Lawful}
-use Rattle.ledger.specs.History.{Item, given, logAfter, sessionsAfter, ledgerAfter, accountSessions, Damage, AllOfBytes}
+use Rattle.ledger.specs.Trace.{trace}
+use Rattle.ledger.specs.History.{Item, AllOfBytes, answer, recount, blank-log, blank-books, harmed, harmed-books, first-log, first-books, Damage}
 use Rattle.ledger.specs.Reflects.{Reflects}
+use Rattle.ledger.proofs.Trace.{Agree}
 use Rattle.ledger.proofs.Steps.{reflects-empty, reflects-told}
-use Rattle.ledger.proofs.Lists.{reflects-after, sessions-agree, extent-after}
+use Rattle.ledger.proofs.Lists.{Stands, begins, changed-after, follows}
 
 module _ (A : Archive) where
-  open Archive A using (Log, Extent, Row, Answer, Session, tell)
-
-  changed-next : (L : Ledger A) (o : Outcome Answer Session Row) → (next A L o) .changed ≡ L .changed
-  changed-next L o = go (o .adds)
-    where
-      go : (a : Option Row) → (on a L (λ r. enter A r L)) .changed ≡ L .changed
-      go none = refl
-      go (some r) = refl
-
-  -- requests leave the changed sectors as they were told
-  pub changed-after : (x : Extent) (L : Ledger A) (past : List Session) (qs : List (Item A)) → (ledgerAfter A x L past qs) .changed ≡ L .changed
-  changed-after x L past [] = refl
-  changed-after x L past (q ∷ qs) =
-      let o = tell (L .rows) (L .changed) x (given A past q) (q .request) in
-      changed-after x (next A L o) (past ++ (o .session ∷ [])) qs ∙ changed-next L o
+  open Archive A using (Log)
 
   told-none : (log : Log) (L : Ledger A) → L .changed ≡ [] → Reflects A log L → Reflects A log (told A [] L)
   told-none log L e R = rw (← e) R
@@ -35,33 +22,29 @@ module _ (A : Archive) (W : Lawful A) (x : A .Extent) (before : List (Item A)) (
   open Archive A using (Log, extent, void)
   open Lawful W using (extent-void)
 
-  pub reflects-before : Reflects A (logAfter A (void x) [] before) (ledgerAfter A x (empty A) [] before)
-  reflects-before = reflects-after A W x (void x) (extent-void x) (empty A) (reflects-empty A W x) [] before b
+  pub first-list : Agree (Stands A) (trace (answer A) (blank-log A x) before) (trace (recount A) (blank-books A x) before)
+  first-list = follows A W (blank-log A x) (blank-books A x) before b (begins A (void x) (empty A) [] (reflects-empty A W x))
 
-  pub sessions-before : sessionsAfter A (void x) [] before ≡ accountSessions A x (empty A) [] before
-  sessions-before = sessions-agree A W x (void x) (extent-void x) (empty A) (reflects-empty A W x) [] before b
+  pub extent-first : extent (first-log A x before .log) ≡ x
+  extent-first = first-list .left .size ∙ ap extent (changed-after A (blank-books A x) before b .1) ∙ extent-void x
 
-  pub extent-before : extent (logAfter A (void x) [] before) ≡ x
-  extent-before = extent-after A W x (void x) (extent-void x) (empty A) (reflects-empty A W x) [] before b
+  -- the log that the first list left reflects the ledger, and no sector of it is changed
+  pub reflects-clean : Reflects A (first-log A x before .log) (told A [] (first-books A x before .ledger))
+  reflects-clean = told-none A (first-log A x before .log) (first-books A x before .ledger) (changed-after A (blank-books A x) before b .0) (first-list .left .mirrors)
 
-  module _ (cs : List ℕ) (hurt : Log) (D : Damage A (logAfter A (void x) [] before) cs hurt) where
-    pub reflects-hurt : Reflects A hurt (told A cs (ledgerAfter A x (empty A) [] before))
-    reflects-hurt =
-        let L = ledgerAfter A x (empty A) [] before in
-        reflects-told A W (logAfter A (void x) [] before) L cs hurt
-        (told-none A (logAfter A (void x) [] before) L (changed-after A x (empty A) [] before) reflects-before) D
+  module _ (cs : List ℕ) (hurt : Log) (D : Damage A (first-log A x before .log) cs hurt) where
+    pub stands-hurt : Stands A (harmed A hurt (first-log A x before)) (harmed-books A cs hurt (first-books A x before))
+    stands-hurt = record {
+      mirrors = reflects-told A W (first-log A x before .log) (first-books A x before .ledger) cs hurt reflects-clean D;
+      since = refl;
+      size = refl;
+      sessions = first-list .left .sessions;
+    }
 
     pub extent-hurt : extent hurt ≡ x
-    extent-hurt = D .size ∙ extent-before
+    extent-hurt = D .size ∙ extent-first
 
     -- the second list, with the sessions of the first
-    module _ (after : List (Item A)) (c : AllOfBytes A after) where
-      pub reflects-second : Reflects A (logAfter A hurt (sessionsAfter A (void x) [] before) after)
-          (ledgerAfter A x (told A cs (ledgerAfter A x (empty A) [] before)) (accountSessions A x (empty A) [] before) after)
-      reflects-second = rw sessions-before
-          (reflects-after A W x hurt extent-hurt (told A cs (ledgerAfter A x (empty A) [] before)) reflects-hurt (accountSessions A x (empty A) [] before) after c)
-
-      pub sessions-second : sessionsAfter A hurt (sessionsAfter A (void x) [] before) after
-          ≡ accountSessions A x (told A cs (ledgerAfter A x (empty A) [] before)) (accountSessions A x (empty A) [] before) after
-      sessions-second = rw sessions-before
-          (sessions-agree A W x hurt extent-hurt (told A cs (ledgerAfter A x (empty A) [] before)) reflects-hurt (accountSessions A x (empty A) [] before) after c)
+    pub second-list : (later : List (Item A)) → AllOfBytes A later
+        → Agree (Stands A) (trace (answer A) (harmed A hurt (first-log A x before)) later) (trace (recount A) (harmed-books A cs hurt (first-books A x before)) later)
+    second-list later c = follows A W (harmed A hurt (first-log A x before)) (harmed-books A cs hurt (first-books A x before)) later c stands-hurt

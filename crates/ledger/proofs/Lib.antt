@@ -8,6 +8,7 @@ pub mod Cells
 pub mod Blocks
 pub mod Reflects
 pub mod Steps
+pub mod Trace
 pub mod Lists
 pub mod After
 pub mod Theorem

@@ -1,12 +1,14 @@
 -- A list of requests on a log that reflects a ledger: the archive's account is the ledger's, and the invariant holds after it.
-use mathlib.Core.Path.{_≡_, refl, ap₂, _∙_}
+use mathlib.Core.Path.{_≡_, refl, ap, ap₂, subst, _∙_}
 use mathlib.Core.List.{List, [], _∷_, _++_}
 use mathlib.Core.Option.{Option, none, some}
-use Rattle.ledger.specs.Archive.{Outcome, on, Archive}
-use Rattle.ledger.specs.Ledger.{Ledger, shown, next}
+use Rattle.ledger.specs.Archive.{Ruling, Seen, on, Archive}
+use Rattle.ledger.specs.Ledger.{Ledger, shown, enter, next}
 use Rattle.ledger.specs.Laws.{Lawful}
-use Rattle.ledger.specs.History.{Item, given, run, logAfter, sessionsAfter, overlaid, plus, account, ledgerAfter, accountSessions, AllOfBytes}
+use Rattle.ledger.specs.Trace.{trace}
+use Rattle.ledger.specs.History.{Item, AllOfBytes, given, Standing, answer, overlaid, plus, Books, recount}
 use Rattle.ledger.specs.Reflects.{Reflects}
+use Rattle.ledger.proofs.Trace.{trace-keeps, Agree, trace-agrees}
 use Rattle.ledger.proofs.Steps.{serve-tell, reflects-serve, extent-serve}
 
 module _ (A : Archive) where
@@ -16,7 +18,7 @@ module _ (A : Archive) where
   overlaid-last log [] r = refl
   overlaid-last log (s ∷ rows) r = overlaid-last (written log s) rows r
 
-  overlaid-shown : (start log : Log) (added : List Row) (o : Outcome Answer Session Row) → log ≡ overlaid A start added → (shown A log o) .log ≡ overlaid A start (plus A added o)
+  overlaid-shown : (start log : Log) (added : List Row) (o : Ruling Answer Session Row) → log ≡ overlaid A start added → (shown A log o) .log ≡ overlaid A start (plus A added o)
   overlaid-shown start log added o e = go (o .adds)
     where
       go : (a : Option Row) → on a log (written log) ≡ overlaid A start (on a added (λ r. added ++ (r ∷ [])))
@@ -24,61 +26,66 @@ module _ (A : Archive) where
       go (some r) = rw (overlaid-last start added r, e)
 
   -- what holds between two requests: the log reflects the ledger, and is the one that the list started on with the rows since written
-  record Stands (start : Log) (added : List Row) (log : Log) (L : Ledger A) : Type 0 where
-    mirrors : Reflects A log L
-    since : log ≡ overlaid A start added
-    size : extent log ≡ extent start
+  pub record Stands (s : Standing A) (b : Books A) : Type 0 where
+    pub mirrors : Reflects A (s .log) (b .ledger)
+    pub since : s .log ≡ overlaid A (b .start) (b .added)
+    pub size : extent (s .log) ≡ extent (b .start)
+    pub sessions : s .past ≡ b .past
 
-  -- what holds of a list of requests
-  record Follows (start : Log) (added : List Row) (log : Log) (L : Ledger A) (past : List Session) (qs : List (Item A)) : Type 0 where
-    seen : run A log past qs ≡ account A start added L past qs
-    mirrors : Reflects A (logAfter A log past qs) (ledgerAfter A (extent start) L past qs)
-    sessions : sessionsAfter A log past qs ≡ accountSessions A (extent start) L past qs
-    size : extent (logAfter A log past qs) ≡ extent start
+  pub begins : (log : Log) (L : Ledger A) (past : List Session) → Reflects A log L → Stands (record { log = log; past = past }) (record { start = log; added = []; ledger = L; past = past })
+  begins log L past R = record { mirrors = R; since = refl; size = refl; sessions = refl }
+
+  pub changed-next : (L : Ledger A) (o : Ruling Answer Session Row) → (next A L o) .changed ≡ L .changed
+  changed-next L o = go (o .adds)
+    where
+      go : (a : Option Row) → (on a L (λ r. enter A r L)) .changed ≡ L .changed
+      go none = refl
+      go (some r) = refl
+
+  -- requests leave the changed sectors as they were told, and the log that the list started on
+  pub changed-after : (b : Books A) (qs : List (Item A)) → AllOfBytes A qs → (trace (recount A) b qs .left .ledger .changed ≡ b .ledger .changed) × (trace (recount A) b qs .left .start ≡ b .start)
+  changed-after b qs ok =
+      trace-keeps (recount A) (λ x. (x .ledger .changed ≡ b .ledger .changed) × (x .start ≡ b .start)) (λ q. OfBytes (q .request))
+      (λ x q _ e. (changed-next (x .ledger) (tell (x .ledger .rows) (x .ledger .changed) (extent (x .start)) (given A (x .past) q) (q .request)) ∙ e .0, e .1)) b qs ok (refl, refl)
 
 module _ (A : Archive) (W : Lawful A) where
   open Archive A using (Log, Extent, extent, Row, Request, Answer, Session, OfBytes, serve, tell)
 
-  module _ (start : Log) (added : List Row) (log : Log) (L : Ledger A) (S : Stands A start added log L) (s : Session) (q : Request) (b : OfBytes q) where
-    told-so : serve log s q ≡ shown A log (tell (L .rows) (L .changed) (extent start) s q)
-    told-so = rw (← S .size) (serve-tell A W log L (S .mirrors) s q b)
+  -- one request: seen alike, and what holds goes on
+  module _ (s : Standing A) (b : Books A) (q : Item A) (ok : OfBytes (q .request)) (S : Stands A s b) where
+    ruling : Ruling Answer Session Row
+    ruling = tell (b .ledger .rows) (b .ledger .changed) (extent (b .start)) (given A (b .past) q) (q .request)
 
-    goes-on : Stands A start (plus A added (tell (L .rows) (L .changed) (extent start) s q)) ((serve log s q) .log) (next A L (tell (L .rows) (L .changed) (extent start) s q))
+    own-ruling : Extent → List Session → Ruling Answer Session Row
+    own-ruling x past = tell (b .ledger .rows) (b .ledger .changed) x (given A past q) (q .request)
+
+    same-ruling : own-ruling (extent (s .log)) (s .past) ≡ ruling
+    unfolding ruling own-ruling
+    same-ruling = ap₂ own-ruling (S .size) (S .sessions)
+
+    told-so : serve (s .log) (given A (s .past) q) (q .request) ≡ shown A (s .log) ruling
+    unfolding own-ruling
+    told-so =
+        serve-tell A W (s .log) (b .ledger) (S .mirrors) (given A (s .past) q) (q .request) ok
+        ∙ ap (shown A (s .log)) same-ruling
+
+    same-log : serve (s .log) (given A (s .past) q) (q .request) .log ≡ overlaid A (b .start) (plus A (b .added) ruling)
+    same-log = ap (λ (o : Seen Answer Session Log). o .log) told-so ∙ overlaid-shown A (b .start) (s .log) (b .added) ruling (S .since)
+
+    pub seen-alike : answer A s q .shown ≡ recount A b q .shown
+    unfolding ruling
+    seen-alike = told-so ∙ (λ i. record { answer = ruling .answer; session = ruling .session; log = overlaid-shown A (b .start) (s .log) (b .added) ruling (S .since) i })
+
+    pub goes-on : Stands A (answer A s q .state) (recount A b q .state)
+    unfolding ruling own-ruling
     goes-on = record {
-      mirrors = rw (← S .size) (reflects-serve A W log L (S .mirrors) s q b);
-      since = rw told-so (overlaid-shown A start log added (tell (L .rows) (L .changed) (extent start) s q) (S .since));
-      size = extent-serve A W log L (S .mirrors) s q b ∙ S .size;
+      mirrors = subst (λ (o : Ruling Answer Session Row). Reflects A (serve (s .log) (given A (s .past) q) (q .request) .log) (next A (b .ledger) o)) same-ruling
+          (reflects-serve A W (s .log) (b .ledger) (S .mirrors) (given A (s .past) q) (q .request) ok);
+      since = same-log;
+      size = extent-serve A W (s .log) (b .ledger) (S .mirrors) (given A (s .past) q) (q .request) ok ∙ S .size;
+      sessions = ap₂ (λ (p : List Session) (x : Session). p ++ (x ∷ [])) (S .sessions) (ap (λ (o : Seen Answer Session Log). o .session) told-so);
     }
 
-  follows : (start : Log) (added : List Row) (log : Log) (L : Ledger A) (past : List Session) (qs : List (Item A)) → Stands A start added log L → AllOfBytes A qs → Follows A start added log L past qs
-  follows start added log L past [] S b = record { seen = refl; mirrors = S .mirrors; sessions = refl; size = S .size }
-  follows start added log L past (q ∷ qs) S b =
-      let s = given A past q in
-      let t = tell (L .rows) (L .changed) (extent start) s (q .request) in
-      let e : serve log s (q .request) ≡ shown A log t = told-so start added log L S s (q .request) (b .0) in
-      let n : Stands A start (plus A added t) ((shown A log t) .log) (next A L t) = rw e at (goes-on start added log L S s (q .request) (b .0)) in
-      let F = follows start (plus A added t) ((shown A log t) .log) (next A L t) (past ++ (t .session ∷ [])) qs n (b .1) in
-      record {
-        seen = rw e (ap₂ _∷_ (λ i. record { answer = t .answer; session = t .session; log = n .since i }) (F .seen));
-        mirrors = rw e (F .mirrors);
-        sessions = rw e (F .sessions);
-        size = rw e (F .size);
-      }
-
-  begins : (log : Log) (L : Ledger A) → Reflects A log L → Stands A log [] log L
-  begins log L R = record { mirrors = R; since = refl; size = refl }
-
-  -- the archive's account of a list is the ledger's
-  pub run-account : (log : Log) (L : Ledger A) → Reflects A log L → (past : List Session) (qs : List (Item A)) → AllOfBytes A qs → run A log past qs ≡ account A log [] L past qs
-  run-account log L R past qs b = follows log [] log L past qs (begins log L R) b .seen
-
-  -- the ledger is told the extent x of the log
-  module _ (x : Extent) (log : Log) (size : extent log ≡ x) (L : Ledger A) (R : Reflects A log L) (past : List Session) (qs : List (Item A)) (b : AllOfBytes A qs) where
-    pub reflects-after : Reflects A (logAfter A log past qs) (ledgerAfter A x L past qs)
-    reflects-after = rw (← size) (follows log [] log L past qs (begins log L R) b .mirrors)
-
-    pub sessions-agree : sessionsAfter A log past qs ≡ accountSessions A x L past qs
-    sessions-agree = rw (← size) (follows log [] log L past qs (begins log L R) b .sessions)
-
-    pub extent-after : extent (logAfter A log past qs) ≡ x
-    extent-after = follows log [] log L past qs (begins log L R) b .size ∙ size
+  -- a list
+  pub follows : (s : Standing A) (b : Books A) (qs : List (Item A)) → AllOfBytes A qs → Stands A s b → Agree (Stands A) (trace (answer A) s qs) (trace (recount A) b qs)
+  follows = trace-agrees (answer A) (recount A) (Stands A) (λ q. OfBytes (q .request)) (λ s b q ok S. (seen-alike s b q ok S, goes-on s b q ok S))

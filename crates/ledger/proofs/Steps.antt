@@ -6,7 +6,7 @@ use mathlib.Core.Option.{Option, none, some}
 use mathlib.Core.Logic.{_⊎_, inl, inr}
 use Prim.Native.Nat.{ℕ, _+_, _-_, _≤_}
 use native.Mathlib.Omega.{arith}
-use Rattle.ledger.specs.Archive.{Outcome, on, Archive}
+use Rattle.ledger.specs.Archive.{Ruling, on, Archive}
 use Rattle.ledger.specs.Ledger.{has, Ledger, empty, told, enter, covers, end, shown, next}
 use Rattle.ledger.specs.Laws.{Lawful}
 use Rattle.ledger.specs.History.{Damage}
@@ -75,7 +75,7 @@ module _ (A : Archive) (W : Lawful A) where
   abbrev pub FitsAt : ℕ → Extent → Option Row → Type 0
   FitsAt e x a = (r : Row) → a ≡ some r → (valid r ≡ true) × (e ≤ first r) × (first r + parts r ≤ sectors x) × (owned r ≡ true)
 
-  pub reflects-shown : (log : Log) (L : Ledger A) (o : Outcome Answer Session Row) → Reflects A log L → FitsAt (end A L) (extent log) (o .adds)
+  pub reflects-shown : (log : Log) (L : Ledger A) (o : Ruling Answer Session Row) → Reflects A log L → FitsAt (end A L) (extent log) (o .adds)
       → Reflects A ((shown A log o) .log) (next A L o)
   reflects-shown log L o R f = go (o .adds) f
     where
@@ -83,7 +83,7 @@ module _ (A : Archive) (W : Lawful A) where
       go none f = R
       go (some r) f = let p = f r refl in reflects-enter log L r R (p .0) (p .1) (p .2) (p .3)
 
-  pub extent-shown : (log : Log) (e : ℕ) (o : Outcome Answer Session Row) → FitsAt e (extent log) (o .adds) → extent ((shown A log o) .log) ≡ extent log
+  pub extent-shown : (log : Log) (e : ℕ) (o : Ruling Answer Session Row) → FitsAt e (extent log) (o .adds) → extent ((shown A log o) .log) ≡ extent log
   extent-shown log e o f = go (o .adds) f
     where
       go : (a : Option Row) → FitsAt e (extent log) a → extent (on a log (written log)) ≡ extent log

@@ -13,7 +13,7 @@ pub record Seen (Answer Session Log : Type 0) : Type 0 where
   pub log : Log
 
 -- what the ledger says of a request: the answer, the session after it, and the row that it adds
-pub record Outcome (Answer Session Row : Type 0) : Type 0 where
+pub record Ruling (Answer Session Row : Type 0) : Type 0 where
   pub answer : Answer
   pub session : Session
   pub adds : Option Row
@@ -62,4 +62,4 @@ pub record Archive : Type 1 where
   -- one request as the archive answers it, from the bytes of the log
   pub serve : Log → Session → Request → Seen Answer Session Log
   -- one request as the ledger answers it, from its rows, the changed sectors and the log's extent
-  pub tell : List Row → List ℕ → Extent → Session → Request → Outcome Answer Session Row
+  pub tell : List Row → List ℕ → Extent → Session → Request → Ruling Answer Session Row

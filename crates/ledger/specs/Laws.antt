@@ -1,11 +1,11 @@
 -- The laws of an archive on which the ledger's theorem rests. It rests on nothing else of the format or of the messages.
 use mathlib.Core.Path.{_≡_}
-use mathlib.Core.Bool.{Bool, true, false, cond}
-use mathlib.Core.List.{List, List·Memᴰ}
+use mathlib.Core.Bool.{true, false, cond}
+use mathlib.Core.List.{List·Memᴰ}
 use mathlib.Core.Logic.{_≢_}
-use mathlib.Core.Option.{Option, none, some}
+use mathlib.Core.Option.{some}
 use Prim.Native.Nat.{ℕ, _+_, _-_, _≤_, _<_}
-use Rattle.ledger.specs.Archive.{Outcome, within, on, Archive}
+use Rattle.ledger.specs.Archive.{within, Archive}
 use Rattle.ledger.specs.Ledger.{Ledger, intact, end, blocks, shown}
 
 module _ (A : Archive) where

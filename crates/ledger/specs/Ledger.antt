@@ -1,9 +1,9 @@
 -- The ledger of demands 2 and 3, over the rows of any archive: which rows are intact, and where the end is.
-use mathlib.Core.Bool.{Bool, true, false, cond, _||_}
+use mathlib.Core.Bool.{Bool, false, cond, _||_}
 use mathlib.Core.List.{List, [], _∷_, _++_}
 use Prim.Native.Nat.{ℕ, zero, suc, _+_, max}
 use lib.Dec.{eqb}
-use Rattle.ledger.specs.Archive.{Outcome, Seen, within, on, Archive}
+use Rattle.ledger.specs.Archive.{Ruling, Seen, within, on, Archive}
 
 -- n is one of the numbers
 abbrev pub has : ℕ → List ℕ → Bool
@@ -84,8 +84,8 @@ module _ (A : Archive) where
   blocks log = blocksFrom log (sectors (extent log)) 0
 
   -- the ledger's outcome as it is seen on a log: the row that it adds is written
-  abbrev pub shown : Log → Outcome Answer Session Row → Seen Answer Session Log
+  abbrev pub shown : Log → Ruling Answer Session Row → Seen Answer Session Log
   shown log o = record { answer = o .answer; session = o .session; log = on (o .adds) log (written log) }
 
-  abbrev pub next : Ledger → Outcome Answer Session Row → Ledger
+  abbrev pub next : Ledger → Ruling Answer Session Row → Ledger
   next L o = on (o .adds) L (λ r. enter r L)

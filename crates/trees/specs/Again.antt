@@ -2,26 +2,19 @@
 use mathlib.Core.Path.{_≡_}
 use mathlib.Core.Bool.{true}
 use mathlib.Core.List.{List}
-use mathlib.Core.Option.{some}
 use Prim.Native.Nat.{ℕ}
-use lib.ListN.{length}
 use Rattle.buffer.specs.Bytes.{Bytes}
 use Rattle.word.specs.Number.{small}
-use Rattle.block.specs.Block.{Row}
-use Rattle.log.specs.LookUp.{held}
 use Rattle.archive.specs.Step.{step}
 use Rattle.archive.specs.declared.Session.{Session}
-use Rattle.ledger.specs.History.{Item, logAfter, AllOfBytes}
+use Rattle.ledger.specs.History.{Item, AllOfBytes}
 use Rattle.demands.specs.Instance.{archive}
+use Rattle.demands.specs.Histories.{Keeps, afterwards}
 use Rattle.file.specs.File.{located}
 use Rattle.file.specs.Path.{Answers}
 use Rattle.file.specs.Bytes.{runBytes}
 use Rattle.walk.specs.Walk.{walked, walkOf}
 use Rattle.walk.specs.declared.End.the-variants.{Done}
-
--- a later log is as long and holds all that look-up found
-abbrev pub Keeps : Bytes → Bytes → Type 0
-Keeps log later = (length later ≡ length log) × ((t : ℕ) (s : Bytes) (r : Row) → held log t s ≡ some r → held later t s ≡ some r)
 
 -- a file that answers at an offset answers there alike later: the same run, by its place and its bytes
 abbrev pub ReadsAlike : Bytes → Bytes → Type 0
@@ -45,4 +38,4 @@ abbrev pub AfterOne : Type 0
 AfterOne = (s : Session) (m log buffer : Bytes) → small m ≡ true → Alike log (step s m log buffer .log)
 
 abbrev pub AfterAny : Type 0
-AfterAny = (log : Bytes) (past : List Session) (qs : List (Item archive)) → AllOfBytes archive qs → Alike log (logAfter archive log past qs)
+AfterAny = (log : Bytes) (past : List Session) (qs : List (Item archive)) → AllOfBytes archive qs → Alike log (afterwards log past qs)

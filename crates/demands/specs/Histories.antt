@@ -1,0 +1,69 @@
+-- Whole histories of demand 3: a blank log, a list of requests, damage, another list. One of demand 2 is one whose damage changed no sector.
+use mathlib.Core.Path.{_≡_}
+use mathlib.Core.Bool.{true}
+use mathlib.Core.List.{List, [], _∷_, List·Memᴰ}
+use mathlib.Core.Logic.{_≢_}
+use mathlib.Core.Option.{some}
+use Prim.Native.Nat.{ℕ}
+use lib.ListN.{length}
+use Rattle.buffer.specs.Bytes.{Bytes}
+use Rattle.sha1.specs.Sha1.{sha1Of}
+use Rattle.message.specs.Message.{dataOf, requestOf}
+use Rattle.message.specs.declared.Request.the-variants.{Write}
+use Rattle.block.specs.Block.{Row}
+use Rattle.log.specs.LookUp.{held}
+use Rattle.archive.specs.declared.Session.{Session}
+use Rattle.ledger.specs.Ledger.{Ledger, told, hit}
+use Rattle.ledger.specs.Trace.{trace}
+use Rattle.ledger.specs.History.{Item, AllOfBytes, Damage, Standing, answer, harmed, first-log, first-books, second-log, second-books}
+use Rattle.demands.specs.Instance.{archive}
+
+pub record History : Type 0 where
+  -- the blank log's length in bytes, and the list of requests on it
+  pub size : ℕ
+  pub before : List (Item archive)
+  pub before-of-bytes : AllOfBytes archive before
+  -- the sectors that the damage changed, and the log that it left
+  pub changed : List ℕ
+  pub hurt : Bytes
+  pub damage : Damage archive (first-log archive size before .log) changed hurt
+  -- the list of requests after it
+  pub later : List (Item archive)
+  pub later-of-bytes : AllOfBytes archive later
+
+module _ (h : History) where
+  -- the log that the damage fell on, the archive right after it, and the log when the history ends
+  abbrev pub cleanLog : Bytes
+  cleanLog = first-log archive (h .size) (h .before) .log
+
+  abbrev pub atDamage : Standing archive
+  atDamage = harmed archive (h .hurt) (first-log archive (h .size) (h .before))
+
+  abbrev pub logOf : Bytes
+  logOf = second-log archive (h .size) (h .before) (h .hurt) (h .later) .log
+
+  -- the ledger when it has been told of the damage, and when the history ends
+  abbrev pub toldLedger : Ledger archive
+  toldLedger = told archive (h .changed) (first-books archive (h .size) (h .before) .ledger)
+
+  abbrev pub ledgerOf : Ledger archive
+  ledgerOf = second-books archive (h .size) (h .before) (h .changed) (h .hurt) (h .later) .ledger
+
+-- the log after further requests, which may go on from sessions `past`
+abbrev pub afterwards : Bytes → List Session → List (Item archive) → Bytes
+afterwards log past qs = trace (answer archive) (record { log = log; past = past }) qs .left .log
+
+-- a later log is as long, and holds all that look-up found, at the same place
+abbrev pub Keeps : Bytes → Bytes → Type 0
+Keeps log later = (length later ≡ length log) × ((t : ℕ) (s : Bytes) (r : Row) → held log t s ≡ some r → held later t s ≡ some r)
+
+-- each row of type t and score s has a changed sector: a block that lost one and has no other intact row, or one that was never stored
+abbrev pub NoneIntact : ℕ → Bytes → Ledger archive → Type 0
+NoneIntact t s L = (r : Row) → List·Memᴰ r (L .rows) → r .kind ≡ t → r .score ≡ s → hit archive (L .changed) r ≡ true
+
+-- no request of the list stores a block of that type and score: a write of it may be tried, and is refused
+abbrev pub NoneStored : ℕ → Bytes → Standing archive → List (Item archive) → Type 0
+NoneStored t s S [] = Unit {0}
+NoneStored t s S (q ∷ qs) =
+    let o = answer archive S q in
+    (requestOf (q .request .message) ≡ Write t → sha1Of (dataOf (q .request .message)) ≡ s → o .shown .answer .number ≢ 0) × NoneStored t s (o .state) qs
