@@ -7,7 +7,7 @@ ghost use lib.ListN.{length};
 ghost use Rattle.kind.specs.Kind.{wireType};
 ghost use Rattle.cut.specs.Cut.{cutOf};
 ghost use Rattle.cut.specs.Pad.{padOf};
-ghost use Rattle.boundary.specs.Blocks.{typeResult, cutResult, padNumber, padded, padResult};
+ghost use Rattle.results.specs.Blocks.{typeResult, cutResult, padNumber, padded, padResult};
 
 // The block type of a number of the enumeration: 256 times the type, or the number of the refusal.
 #[no_mangle]

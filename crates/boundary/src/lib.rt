@@ -9,7 +9,7 @@ ghost use mathlib.Core.Path.{_≡_};
 ghost use Rattle.crc32.specs.Crc32.{crc32Of};
 ghost use Rattle.archive.specs.Step.{step};
 ghost use Rattle.boundary.specs.Digest.{digestNumber, digestBuffer};
-ghost use Rattle.boundary.specs.Serve.{sessionOf, sessionNumber, served, outcome};
+ghost use Rattle.results.specs.Serve.{sessionOf, sessionNumber, served, outcome};
 
 // The CRC-32 of s.
 #[no_mangle]

@@ -6,7 +6,7 @@ use sector::SectorNumber;
 ghost use mathlib.Core.Path.{_≡_};
 ghost use Prim.Native.Nat.{_≤_};
 ghost use Rattle.report.specs.Report.{reportOf};
-ghost use Rattle.boundary.specs.Survey.{textLength, reportNumber, reported, reportResult, soundResult};
+ghost use Rattle.results.specs.Survey.{textLength, reportNumber, reported, reportResult, soundResult};
 
 // The result of a report: 256 times the length of its text, or the number of the refusal.
 fn report_number(told: Reported) -> u32

@@ -3,7 +3,7 @@ use file::Located;
 ghost use mathlib.Core.Path.{_≡_};
 ghost use Rattle.file.specs.File.{located};
 ghost use Rattle.walk.specs.Walk.{walkOf};
-ghost use Rattle.boundary.specs.Tree.{packed, walkResult};
+ghost use Rattle.results.specs.Tree.{packed, walkResult};
 
 // Where the bytes of a file at an offset lie, packed into one number: above the number of the refusal, which takes 8 bits, a bit
 // that is 1 where they are the page's, then the run's length in 16 bits, then the byte of the log where it starts.

@@ -4,7 +4,7 @@ use native.Mathlib.Omega.{arith}
 use Rattle.buffer.specs.Bytes.{Bytes}
 use Rattle.archive.specs.Step.{step}
 use Rattle.archive.specs.declared.Session.{Session}
-use Rattle.boundary.proofs.ServeLaws.{is-fresh, is-greeted, is-closed, session-most, served-so}
+use Rattle.results.proofs.ServeLaws.{is-fresh, is-greeted, is-closed, session-most, served-so}
 use borrow.Author.Needs.{needs}
 use Rattle.boundary.proofs.skywimple_serve.Statement.{statement}
 use Rattle.boundary.proofs.skywimple_serve.Tie as tie

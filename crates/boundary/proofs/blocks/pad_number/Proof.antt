@@ -1,6 +1,6 @@
 -- `boundary::blocks::pad_number` meets its contract, case by case.
 use mathlib.Core.Path.{sym, ap, _∙_}
-use Rattle.boundary.specs.Blocks.{padNumber}
+use Rattle.results.specs.Blocks.{padNumber}
 use borrow.Author.Needs.{needs}
 use Rattle.boundary.proofs.blocks.pad_number.Statement.{statement}
 use Rattle.boundary.proofs.blocks.pad_number.Tie as tie

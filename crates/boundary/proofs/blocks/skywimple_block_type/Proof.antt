@@ -1,6 +1,6 @@
 -- `boundary::blocks::skywimple_block_type` meets its contract, case by case.
 use mathlib.Core.Path.{sym, ap, _∙_}
-use Rattle.boundary.specs.Blocks.{typeResult}
+use Rattle.results.specs.Blocks.{typeResult}
 use borrow.Author.Needs.{needs}
 use Rattle.boundary.proofs.blocks.skywimple_block_type.Statement.{statement}
 use Rattle.boundary.proofs.blocks.skywimple_block_type.Tie as tie

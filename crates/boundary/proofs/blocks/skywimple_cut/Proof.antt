@@ -2,7 +2,7 @@
 use mathlib.Core.Path.{sym, ap, _∙_}
 use Prim.Native.Nat.{ℕ, _+_}
 use lib.ListN.{length}
-use Rattle.boundary.specs.Blocks.{cutResult}
+use Rattle.results.specs.Blocks.{cutResult}
 use borrow.Author.Needs.{needs}
 use Rattle.boundary.proofs.blocks.skywimple_cut.Statement.{statement}
 use Rattle.boundary.proofs.blocks.skywimple_cut.Tie as tie

@@ -1,5 +1,5 @@
 -- `boundary::blocks::skywimple_pad` meets its contract.
-use Rattle.boundary.proofs.BlockLaws.{padded-so}
+use Rattle.results.proofs.BlockLaws.{padded-so}
 use borrow.Author.Needs.{needs}
 use Rattle.boundary.proofs.blocks.skywimple_pad.Statement.{statement}
 use Rattle.boundary.proofs.blocks.skywimple_pad.Tie as tie

@@ -1,7 +1,7 @@
 -- `boundary::survey::report_number` meets its contract, case by case.
 use mathlib.Core.Path.{sym, ap, _∙_}
 use native.Mathlib.Omega.{arith}
-use Rattle.boundary.specs.Survey.{reportNumber, textLength}
+use Rattle.results.specs.Survey.{reportNumber, textLength}
 use borrow.Author.Needs.{needs}
 use Rattle.boundary.proofs.survey.report_number.Statement.{statement}
 use Rattle.boundary.proofs.survey.report_number.Tie as tie

@@ -1,5 +1,5 @@
 -- `boundary::survey::skywimple_report` meets its contract.
-use Rattle.boundary.proofs.SurveyLaws.{report-short, reported-so}
+use Rattle.results.proofs.SurveyLaws.{report-short, reported-so}
 use borrow.Author.Needs.{needs}
 use Rattle.boundary.proofs.survey.skywimple_report.Statement.{statement}
 use Rattle.boundary.proofs.survey.skywimple_report.Tie as tie

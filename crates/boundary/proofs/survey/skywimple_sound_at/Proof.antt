@@ -2,7 +2,7 @@
 use native.Mathlib.Omega.{arith}
 use borrow.Author.Tests.{not-true, not-false}
 use Rattle.lookup.proofs.Laws.{allowed-sectors}
-use Rattle.boundary.proofs.SurveyLaws.{sound-short, sound-barred, sound-past, sound-sized}
+use Rattle.results.proofs.SurveyLaws.{sound-short, sound-barred, sound-past, sound-sized}
 use borrow.Author.Needs.{needs}
 use Rattle.boundary.proofs.survey.skywimple_sound_at.Statement.{statement}
 use Rattle.boundary.proofs.survey.skywimple_sound_at.Tie as tie

@@ -1,8 +1,8 @@
 -- `boundary::tree::skywimple_locate` meets its contract, case by case; the sums fit since what is located is small.
 use mathlib.Core.Path.{sym, ap, _∙_}
 use native.Mathlib.Omega.{arith}
-use Rattle.boundary.specs.Tree.{packed}
-use Rattle.boundary.proofs.Bounds.{stored-within, zeros-within}
+use Rattle.results.specs.Tree.{packed}
+use Rattle.results.proofs.Bounds.{stored-within, zeros-within}
 use borrow.Author.Needs.{needs}
 use Rattle.boundary.proofs.tree.skywimple_locate.Statement.{statement}
 use Rattle.boundary.proofs.tree.skywimple_locate.Tie as tie

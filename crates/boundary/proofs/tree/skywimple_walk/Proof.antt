@@ -1,6 +1,6 @@
 -- `boundary::tree::skywimple_walk` meets its contract; the sum fits since the visits are few.
 use native.Mathlib.Omega.{arith}
-use Rattle.boundary.proofs.Visits.{visits-few, walked-so}
+use Rattle.results.proofs.Visits.{visits-few, walked-so}
 use borrow.Author.Needs.{needs}
 use Rattle.boundary.proofs.tree.skywimple_walk.Statement.{statement}
 use Rattle.boundary.proofs.tree.skywimple_walk.Tie as tie

@@ -16,7 +16,7 @@ use Rattle.walk.specs.declared.Walked.{Walked}
 use Rattle.walk.specs.declared.End.{End}
 use Rattle.walk.specs.declared.End.the-variants.{Done, Refused}
 use Rattle.walk.specs.Walk.{endNumber, after, visiting, padded, piece, inOrder, typeAt, countAt, nestOf, entriesOf, judged, visitDirectory, visitEntry, walkTop, walkRoot, walkOf}
-use Rattle.boundary.specs.Tree.{walkResult}
+use Rattle.results.specs.Tree.{walkResult}
 
 abbrev Within : ℕ → Walked → Type 0
 Within left w = w .visits ≤ left

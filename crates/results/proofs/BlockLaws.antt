@@ -10,8 +10,8 @@ use Rattle.cut.specs.declared.Padded.{Padded}
 use Rattle.cut.specs.Cut.{cutOf}
 use Rattle.cut.specs.Pad.{AfterPad, after}
 use Rattle.cut.proofs.CutAndPad.{cut-never-longer}
-use Rattle.boundary.specs.Blocks.{cutResult, padNumber, padded, padResult}
-use Rattle.boundary.proofs.Numbers.{number-bounds}
+use Rattle.results.specs.Blocks.{cutResult, padNumber, padded, padResult}
+use Rattle.results.proofs.Numbers.{number-bounds}
 
 -- a caller tells the two results of cutting apart: a length is at most the block's, a refusal is more
 module _ (kind : ℕ) (b : Bytes) where

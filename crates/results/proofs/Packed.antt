@@ -10,9 +10,9 @@ use Rattle.refusal.specs.Number.{numberOf}
 use Rattle.file.specs.declared.Located.{Located}
 use Rattle.file.specs.declared.Located.the-variants.{Stored, Zeros, Refused}
 use Rattle.file.specs.File.{located}
-use Rattle.boundary.specs.Tree.{packed, run, unpacked, runOf}
-use Rattle.boundary.proofs.Numbers.{number-bounds}
-use Rattle.boundary.proofs.Bounds.{Small, located-small}
+use Rattle.results.specs.Tree.{packed, run, unpacked, runOf}
+use Rattle.results.proofs.Numbers.{number-bounds}
+use Rattle.results.proofs.Bounds.{Small, located-small}
 
 -- by the four fields
 fields : (r number start length : ℕ) (zeros : Bool) → r % 256 ≡ number → eqb (r / 256 % 2) 1 ≡ zeros → r / 256 / 2 / 65536 ≡ start → r / 256 / 2 % 65536 ≡ length

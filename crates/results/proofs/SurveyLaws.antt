@@ -23,7 +23,7 @@ use Rattle.reader.specs.Reader.{sizeOf}
 use Rattle.report.specs.declared.Reported.{Reported}
 use Rattle.report.specs.Report.{sectorsName, usedName, recordsName, doubtfulName, verdictName, decimal, verdict, surveyOf, textOf, reportText, Outcome, outcome, reportOf}
 use Rattle.report.proofs.Laws.{verdict-length, line-short, report-room}
-use Rattle.boundary.specs.Survey.{reportNumber, textLength, reported, reportResult, soundResult}
+use Rattle.results.specs.Survey.{reportNumber, textLength, reported, reportResult, soundResult}
 
 -- ---- the report
 

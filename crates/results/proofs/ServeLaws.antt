@@ -9,7 +9,7 @@ use Rattle.archive.specs.Step.{Outcome, whole}
 use Rattle.archive.specs.declared.Session.{Session}
 use Rattle.archive.specs.declared.Session.the-variants.{Fresh, Greeted, Closed}
 use Rattle.archive.specs.declared.Answer.{Answer}
-use Rattle.boundary.specs.Serve.{sessionOf, sessionNumber, served, outcome}
+use Rattle.results.specs.Serve.{sessionOf, sessionNumber, served, outcome}
 
 pub is-fresh : (n : ℕ) → n ≡ 0 → Fresh ≡ sessionOf n
 unfolding sessionOf

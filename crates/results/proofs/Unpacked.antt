@@ -1,0 +1,155 @@
+-- What a caller reads back: each claim of specs/Unpacked.antt.
+use mathlib.Core.Path.{_≡_, refl, ap, _∙_}
+use mathlib.Core.Bool.{Bool, not}
+use mathlib.Core.Option.{Option, none, some}
+use Prim.Native.Nat.{ℕ, _+_, _*_, _/_, _%_, _≤_, _<_}
+use native.Mathlib.Omega.{arith}
+use lib.Dec.{ltb}
+use lib.ListN.{length}
+use Rattle.buffer.specs.Bytes.{Bytes, same}
+use Rattle.refusal.specs.Number.{numberOf}
+use Rattle.refusal.specs.declared.Refusal.{Refusal}
+use Rattle.kind.specs.Kind.{lawful, longest, wireType}
+use Rattle.kind.specs.declared.Wire.{Wire}
+use Rattle.kind.specs.declared.Wire.the-variants as wire
+use Rattle.message.specs.Message.{framed, tagOf, versionOf, scoreOf, dataOf, requestOf}
+use Rattle.message.specs.declared.Request.{Request}
+use Rattle.message.specs.declared.Request.the-variants.{Ping, Hello, Goodbye, Read, Write, Sync, Unknown, Ill}
+use Rattle.block.specs.Block.{Row}
+use Rattle.block.proofs.Cases.{cond-ind}
+use Rattle.log.specs.LookUp.{held, absence, logAllowed}
+use Rattle.log.specs.Store.{store}
+use Rattle.log.specs.declared.Stored.{Stored}
+use Rattle.log.specs.declared.Stored.the-variants as stored
+use Rattle.log.proofs.Cases.{on-ind}
+use Rattle.report.specs.declared.Reported.{Reported}
+use Rattle.report.specs.declared.Reported.the-variants as told
+use Rattle.archive.specs.Step as steps
+use Rattle.archive.specs.Step.{Outcome, step}
+use Rattle.archive.specs.declared.Session.{Session}
+use Rattle.archive.specs.declared.Session.the-variants.{Fresh, Greeted, Closed as Shut}
+use Rattle.walk.specs.declared.End.{End}
+use Rattle.walk.specs.declared.End.the-variants.{Done, Refused}
+use Rattle.walk.specs.Walk.{endNumber, walkOf}
+use Rattle.results.specs.Serve.{sessionOf, sessionNumber}
+use Rattle.results.specs.Survey.{soundResult}
+use Rattle.results.specs.Blocks.{typeResult}
+use Rattle.results.specs.Unpacked as claims
+use Rattle.results.specs.Unpacked.{numberIn, answerIn, wireNumber, typeIn}
+use Rattle.results.proofs.Numbers.{number-bounds}
+use Rattle.results.proofs.BlockLaws.{cut-kept, cut-refused}
+use Rattle.results.proofs.Packed.{nothing-lost}
+
+-- a number below 256 beside 256 times another
+beside : (n a : ℕ) → n < 256 → (numberIn (n + 256 * a) ≡ n) × (answerIn (n + 256 * a) ≡ a)
+beside n a h = (omega arith, omega arith)
+
+refused-alone : (w : Refusal) → (numberIn (numberOf w) ≡ numberOf w) × (answerIn (numberOf w) ≡ 0)
+refused-alone w = (omega (arith, number-bounds w .1), omega (arith, number-bounds w .1))
+
+above : (a : ℕ) → (numberIn (256 * a) ≡ 0) × (answerIn (256 * a) ≡ a)
+above a = (omega arith, omega arith)
+
+-- ---- a request: every number that the step answers is small
+
+abbrev Few : Outcome → Type 0
+Few o = o .number < 256
+
+few : (w : Refusal) → numberOf w < 256
+few w = omega (arith, number-bounds w .1)
+
+module _ (m log buffer : Bytes) where
+  read-few : (t count : ℕ) → Few (steps.read t count (tagOf m) (scoreOf m) log buffer)
+  unfolding steps.read
+  read-few t count =
+      cond-ind Few (not (lawful t)) _ _ (λ _. omega arith) (λ _.
+      on-ind Few (held log t (scoreOf m)) _ _ (λ _. few (absence log)) (λ r _. cond-ind Few (ltb count (length (r .bytes))) _ _ (λ _. omega arith) (λ _. omega arith)))
+
+  written-few : (s : Stored) (tag : ℕ) (score after : Bytes) → Few (steps.written s tag score after buffer)
+  written-few (stored.New at) tag score after = omega arith
+  written-few (stored.Duplicate at) tag score after = omega arith
+  written-few (stored.Refused w) tag score after = few w
+
+  write-few : (t : ℕ) → Few (steps.write t (tagOf m) (dataOf m) log buffer)
+  unfolding steps.write
+  write-few t =
+      cond-ind Few (not (lawful t)) _ _ (λ _. omega arith) (λ _.
+      cond-ind Few (ltb longest (length (dataOf m))) _ _ (λ _. omega arith) (λ _.
+      let a = store log t (dataOf m) in written-few (a .receipt .stored) (tagOf m) (a .receipt .score) (a .log)))
+
+  fresh-few : (q : Request) → Few (steps.fresh q (tagOf m) m log buffer)
+  unfolding steps.fresh
+  fresh-few Unknown = omega arith
+  fresh-few Ill = omega arith
+  fresh-few Goodbye = omega arith
+  fresh-few Hello = cond-ind Few (same (versionOf m) steps.version) _ _ (λ _. omega arith) (λ _. omega arith)
+  fresh-few Ping = omega arith
+  fresh-few Sync = omega arith
+  fresh-few (Read t c) = omega arith
+  fresh-few (Write t) = omega arith
+
+  greeted-few : (q : Request) → Few (steps.greeted q (tagOf m) m log buffer)
+  unfolding steps.greeted
+  greeted-few Unknown = omega arith
+  greeted-few Ill = omega arith
+  greeted-few Goodbye = omega arith
+  greeted-few Hello = omega arith
+  greeted-few Ping = omega arith
+  greeted-few Sync = omega arith
+  greeted-few (Read t c) = read-few t c
+  greeted-few (Write t) = write-few t
+
+  session-few : (s : Session) → Few (steps.inSession s m log buffer)
+  unfolding steps.inSession
+  session-few Fresh = fresh-few (requestOf m)
+  session-few Greeted = greeted-few (requestOf m)
+  session-few Shut = omega arith
+
+  step-few : (s : Session) → Few (step s m log buffer)
+  unfolding step
+  step-few s =
+      cond-ind Few (not (framed m)) _ _ (λ _. omega arith) (λ _.
+      cond-ind Few (ltb (length buffer) steps.replyRoom) _ _ (λ _. omega arith) (λ _.
+      cond-ind Few (not (logAllowed (length log))) _ _ (λ _. omega arith) (λ _. session-few s)))
+
+pub session-goes-round : claims.SessionGoesRound
+unfolding sessionOf
+session-goes-round Fresh = refl
+session-goes-round Greeted = refl
+session-goes-round Shut = refl
+
+pub request-unpacks : claims.RequestUnpacks
+request-unpacks s m log buffer =
+    let o = step s m log buffer in
+    let b = beside (o .number) (sessionNumber (o .session)) (step-few m log buffer s) in
+    (b .0, ap sessionOf (b .1) ∙ session-goes-round (o .session))
+
+-- ---- the other calls
+
+pub run-unpacks : claims.RunUnpacks
+run-unpacks = nothing-lost
+
+end-few : (e : End) → endNumber e < 256
+end-few Done = omega arith
+end-few (Refused w) = few w
+
+pub walk-unpacks : claims.WalkUnpacks
+walk-unpacks log score allowance = let w = walkOf log score allowance in beside (endNumber (w .end)) (w .visits) (end-few (w .end))
+
+pub report-unpacks : claims.ReportUnpacks
+report-unpacks (told.Written n) = above n
+report-unpacks (told.Refused w) = refused-alone w
+
+type-back : (x : Wire) → (numberIn (typeResult x) ≡ wireNumber x) × (answerIn (typeResult x) ≡ typeIn x)
+type-back (wire.«Type» t) = above t
+type-back (wire.Refused w) = refused-alone w
+
+pub type-unpacks : claims.TypeUnpacks
+type-unpacks e = type-back (wireType e)
+
+pub sound-unpacks : claims.SoundUnpacks
+unfolding soundResult
+sound-unpacks log n a = rw a (above _)
+
+pub cut-unpacks : claims.CutUnpacks
+cut-unpacks kind b = (λ n e. (rw e refl, rw e at (cut-kept kind b n e)), λ w e. (rw e refl, cut-refused kind b w e))

@@ -1,0 +1,81 @@
+-- Nothing is lost in packing: what a caller reads back from the one number that each call answers with is what the call's definition says.
+use mathlib.Core.Path.{_≡_}
+use mathlib.Core.Bool.{true}
+use Prim.Native.Nat.{ℕ, _+_, _/_, _%_, _≤_, _<_}
+use lib.ListN.{length}
+use Rattle.buffer.specs.Bytes.{Bytes}
+use Rattle.refusal.specs.Number.{numberOf}
+use Rattle.refusal.specs.declared.Refusal.{Refusal}
+use Rattle.kind.specs.Kind.{wireType}
+use Rattle.kind.specs.declared.Wire.{Wire}
+use Rattle.kind.specs.declared.Wire.the-variants as wire
+use Rattle.block.specs.Log.{sound}
+use Rattle.cut.specs.declared.Kept.the-variants.{Length, Refused}
+use Rattle.cut.specs.Cut.{cutOf}
+use Rattle.report.specs.declared.Reported.{Reported}
+use Rattle.report.specs.declared.Reported.the-variants as told
+use Rattle.report.specs.Report.{reportOf}
+use Rattle.log.specs.LookUp.{logAllowed}
+use Rattle.reader.specs.Reader.{sizeOf}
+use Rattle.archive.specs.Step.{step}
+use Rattle.archive.specs.declared.Session.{Session}
+use Rattle.file.specs.File.{located}
+use Rattle.walk.specs.Walk.{endNumber, walkOf}
+use Rattle.results.specs.Serve.{sessionOf, sessionNumber, outcome}
+use Rattle.results.specs.Blocks.{typeResult, cutResult}
+use Rattle.results.specs.Survey.{reportNumber, textLength, soundResult}
+use Rattle.results.specs.Tree.{packed, unpacked, runOf, walkResult}
+
+-- in the lowest 8 bits the number of the refusal, 0 for none; above them the answer
+abbrev pub numberIn : ℕ → ℕ
+numberIn r = r % 256
+
+abbrev pub answerIn : ℕ → ℕ
+answerIn r = r / 256
+
+-- a session handed out as a number and back in is the same: a host that does so runs the theorem's sessions
+abbrev pub SessionGoesRound : Type 0
+SessionGoesRound = (s : Session) → sessionOf (sessionNumber s) ≡ s
+
+abbrev pub RequestUnpacks : Type 0
+RequestUnpacks = (s : Session) (m log buffer : Bytes)
+    → let o = step s m log buffer in (numberIn (outcome o .result) ≡ o .number) × (sessionOf (answerIn (outcome o .result)) ≡ o .session)
+
+-- a file's run: the number, whether it is the page's, its start and its length
+abbrev pub RunUnpacks : Type 0
+RunUnpacks = (log page b : Bytes) (offset : ℕ) → unpacked (packed (located log page b offset)) ≡ runOf (located log page b offset)
+
+-- a walk: the number and the visits
+abbrev pub WalkUnpacks : Type 0
+WalkUnpacks = (log score : Bytes) (allowance : ℕ)
+    → let w = walkOf log score allowance in (numberIn (walkResult w) ≡ endNumber (w .end)) × (answerIn (walkResult w) ≡ w .visits)
+
+-- a report: the number, 0 where it is written, and the length of its text
+abbrev pub reportedNumber : Reported → ℕ
+reportedNumber (told.Written n) = 0
+reportedNumber (told.Refused w) = numberOf w
+
+abbrev pub ReportUnpacks : Type 0
+ReportUnpacks = (r : Reported) → (numberIn (reportNumber r) ≡ reportedNumber r) × (answerIn (reportNumber r) ≡ textLength r)
+
+-- a block type: the number, and the type
+abbrev pub wireNumber : Wire → ℕ
+wireNumber (wire.«Type» t) = 0
+wireNumber (wire.Refused w) = numberOf w
+
+abbrev pub typeIn : Wire → ℕ
+typeIn (wire.«Type» t) = t
+typeIn (wire.Refused w) = 0
+
+abbrev pub TypeUnpacks : Type 0
+TypeUnpacks = (e : ℕ) → (numberIn (typeResult (wireType e)) ≡ wireNumber (wireType e)) × (answerIn (typeResult (wireType e)) ≡ typeIn (wireType e))
+
+-- the size of a sound block, in a log that is allowed
+abbrev pub SoundUnpacks : Type 0
+SoundUnpacks = (log : Bytes) (n : ℕ) → logAllowed (length log) ≡ true → (numberIn (soundResult log n) ≡ 0) × (answerIn (soundResult log n) ≡ sizeOf (sound log n))
+
+-- a cut: a length that is kept is at most the block's, a refusal is more, by its number
+abbrev pub CutUnpacks : Type 0
+CutUnpacks = (kind : ℕ) (b : Bytes)
+    → ((n : ℕ) → cutOf kind b ≡ Length n → (cutResult (length b) (cutOf kind b) ≡ n) × (n ≤ length b))
+    × ((w : Refusal) → cutOf kind b ≡ Refused w → (cutResult (length b) (cutOf kind b) ≡ length b + numberOf w) × (length b < cutResult (length b) (cutOf kind b)))
