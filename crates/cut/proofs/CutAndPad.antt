@@ -19,6 +19,7 @@ use Rattle.cut.proofs.Multiples.{times, difference}
 use Rattle.cut.proofs.Turns.{whole-units}
 use Rattle.cut.proofs.Cases.{unit-positive, cut-unlawful, cut-ragged, cut-done, pad-unlawful, pad-refused, pad-done, pad-units, Allowed, allowed}
 use Rattle.cut.proofs.Shortest.{cut-le, cut-units, cut-appended, cut-rest, cut-shortest}
+use Rattle.cut.specs.Laws.{CutRestIsUnits, CutKeepsShortest, CutThenPad, PadThenCut}
 
 -- ---- what an answer that is no refusal tells
 
@@ -64,17 +65,14 @@ is-padded kind d len target x e = go (lawful kind) (padAllowed (unitOf kind) (le
 pub cut-never-longer : (kind : ℕ) (b : Bytes) (n : ℕ) → cutOf kind b ≡ Length n → n ≤ length b
 cut-never-longer kind b n e = omega (arith, (is-cut kind b n e) .size, cut-le (unitOf kind) b)
 
--- "keeps the shortest beginning whose rest is all zero bytes; for pointer types, whose rest is all zero scores": the rest is all units,
-pub cut-rest-units : (kind : ℕ) (b : Bytes) (n : ℕ) → cutOf kind b ≡ Length n
-    → b ≡ take n b ++ repeat (unitOf kind) ((length b - n) / length (unitOf kind))
+pub cut-rest-units : CutRestIsUnits
 cut-rest-units kind b n e =
     let c = is-cut kind b n e in
     cut-rest (unitOf kind) b (unit-positive kind) (c .units)
     ∙ ap (λ (m : ℕ). take m b ++ repeat (unitOf kind) ((length b - m) / length (unitOf kind))) (sym (c .size))
 
 -- and every beginning of which that is true is at least as long
-pub cut-keeps-shortest : (kind : ℕ) (b : Bytes) (n : ℕ) → cutOf kind b ≡ Length n
-    → (m j : ℕ) → m ≤ length b → drop m b ≡ repeat (unitOf kind) j → n ≤ m
+pub cut-keeps-shortest : CutKeepsShortest
 cut-keeps-shortest kind b n e m j l s =
     let c = is-cut kind b n e in
     omega (arith, c .size, cut-shortest (unitOf kind) b (unit-positive kind) (c .units) m j l s)
@@ -84,8 +82,7 @@ unfolding whole
 whole-of u n h = eq-eqb (n % length u) 0 h
 
 -- cutting, then padding to the old length, gives the old bytes back, in any buffer d whose front is what was kept
-pub cut-then-pad : (kind : ℕ) (b : Bytes) (n : ℕ) → cutOf kind b ≡ Length n
-    → (d : Bytes) → length b ≤ length d → take n d ≡ take n b → padOf kind d n (length b) ≡ after Done (b ++ drop (length b) d)
+pub cut-then-pad : CutThenPad
 unfolding padded
 cut-then-pad kind b n e d l f =
     let u = unitOf kind in
@@ -100,8 +97,7 @@ cut-then-pad kind b n e d l f =
     ∙ ap (λ (x : Bytes). x ++ drop (length b) d) (sym (cut-rest-units kind b n e)))
 
 -- "padding, then cutting, gives what cutting alone gives"
-pub pad-then-cut : (kind : ℕ) (d : Bytes) (len target : ℕ) (x : Bytes) → padOf kind d len target ≡ after Done x
-    → cutOf kind (take target x) ≡ cutOf kind (take len d)
+pub pad-then-cut : PadThenCut
 unfolding padded
 pad-then-cut kind d len target x e =
     let u = unitOf kind in

@@ -2,3 +2,4 @@
 pub mod Cut
 pub mod Pad
 pub mod Examples
+pub mod Laws

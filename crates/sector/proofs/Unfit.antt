@@ -19,7 +19,7 @@ use Rattle.crc32.specs.Burst.{ByteBurst}
 use Rattle.crc32.proofs.Bound.{crc32-lt}
 use Rattle.crc32.proofs.BurstAt.{burst-at}
 use Rattle.sector.specs.Sector.{check, fits, blank}
-use Rattle.sector.specs.Near.{Near}
+use Rattle.sector.specs.Near.{Near, NearShows, BlankNearShows}
 
 -- the checked bytes of two near sectors are near
 front-burst : (s t : Bytes) → 499 ≤ length s → ByteBurst s t → ByteBurst (take 499 s) (take 499 t)
@@ -86,7 +86,7 @@ near-fits s t h sm N a b = go (leb 499 (N .burst .from)) refl
     go false q = close (burst-at (take 499 s) (take 499 t) (of-bytes s sm) (of-bytes t (N .of-bytes)) (front-burst s t (omega arith) (N .burst)) (same-check (leb-false 499 (N .burst .from) q)))
 
 -- the theorem, of a sector that fits: wherever the four bytes lie
-pub near-unfit : (s t : Bytes) → length s ≡ 512 → small s ≡ true → fits s ≡ true → Near s t → t ≢ s → fits t ≡ false
+pub near-unfit : NearShows
 near-unfit s t h sm f N d = go (fits t) refl
   where
     go : (b : Bool) → fits t ≡ b → fits t ≡ false
@@ -98,7 +98,7 @@ unfolding blank
 blank-at i h = getD-replicate 512 i 0 0 h
 
 -- the theorem, of a blank sector
-pub blank-unfit : (t : Bytes) → Near blank t → zeros t ≡ false → fits t ≡ false
+pub blank-unfit : BlankNearShows
 unfolding check hex
 blank-unfit t N z = go (fits t) refl
   where

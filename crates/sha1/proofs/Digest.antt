@@ -8,13 +8,13 @@ use Rattle.word.specs.Number.{digits, beBytes}
 use Rattle.sha1_block.specs.declared.Hash.{Hash}
 use Rattle.sha1_block.specs.Block.{wordsOf, snocWord, scheduleOf, roundOf, roundsOf, addHash, compressOf}
 use Rattle.sha1.specs.Sha1.{hashOf, padOf, padded, digestOf, sha1Of}
+use Rattle.sha1.specs.Vectors.{OfNoBytes, OfAbc}
 
--- the score of no bytes, da39a3ee5e6b4b0d3255bfef95601890afd80709
-pub empty : sha1Of [] ≡ 0xda ∷ 0x39 ∷ 0xa3 ∷ 0xee ∷ 0x5e ∷ 0x6b ∷ 0x4b ∷ 0x0d ∷ 0x32 ∷ 0x55 ∷ 0xbf ∷ 0xef ∷ 0x95 ∷ 0x60 ∷ 0x18 ∷ 0x90 ∷ 0xaf ∷ 0xd8 ∷ 0x07 ∷ 0x09 ∷ []
+pub empty : OfNoBytes
 unfolding wordsOf snocWord scheduleOf roundOf roundsOf addHash compressOf hashOf digits padOf padded digestOf sha1Of
 empty = refl
 
-pub abc : sha1Of (0x61 ∷ 0x62 ∷ 0x63 ∷ []) ≡ 0xa9 ∷ 0x99 ∷ 0x3e ∷ 0x36 ∷ 0x47 ∷ 0x06 ∷ 0x81 ∷ 0x6a ∷ 0xba ∷ 0x3e ∷ 0x25 ∷ 0x71 ∷ 0x78 ∷ 0x50 ∷ 0xc2 ∷ 0x6c ∷ 0x9c ∷ 0xd0 ∷ 0xd8 ∷ 0x9d ∷ []
+pub abc : OfAbc
 unfolding wordsOf snocWord scheduleOf roundOf roundsOf addHash compressOf hashOf digits padOf padded digestOf sha1Of
 abc = refl
 

@@ -19,7 +19,7 @@ use Rattle.walk.specs.declared.Walked.{Walked}
 use Rattle.walk.specs.declared.End.{End}
 use Rattle.walk.specs.declared.End.the-variants.{Done, Refused}
 use Rattle.walk.specs.Walk.{walked, more, after, visiting, padded, piece, inOrder, typeAt, countAt, nestOf, entriesOf, judged, visitDirectory, visitEntry, walkTop, walkRoot, walkOf}
-use Rattle.walk.specs.Found.{entryIn, Found, leaf, directory, pointers, FoundEntries, entries, FoundRoot}
+use Rattle.walk.specs.Found.{entryIn, Found, leaf, directory, pointers, FoundEntries, entries, FoundRoot, WalkFinds}
 use Rattle.walk.proofs.Visits.{visitBy}
 
 -- no refusal is the end of a walk that is done
@@ -167,7 +167,7 @@ tests-passed true true w e = not-done _ e
 tests-passed true false w e = e
 tests-passed false b w e = not-done _ e
 
-pub walk-found : (log score : Bytes) (n v : ℕ) → walkOf log score n ≡ walked v Done → FoundRoot log score
+pub walk-found : WalkFinds
 unfolding walkOf walkRoot
 walk-found log score n v e =
     let d = tests-passed (logAllowed (length log)) (ltb 1000000 n) (walkRoot log score n) (ap (λ (w : Walked). w .end) e) in

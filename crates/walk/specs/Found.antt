@@ -10,7 +10,8 @@ use Rattle.log.specs.LookUp.{held}
 use Rattle.entry.specs.declared.Entry.{Entry}
 use Rattle.entry.specs.Entry.{entryOf, entryAllowed, scoreOf}
 use Rattle.entry.specs.Root.{rootWellFormed, rootScore}
-use Rattle.walk.specs.Walk.{padded, piece, entriesOf}
+use Rattle.walk.specs.declared.End.the-variants.{Done}
+use Rattle.walk.specs.Walk.{walked, padded, piece, entriesOf, walkOf}
 
 -- "A directory block is padded to whole entries": the bytes of entry i
 abbrev pub entryIn : Bytes → ℕ → Bytes
@@ -38,3 +39,7 @@ pub record FoundRoot (log score : Bytes) : Type 0 where
   pub top : Row
   pub top-held : held log 2 (rootScore (padded 300 (root .bytes))) ≡ some top
   pub below : FoundEntries log (top .bytes)
+
+-- a walk that ends found every block below the root: "The first refusal stops all", so none was missing
+abbrev pub WalkFinds : Type 0
+WalkFinds = (log score : Bytes) (n v : ℕ) → walkOf log score n ≡ walked v Done → FoundRoot log score

@@ -11,6 +11,7 @@ use Rattle.word.specs.Number.{digits, valueFrom, Below, below, small}
 use Rattle.word.specs.declared.hex.Hex.the-variants.{Value, Bad}
 use Rattle.word.specs.Hex.{digitChar, charDigit, hex, isHex, hexValue, readFrom, readHex, hexBytes, readBytes, reading, readHexBytes}
 use Rattle.word.proofs.NumberLaws.{and-true, below-fact, below-append, below-take, below-drop, below-map, length-digits, below-digits, value-digits, digits-value, value-lt}
+use Rattle.word.specs.Laws.{ValueOfHex, HexOfValue}
 
 -- ---- one digit
 
@@ -75,10 +76,10 @@ hex-length w n = ap length (hex-digits w n) ∙ length-map (digits 16 w n) digit
 pub isHex-hex : (w n : ℕ) → isHex (hex w n) ≡ true
 isHex-hex w n = ap (below 16) (digits-hex w n) ∙ below-digits 16 w n (omega arith)
 
-pub hexValue-hex : (w n : ℕ) → n < 16 ^ w → hexValue (hex w n) ≡ n
+pub hexValue-hex : ValueOfHex
 hexValue-hex w n h = ap (valueFrom 16 0) (digits-hex w n) ∙ value-digits 16 w n h
 
-pub hex-hexValue : (s : List ℕ) → isHex s ≡ true → hex (length s) (hexValue s) ≡ s
+pub hex-hexValue : HexOfValue
 hex-hexValue s e =
     hex-digits (length s) (hexValue s)
     ∙ ap (λ (w : ℕ). map digitChar (digits 16 w (hexValue s))) (sym (length-map s charDigit))

@@ -10,6 +10,7 @@ use lib.Arith.{digits-div, digits-mod, digits-lt as digit-lt}
 use borrow.Author.Tests.{ltb-true, lt-ltb}
 use lib.ListN.{length, take, drop, replicate, length-append}
 use Rattle.word.specs.Number.{digits, valueFrom, Below, below}
+use Rattle.word.specs.Laws.{ValueOfDigits, DigitsOfValue}
 
 -- ---- every element below b: the fact and the test
 
@@ -77,7 +78,7 @@ quotient-lt : (b w n : ℕ) → n < b ^ suc w → n / b < b ^ w
 quotient-lt zero w n h = let e : zero ^ suc w ≡ 0 = pow-suc zero w ∙ omega arith in absurd (omega arith)
 quotient-lt (suc b) w n h = div-lt-iff-lt-mul {k = suc b} (omega arith) .1 (rw (← pow-suc (suc b) w) h)
 
-pub value-digits : (b w n : ℕ) → n < b ^ w → valueFrom b 0 (digits b w n) ≡ n
+pub value-digits : ValueOfDigits
 unfolding digits valueFrom
 value-digits b zero n h = let e : b ^ zero ≡ 1 = pow-zero b in omega arith
 value-digits b (suc w) n h =
@@ -101,7 +102,7 @@ digits-after b k a (d ∷ s) h =
     ∙ append-assoc (digits b k ((b * a + d) / b)) ((b * a + d) % b ∷ []) s
     ∙ rw (e, digits-div a (h 0), digits-mod a (h 0))
 
-pub digits-value : (b : ℕ) (s : List ℕ) → Below b s → digits b (length s) (valueFrom b 0 s) ≡ s
+pub digits-value : DigitsOfValue
 unfolding digits
 digits-value b s h = ap (λ (w : ℕ). digits b w (valueFrom b 0 s)) (sym (zero-add (length s))) ∙ digits-after b 0 0 s h
 

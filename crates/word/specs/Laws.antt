@@ -1,0 +1,23 @@
+-- What is promised of numbers and digits: what is written is read back, and what is read is exactly what writing makes. Once over base and width.
+use mathlib.Core.Path.{_≡_}
+use mathlib.Core.Bool.{true}
+use mathlib.Core.List.{List}
+use Prim.Native.Nat.{ℕ, _^_, _<_}
+use lib.ListN.{length}
+use Rattle.word.specs.Number.{Below, digits, valueFrom}
+use Rattle.word.specs.Hex.{hex, isHex, hexValue}
+
+-- a number that w digits hold is read back from them
+abbrev pub ValueOfDigits : Type 0
+ValueOfDigits = (b w n : ℕ) → n < b ^ w → valueFrom b 0 (digits b w n) ≡ n
+
+-- digits are those of the number that they make
+abbrev pub DigitsOfValue : Type 0
+DigitsOfValue = (b : ℕ) (s : List ℕ) → Below b s → digits b (length s) (valueFrom b 0 s) ≡ s
+
+-- the same of hexadecimal characters, lower case
+abbrev pub ValueOfHex : Type 0
+ValueOfHex = (w n : ℕ) → n < 16 ^ w → hexValue (hex w n) ≡ n
+
+abbrev pub HexOfValue : Type 0
+HexOfValue = (s : List ℕ) → isHex s ≡ true → hex (length s) (hexValue s) ≡ s

@@ -1,0 +1,45 @@
+/* The archive from C: a hello is answered, and so is a write, whose block is read back. Exits with 0 if every answer is as it must be. */
+#include <stdio.h>
+#include <stdlib.h>
+#include <string.h>
+
+#include "skywimple.h"
+
+enum { LOG = 16 * 512, REPLY = 57348 };
+
+static uint8_t log_bytes[LOG];
+static uint8_t reply[REPLY];
+static uint8_t session = 0;
+
+/* One message, and what its reply has to begin with. */
+static void ask(const char *what, const uint8_t *message, size_t length, const uint8_t *expected, size_t expected_length) {
+    memset(reply, 0xee, sizeof reply);
+    uint32_t result = skywimple_serve(session, message, length, log_bytes, sizeof log_bytes, reply, sizeof reply);
+    if (result % 256 != 0 || memcmp(reply, expected, expected_length) != 0 || reply[expected_length] != 0xee) {
+        fprintf(stderr, "%s: number %u, reply %02x %02x %02x %02x ..\n", what, (unsigned)(result % 256), reply[0], reply[1],
+                reply[2], reply[3]);
+        exit(1);
+    }
+    session = (uint8_t)(result / 256);
+    printf("%s: answered\n", what);
+}
+
+int main(void) {
+    const uint8_t hello[] = {0, 11, 4, 0, 0, 2, '0', '2', 0, 0, 0, 0, 0};
+    const uint8_t welcome[] = {0, 6, 5, 0, 0, 0, 0, 0};
+    ask("hello", hello, sizeof hello, welcome, sizeof welcome);
+
+    /* a data block of three bytes, `abc`: its score is FIPS 180's first example */
+    const uint8_t write[] = {0, 9, 14, 1, 13, 0, 0, 0, 'a', 'b', 'c'};
+    const uint8_t written[] = {0,    22,   15,   1,    0xa9, 0x99, 0x3e, 0x36, 0x47, 0x06, 0x81, 0x6a,
+                               0xba, 0x3e, 0x25, 0x71, 0x78, 0x50, 0xc2, 0x6c, 0x9c, 0xd0, 0xd8, 0x9d};
+    ask("write", write, sizeof write, written, sizeof written);
+
+    uint8_t read[28] = {0, 26, 12, 2};
+    memcpy(read + 4, written + 4, 20);
+    read[24] = 13;
+    read[27] = 3;
+    const uint8_t bytes[] = {0, 5, 13, 2, 'a', 'b', 'c'};
+    ask("read", read, sizeof read, bytes, sizeof bytes);
+    return 0;
+}
