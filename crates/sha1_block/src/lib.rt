@@ -1,8 +1,10 @@
 // One block of SHA-1 (FIPS 180-4): the hash value after a block, by its message schedule and eighty rounds.
 ghost use mathlib.Core.Path.{_≡_};
-ghost use Prim.Native.Nat.{_+_, _*_, _<_};
-ghost use lib.ListN.{length};
-ghost use Rattle.sha1_block.specs.Block.{chOf, parityOf, majOf, fOf, kOf, initial, roundOf, roundsOf, wordAt, nextWord, scheduleOf, addHash, compressOf};
+ghost use mathlib.Core.List.{List};
+ghost use Prim.Native.Nat.{ℕ, _+_, _-_, _*_, _%_, _<_, _≤_};
+ghost use lib.ListN.{length, getD};
+ghost use Rattle.sha1_block.specs.Block.{chOf, parityOf, majOf, fOf, kOf, initial, roundOf, roundsOf, wordAt, wordsOf, scheduleOf, addHash, compressOf};
+ghost use Rattle.sha1_block.specs.Ring.{Ring, After};
 
 // The five words of a hash value, and of the working variables.
 pub struct Hash {
@@ -90,28 +92,6 @@ fn round(s: Hash, q: usize, w: u32) -> Hash
     }
 }
 
-// The twenty rounds of the quarter q.
-fn quarter(h: Hash, q: usize, w: &[u32; 80]) -> Hash
-    requires { ⌜ q < 4 ⌝ }
-    ensures { λ r. ⌜ ((s : Hash) → h ≡ roundsOf (q * 20) (now (w .entry)) s → r ≡ roundsOf (q * 20 + 20) (now (w .entry)) s) ⌝ }
-{
-    let mut s = h;
-    let mut t = q * 20;
-    let end = t + 20;
-    while t < end {
-        s = round(s, q, w[t]);
-        t += 1;
-    }
-    s
-}
-
-// The eighty rounds.
-fn rounds(h: Hash, w: &[u32; 80]) -> Hash
-    ensures { λ r. ⌜ r ≡ roundsOf 80 (now (w .entry)) h ⌝ }
-{
-    quarter(quarter(quarter(quarter(h, 0, w), 1, w), 2, w), 3, w)
-}
-
 // Word i of a block.
 fn word_at(b: &[u8], i: usize) -> u32
     requires { ⌜ (length (now b) ≡ 64) × (i < 16) ⌝ }
@@ -121,32 +101,80 @@ fn word_at(b: &[u8], i: usize) -> u32
     word::word(b[at], b[at + 1], b[at + 2], b[at + 3])
 }
 
-// Word n + 16 of the message schedule.
-fn next_word(w: &[u32; 80], n: usize) -> u32
-    requires { ⌜ n < 64 ⌝ }
-    ensures { λ r. ⌜ r ≡ nextWord (now (w .entry)) n ⌝ }
-{
-    word::rotate_left(w[n + 13] ^ w[n + 8] ^ w[n + 2] ^ w[n], 1)
-}
-
-// The message schedule of a block, section 6.1.2.
-fn schedule(b: &[u8]) -> [u32; 80]
+// The words of a block: the first sixteen of its message schedule.
+fn words(b: &[u8]) -> [u32; 16]
     requires { ⌜ length (now b) ≡ 64 ⌝ }
-    ensures { λ r. ⌜ r ≡ scheduleOf 64 (now (b .entry)) ⌝ }
+    ensures { λ r. ⌜ r ≡ wordsOf 16 (now (b .entry)) ⌝ }
 {
-    let mut w = [0u32; 80];
+    let mut w = [0u32; 16];
     let mut i = 0;
     while i < 16 {
         w[i] = word_at(b, i);
         i += 1;
     }
-    let mut n = 0;
-    while n < 64 {
-        let x = next_word(&w, n);
-        w[n + 16] = x;
-        n += 1;
-    }
     w
+}
+
+// Round t's word, from round 16 on, of those 3, 8, 14 and 16 before it, as in section 6.1.3. It takes the place of the
+// last of them: in this round the ring holds the latest sixteen words of the standard's schedule.
+fn latest(w: &mut [u32; 16], t: usize) -> u32
+    requires { ⌜ (16 ≤ t) × (t < 80) ⌝ }
+    ensures { λ r. ⌜ ((m : List ℕ) → Ring m (t - 1) (now (w .entry)) → Ring m t (now (w .exit)) × (r ≡ getD (scheduleOf 64 m) t 0)) ⌝ }
+{
+    let i = t % 16;
+    let three = (i + 13) % 16;
+    let eight = (i + 8) % 16;
+    let fourteen = (i + 2) % 16;
+    let x = word::rotate_left(w[three] ^ w[eight] ^ w[fourteen] ^ w[i], 1);
+    w[i] = x;
+    x
+}
+
+// The first sixteen rounds, with the words of the block.
+fn first_rounds(h: Hash, w: &[u32; 16]) -> Hash
+    ensures { λ r. ⌜ ((m : List ℕ) → Ring m 15 (now (w .entry)) → r ≡ roundsOf 16 (scheduleOf 64 m) h) ⌝ }
+{
+    let mut s = h;
+    let mut t = 0;
+    while t < 16 {
+        s = round(s, 0, w[t]);
+        t += 1;
+    }
+    s
+}
+
+// Round t, of the quarter q, from round 16 on.
+fn turn(s: Hash, q: usize, w: &mut [u32; 16], t: usize) -> Hash
+    requires { ⌜ (16 ≤ t) × (t < 80) × (20 * q ≤ t) × (t < 20 * q + 20) ⌝ }
+    ensures { λ r. ⌜ ((m : List ℕ) (h : Hash) → After m h t (now (w .entry)) s → After m h (t + 1) (now (w .exit)) r) ⌝ }
+{
+    let x = latest(w, t);
+    round(s, q, x)
+}
+
+// The rounds from..to of the quarter q: two at a time, which the compiler unrolls.
+fn quarter(s: Hash, q: usize, w: &mut [u32; 16], from: usize, to: usize) -> Hash
+    requires { ⌜ (16 ≤ from) × (to ≤ 80) × (from ≤ to) × ((to - from) % 2 ≡ 0) × (20 * q ≤ from) × (to ≤ 20 * q + 20) ⌝ }
+    ensures { λ r. ⌜ ((m : List ℕ) (h : Hash) → After m h from (now (w .entry)) s → After m h to (now (w .exit)) r) ⌝ }
+{
+    let mut v = s;
+    let mut t = from;
+    while t < to {
+        v = turn(turn(v, q, w, t), q, w, t + 1);
+        t += 2;
+    }
+    v
+}
+
+// The eighty rounds, over a ring that starts with the words of the block.
+fn rounds(h: Hash, w: &mut [u32; 16]) -> Hash
+    ensures { λ r. ⌜ ((m : List ℕ) → Ring m 15 (now (w .entry)) → After m h 80 (now (w .exit)) r) ⌝ }
+{
+    let s = first_rounds(h, w);
+    let s0 = quarter(s, 0, w, 16, 20);
+    let s1 = quarter(s0, 1, w, 20, 40);
+    let s2 = quarter(s1, 2, w, 40, 60);
+    quarter(s2, 3, w, 60, 80)
 }
 
 // The sums that end a block, section 6.1.2.
@@ -167,6 +195,6 @@ pub fn compress(h: Hash, b: &[u8]) -> Hash
     requires { ⌜ length (now b) ≡ 64 ⌝ }
     ensures { λ r. ⌜ r ≡ compressOf h (now (b .entry)) ⌝ }
 {
-    let w = schedule(b);
-    added(rounds(h, &w), h)
+    let mut w = words(b);
+    added(rounds(h, &mut w), h)
 }

@@ -1,37 +1,33 @@
--- `sha1_block::quarter` meets its contract. The loop's invariant: the first t rounds are done. Assumes nothing.
+-- `sha1_block::quarter` meets its contract. The loop's invariant: t rounds are done, and the ring is round t - 1's. Assumes nothing.
 use mathlib.Core.Path.{_≡_}
-use Prim.Native.Nat.{_≤_, _-_, _+_, _*_, _/_}
+use mathlib.Core.List.{List}
+use Prim.Native.Nat.{ℕ, _≤_, _-_, _+_, _%_}
 use native.Mathlib.Omega.{arith}
-use native.Mathlib.Numerals.{add-one}
 use borrow.Author.Needs.{needs}
 use Rattle.sha1_block.specs.declared.Hash.{Hash}
-use Rattle.sha1_block.specs.Block.{roundsOf}
+use Rattle.sha1_block.specs.Ring.{After}
+use Rattle.sha1_block.proofs.Turns.{after-move}
 use Rattle.sha1_block.proofs.quarter.Statement.{statement}
 use Rattle.sha1_block.proofs.quarter.Tie as tie
 
 abbrev Inv-loop : tie.InvT-loop
-Inv-loop q w s₀ t₀ end s t = (q * 20 ≤ t) × (t ≤ end) × ((h : Hash) → s₀ ≡ roundsOf (q * 20) w h → s ≡ roundsOf t w h)
+Inv-loop q w₀ from to v₀ t₀ w v t =
+    (from ≤ t) × (t ≤ to) × ((to - t) % 2 ≡ 0) × ((m : List ℕ) (h : Hash) → After m h from w₀ v₀ → After m h t w v)
 
 abbrev μ-loop : tie.MeasureT-loop
-μ-loop q w s₀ t₀ end s t = end - t
-
-mul-t : tie.Need-mul-t Inv-loop μ-loop
-mul-t c = search needs
-
-add-end : tie.Need-add-end Inv-loop μ-loop
-add-end c = search needs
+μ-loop q w₀ from to v₀ t₀ w v t = to - t
 
 loop-holds : tie.Need-loop-holds Inv-loop μ-loop
-loop-holds c = (omega arith, omega arith, λ h e. e)
+loop-holds c = (omega arith, omega arith, omega arith, λ m h p. p)
 
-mul-round : tie.Need-mul-round Inv-loop μ-loop
-mul-round c = search needs
+turn-requires : tie.Need-turn-requires Inv-loop μ-loop
+turn-requires c κs = search needs
 
-element-copy-out-round : tie.Need-element-copy-out-round Inv-loop μ-loop
-element-copy-out-round c = search needs
+add-turn : tie.Need-add-turn Inv-loop μ-loop
+add-turn c = search needs
 
-round-requires : tie.Need-round-requires Inv-loop μ-loop
-round-requires c κs = search needs
+turn-requires-2 : tie.Need-turn-requires-2 Inv-loop μ-loop
+turn-requires-2 c κs = search needs
 
 add-t : tie.Need-add-t Inv-loop μ-loop
 add-t c = search needs
@@ -40,14 +36,18 @@ loop-less : tie.Need-loop-less Inv-loop μ-loop
 loop-less c = search needs
 
 loop-again : tie.Need-loop-again Inv-loop μ-loop
-unfolding roundsOf
 loop-again c =
-    let l = c .before .before .before .loop in
-    let q : l .t / 20 ≡ c .before .before .before .before .args .q = omega arith in
-    (omega arith, omega arith, λ h e. rw (add-one, q, ← l .inv .2 h e) (c .round .ensures))
+    let l = c .before .before .before .before .before .loop in (
+      omega arith,
+      omega arith,
+      omega arith,
+      λ m h p. after-move m h (l .t + 1 + 1) (l .t + 2) _ _ (omega arith) (c .turn2 .ensures m h (c .before .before .turn .ensures m h (l .inv .3 m h p))),
+    )
 
 returns : tie.Need-returns Inv-loop μ-loop
-returns c = λ h e. let l = c .before .loop in let t : l .t ≡ c .before .before .args .q * 20 + 20 = omega arith in rw t at (l .inv .2 h e)
+returns c =
+    let l = c .before .loop in
+    λ m h p. after-move m h (l .t) (c .before .before .args .to) _ _ (omega arith) (l .inv .3 m h p)
 
 pub quarter-spec : {M : Type 1} → statement M
 quarter-spec =
@@ -55,12 +55,10 @@ quarter-spec =
     (tie.spec
     Inv-loop
     μ-loop
-    mul-t
-    add-end
     loop-holds
-    mul-round
-    element-copy-out-round
-    round-requires
+    turn-requires
+    add-turn
+    turn-requires-2
     add-t
     loop-less
     loop-again
