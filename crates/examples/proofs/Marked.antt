@@ -6,7 +6,8 @@ use borrow.Author.Tests.{lt-ltb, le-ltb}
 use Rattle.word.specs.Number.{digits, valueFrom}
 use Rattle.kind.specs.Kind.{longest}
 use Rattle.block.proofs.Counts.{counts}
-use Rattle.message.specs.Message.{framed, noZero, textEnd, countedEnd, bytesEnd, exactly, requestOf, dataOf}
+use Rattle.utf8.specs.Grammar.{follows}
+use Rattle.message.specs.Message.{framed, textEnd, countedEnd, bytesEnd, exactly, requestOf, dataOf}
 use Rattle.message.specs.Reply.{reply}
 use Rattle.archive.specs.Step.{replyRoom, write, fresh, greeted, inSession, step}
 use Rattle.cut.proofs.Examples as cut
@@ -15,7 +16,7 @@ use Rattle.file.specs.File.{entryReadable, located}
 use Rattle.examples.specs.Marked.{Marked}
 
 pub marked : Marked
-unfolding digits valueFrom framed noZero textEnd countedEnd bytesEnd exactly requestOf reply step inSession fresh greeted write entryOf wellFormed entryReadable located
+unfolding digits valueFrom follows framed textEnd countedEnd bytesEnd exactly requestOf reply step inSession fresh greeted write entryOf wellFormed entryReadable located
 marked = record {
   ping = λ log buffer a h. rw (le-ltb (length buffer) replyRoom h, a) refl;
   greeting = λ log buffer a h. rw (le-ltb (length buffer) replyRoom h, a) refl;

@@ -4,20 +4,20 @@ use mathlib.Core.Bool.{Bool, true, false, cond, _&&_}
 use mathlib.Core.List.{[], _∷_}
 use Prim.Native.Nat.{ℕ, zero, suc, _+_, _-_, _≤_, _<_, min}
 use native.Mathlib.Nat.{zero-min, min-zero, suc-min-suc}
-use native.Mathlib.Numerals.{add-one}
 use native.Mathlib.Omega.{arith}
 use lib.Dec.{leb, eqb}
 use borrow.Author.Tests.{leb-true, le-leb, lt-leb, eq-eqb, ne-eqb}
 use lib.ListN.{length, getD, take, drop, length-drop, drop-of-length-le}
-use lib.Seq.{drop-cons, length-take-le, take-nil}
+use lib.Seq.{length-take-le, take-nil}
 use Rattle.buffer.specs.Bytes.{Bytes, same}
 use Rattle.buffer.proofs.Bytes.{and-true}
 use Rattle.word.specs.Number.{beNumber}
+use Rattle.utf8.specs.Grammar.{wellFormed}
 use Rattle.message.specs.declared.Request.{Request}
 use Rattle.message.specs.declared.Request.the-variants.{Read, Write, Unknown, Ill}
 use Rattle.message.specs.declared.Next.{Next}
 use Rattle.message.specs.declared.Next.the-variants.{At, Bad}
-use Rattle.message.specs.Message.{framed, typeOf, noZero, isText, textEnd, countedEnd, bytesEnd, helloEnd, versionOf, exactly, readOf, writeOf, requestOf}
+use Rattle.message.specs.Message.{framed, typeOf, isText, textEnd, countedEnd, bytesEnd, helloEnd, versionOf, exactly, readOf, writeOf, requestOf}
 
 -- a part no longer than the whole
 take-min : (n : ℕ) (s : Bytes) → take (min n (length s)) s ≡ take n s
@@ -34,21 +34,6 @@ framed-short m h = rw (lt-leb 4 (length m) h)
 pub framed-test : (m : Bytes) (n : ℕ) → 4 ≤ length m → n ≡ beNumber (take 2 m) → eqb n (length m - 2) ≡ framed m
 unfolding framed
 framed-test m n h e = rw (e, le-leb 4 (length m) h)
-
--- ---- no byte is zero
-
-module _ (s : Bytes) (i : ℕ) (h : i < length s) where
-  pub zero-found : getD s i 0 ≡ 0 → noZero (drop i s) ≡ false
-  unfolding noZero
-  zero-found e = rw (drop-cons s i 0 h, e)
-
-  pub zero-turn : (getD s i 0 ≡ 0 → ⊥) → noZero (drop i s) ≡ noZero (drop (i + 1) s)
-  unfolding noZero
-  zero-turn n = rw (drop-cons s i 0 h, ne-eqb (getD s i 0) 0 n, add-one)
-
-pub zero-end : (s : Bytes) (i : ℕ) → length s ≤ i → noZero (drop i s) ≡ true
-unfolding noZero
-zero-end s i h = rw (drop-of-length-le s h)
 
 -- ---- text
 
@@ -73,7 +58,7 @@ module _ (m : Bytes) (at : ℕ) (w : at ≤ length m) where
       unfolding textEnd
       text-long l = rw (counted, le-leb (at + 2) (length m) (omega arith), le-leb (at + 2 + n) (length m) (omega arith), size, lt-leb n 1024 l)
 
-      module _ (l : n ≤ 1024) (b : Bool) (z : b ≡ noZero (take (at + 2 + n - (at + 2)) (drop (at + 2) m))) where
+      module _ (l : n ≤ 1024) (b : Bool) (z : b ≡ wellFormed (take (at + 2 + n - (at + 2)) (drop (at + 2) m))) where
         told : textEnd m at ≡ cond b (At (at + 2 + n)) Bad
         unfolding textEnd
         told =
@@ -83,8 +68,8 @@ module _ (m : Bytes) (at : ℕ) (w : at ≤ length m) where
         pub text-good : b ≡ true → At (at + 2 + n) ≡ textEnd m at
         text-good t = sym (told ∙ rw t)
 
-        pub text-zero : b ≡ false → Bad ≡ textEnd m at
-        text-zero t = sym (told ∙ rw t)
+        pub text-ill : b ≡ false → Bad ≡ textEnd m at
+        text-ill t = sym (told ∙ rw t)
 
 -- ---- counted bytes
 

@@ -1,11 +1,11 @@
 -- "Messages": how a message's bytes are taken apart.
-use mathlib.Core.Bool.{Bool, true, cond, not, _&&_}
-use mathlib.Core.List.{[], _∷_}
+use mathlib.Core.Bool.{Bool, true, cond, _&&_}
 use Prim.Native.Nat.{ℕ, _+_, _-_}
 use lib.Dec.{leb, eqb}
 use lib.ListN.{length, getD, take, drop}
 use Rattle.buffer.specs.Bytes.{Bytes}
 use Rattle.word.specs.Number.{beNumber}
+use Rattle.utf8.specs.Grammar.{wellFormed}
 use Rattle.message.specs.declared.Request.{Request}
 use Rattle.message.specs.declared.Request.the-variants.{Ping, Hello, Goodbye, Read, Write, Sync, Unknown, Ill}
 use Rattle.message.specs.declared.Next.{Next}
@@ -21,13 +21,9 @@ typeOf m = getD m 2 0
 abbrev pub tagOf : Bytes → ℕ
 tagOf m = getD m 3 0
 
--- "text of at most 1,024 bytes, none of them 0; any other byte may stand"
-unfoldable pub noZero : Bytes → Bool
-noZero [] = true
-noZero (a ∷ x) = not (eqb a 0) && noZero x
-
+-- "text of at most 1,024 bytes", "not characters"; "well-formed UTF-8 by RFC 3629 .. without NUL": `wellFormed` in utf8/specs/Grammar.antt
 abbrev pub isText : Bytes → Bool
-isText t = leb (length t) 1024 && noZero t
+isText t = leb (length t) 1024 && wellFormed t
 
 -- "Pads are ignored"
 abbrev pub padAllowed : Bytes → Bool

@@ -6,7 +6,7 @@ ghost use Prim.Native.Nat.{_+_, _≤_};
 ghost use lib.ListN.{length};
 ghost use Rattle.buffer.specs.Bytes.{same, put};
 ghost use Rattle.word.specs.Number.{beBytes};
-ghost use Rattle.message.specs.Message.{framed, noZero, textEnd, countedEnd, helloEnd, exactly, readOf, writeOf, requestOf, versionOf};
+ghost use Rattle.message.specs.Message.{framed, textEnd, countedEnd, helloEnd, exactly, readOf, writeOf, requestOf, versionOf};
 ghost use Rattle.message.specs.Reply.{reply, answered, errorReply};
 
 // What a message asks. The version of a hello, the score of a read and the data of a write stay where they are in the message.
@@ -40,21 +40,7 @@ pub fn is_framed(m: &[u8]) -> bool
     size == (m.len() - 2) as u64
 }
 
-// Whether no byte is zero.
-fn no_zero(s: &[u8]) -> bool
-    ensures { λ r. ⌜ r ≡ noZero (now (s .entry)) ⌝ }
-{
-    let mut i: usize = 0;
-    while i < s.len() {
-        if s[i] == 0 {
-            return false;
-        }
-        i += 1;
-    }
-    true
-}
-
-// Where the text at `at` ends: a two-byte count, and at most 1,024 bytes, none of them zero.
+// Where the text at `at` ends: a two-byte count, and at most 1,024 bytes of UTF-8 without NUL.
 fn text_end(m: &[u8], at: usize) -> Next
     requires { ⌜ at ≤ length (now m) ⌝ }
     ensures { λ r. ⌜ r ≡ textEnd (now (m .entry)) at ⌝ }
@@ -71,7 +57,7 @@ fn text_end(m: &[u8], at: usize) -> Next
         return Next::Bad;
     }
     let end = from + n;
-    if no_zero(&m[from..end]) {
+    if utf8::is_well_formed(&m[from..end]) {
         Next::At(end)
     } else {
         Next::Bad

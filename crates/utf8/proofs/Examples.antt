@@ -1,6 +1,5 @@
 -- The table of texts, computed.
 use mathlib.Core.Path.{_≡_, refl}
-use mathlib.Core.Bool.{Bool}
 use mathlib.Core.List.{map}
 use Rattle.utf8.specs.Grammar.{follows, wellFormed}
 use Rattle.utf8.specs.Examples.{Example, table}

@@ -1,8 +1,8 @@
 -- Characters and their octets by the table of RFC 3629, section 3.
-use mathlib.Core.Bool.{Bool, true, cond, not, _&&_, _||_}
+use mathlib.Core.Bool.{Bool, true, cond, not, _&&_}
 use mathlib.Core.List.{List, [], _∷_, _++_}
 use Prim.Native.Nat.{ℕ, zero, suc, _+_, _-_, _*_, _/_, _%_}
-use lib.Dec.{leb, ltb, eqb}
+use lib.Dec.{leb, eqb}
 use Rattle.buffer.specs.Bytes.{Bytes}
 
 -- "character numbers between U+0000 and U+10FFFF", without those "between U+D800 and U+DFFF": the scalar values

@@ -25,10 +25,13 @@ mod messages;
 mod plain_log;
 mod progress;
 mod random;
+mod sham_texts;
 mod sham_tools;
 mod sham_trees;
 mod shams;
 mod shape;
+#[cfg(test)]
+mod texts;
 mod trees;
 mod under_test;
 

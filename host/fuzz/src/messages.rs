@@ -205,7 +205,7 @@ pub fn frame(kind: u8, tag: u8, body: &[u8]) -> Vec<u8> {
 /// A hello, mostly a good one.
 pub fn hello(random: &mut Random) -> Vec<u8> {
     let mut body = Vec::new();
-    let version = match random.below(48) {
+    let version = match random.below(56) {
         0 => Vec::new(),
         1 => b"2".to_vec(),
         2 => b"03".to_vec(),
@@ -213,21 +213,29 @@ pub fn hello(random: &mut Random) -> Vec<u8> {
         4 => b"02\0".to_vec(),
         5 => vec![b'0'; 1024],
         6 => vec![b'0'; 1025],
+        7..=10 => text(random, 3),
         _ => b"02".to_vec(),
     };
-    text(&mut body, &version);
+    counted(&mut body, &version);
     let uid = match random.below(30) {
         0 => vec![b'u'; random.between(1023, 1025)],
         1 => {
-            let mut uid: Vec<u8> = (0..random.between(1, 8)).map(|_| random.mark()).collect();
-            let at = random.below(uid.len());
-            uid[at] = 0;
+            // two, three and four bytes fill 1,024 in different ways
+            let character = random.pick(&["\u{80}", "\u{800}", "\u{10000}"]);
+            let mut uid = character.repeat(512).into_bytes();
+            uid.truncate(random.between(1020, 1025));
             uid
         }
-        2 => (0..1024).map(|_| random.mark()).collect(),
-        _ => (0..random.below(9)).map(|_| random.mark()).collect(),
+        2 => {
+            let count = random.between(1, 8);
+            random.bytes(count)
+        }
+        _ => {
+            let count = random.below(9);
+            text(random, count)
+        }
     };
-    text(&mut body, &uid);
+    counted(&mut body, &uid);
     body.push(random.byte());
     for _ in 0..2 {
         let count = random.pick(&[0, 0, 1, 2, 255]);
@@ -237,9 +245,79 @@ pub fn hello(random: &mut Random) -> Vec<u8> {
     frame(4, random.byte(), &body)
 }
 
-fn text(body: &mut Vec<u8>, text: &[u8]) {
+/// Puts a text with its count.
+fn counted(body: &mut Vec<u8>, text: &[u8]) {
     body.extend((text.len() as u16).to_be_bytes());
     body.extend(text);
+}
+
+/// The first and last character of each length and of each row of the grammar.
+const BORDERS: [char; 20] = [
+    '\u{1}',
+    '\u{7f}',
+    '\u{80}',
+    '\u{7ff}',
+    '\u{800}',
+    '\u{fff}',
+    '\u{1000}',
+    '\u{cfff}',
+    '\u{d000}',
+    '\u{d7ff}',
+    '\u{e000}',
+    '\u{feff}',
+    '\u{fffe}',
+    '\u{ffff}',
+    '\u{10000}',
+    '\u{3ffff}',
+    '\u{40000}',
+    '\u{fffff}',
+    '\u{100000}',
+    '\u{10ffff}',
+];
+
+/// What no text has: too long a form, a surrogate, past the last character, no first byte, NUL.
+const ILL: [&[u8]; 16] = [
+    &[0xc0, 0x80],
+    &[0xc1, 0xbf],
+    &[0xe0, 0x80, 0x80],
+    &[0xe0, 0x9f, 0xbf],
+    &[0xf0, 0x80, 0x80, 0x80],
+    &[0xf0, 0x8f, 0xbf, 0xbf],
+    &[0xed, 0xa0, 0x80],
+    &[0xed, 0xbf, 0xbf],
+    &[0xf4, 0x90, 0x80, 0x80],
+    &[0xf4, 0xbf, 0xbf, 0xbf],
+    &[0xf5, 0x80, 0x80, 0x80],
+    &[0x80],
+    &[0xbf],
+    &[0xfe],
+    &[0xff],
+    &[0],
+];
+
+/// A text of about so many characters, now and then nearly one.
+fn text(random: &mut Random, count: usize) -> Vec<u8> {
+    let mut text = Vec::new();
+    for _ in 0..count {
+        let character = match random.below(3) {
+            0 => random.pick(&BORDERS),
+            1 => char::from(random.between(1, 0x7f) as u8),
+            _ => char::from_u32(random.between(1, 0x10_ffff) as u32).unwrap_or('a'),
+        };
+        text.extend(character.encode_utf8(&mut [0; 4]).as_bytes());
+    }
+    match random.below(20) {
+        0 => text.extend(random.pick(&ILL)),
+        1 if !text.is_empty() => {
+            let at = random.below(text.len());
+            text[at] = random.byte();
+        }
+        2 => {
+            text.pop();
+        }
+        _ => {}
+    }
+    text
 }
 
 /// A message with something wrong, or perhaps wrong.

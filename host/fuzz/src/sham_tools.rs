@@ -72,8 +72,8 @@ pub fn reply_data(reply: &[u8]) -> usize {
     number(&reply[..2]) - 2
 }
 
-/// A hello with other bytes for the zeros in its texts.
-pub fn without_zeros(message: &[u8]) -> Vec<u8> {
+/// A hello with its texts altered.
+pub fn texts_altered(message: &[u8], alter: fn(&mut [u8])) -> Vec<u8> {
     let mut patched = message.to_vec();
     let mut at = 4;
     for _ in 0..2 {
@@ -82,9 +82,7 @@ pub fn without_zeros(message: &[u8]) -> Vec<u8> {
         }
         let count = number(&patched[at..at + 2]);
         let end = (at + 2 + count).min(patched.len());
-        for byte in &mut patched[at + 2..end] {
-            *byte = (*byte).max(1);
-        }
+        alter(&mut patched[at + 2..end]);
         at = end;
     }
     patched

@@ -7,9 +7,10 @@ use second::tree::Run;
 use second::{Score, Session};
 
 use crate::archive::{Archive, Second};
+use crate::sham_texts::{no_overlong, no_surrogate, no_zero, not_cut_off, not_past_end};
 use crate::sham_tools::{
     lower_label, only_blank_doubts, records_and_doubtful, refit, refuse, reply_data, report_text,
-    serve_altered, without_zeros, Tests,
+    serve_altered, texts_altered, Tests,
 };
 use crate::sham_trees;
 
@@ -37,6 +38,10 @@ broken! {
     RefusalChangesSession,
     RoomOffByOne,
     ZeroInTextAccepted,
+    OverlongAccepted,
+    SurrogateAccepted,
+    PastEndAccepted,
+    CutOffAccepted,
     HoleReadAsZeros,
     WorksOnceThenPretends,
     InventedVisits,
@@ -112,8 +117,15 @@ impl Archive for Sham {
             Broken::CapitalHexAccepted => {
                 return serve_altered(lower_label, session, message, log, reply);
             }
-            Broken::ZeroInTextAccepted if request == Err(6) && message[2] == 4 => {
-                let patched = without_zeros(message);
+            _ if request == Err(6) && message[2] == 4 => {
+                let patched = match self.broken {
+                    Broken::ZeroInTextAccepted => texts_altered(message, no_zero),
+                    Broken::OverlongAccepted => texts_altered(message, no_overlong),
+                    Broken::SurrogateAccepted => texts_altered(message, no_surrogate),
+                    Broken::PastEndAccepted => texts_altered(message, not_past_end),
+                    Broken::CutOffAccepted => texts_altered(message, not_cut_off),
+                    _ => message.to_vec(),
+                };
                 return Second.serve(session, &patched, log, reply);
             }
             _ => Second.serve(session, message, log, reply),

@@ -13,6 +13,7 @@ pub mod request;
 pub mod sector;
 pub mod sha1;
 pub mod tree;
+pub mod utf8;
 pub mod walk;
 pub mod zeros;
 

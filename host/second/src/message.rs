@@ -2,6 +2,7 @@
 
 use crate::kind::lawful;
 use crate::log::{well_sized, MOST_DATA};
+use crate::utf8::characters;
 use crate::Score;
 
 /// The least length of a reply buffer.
@@ -131,11 +132,11 @@ fn hello(bytes: &[u8]) -> Option<Body<'_>> {
     rest.is_empty().then_some(Body::Hello { version })
 }
 
-/// A two-byte count and so many bytes, at most 1,024 and none of them 0.
+/// A two-byte count and so many bytes, at most 1,024: characters, none of them NUL.
 fn text<'a>(rest: &mut &'a [u8]) -> Option<&'a [u8]> {
     let count = number(take(rest, 2)?);
     let text = take(rest, count)?;
-    (count <= MOST_TEXT && !text.contains(&0)).then_some(text)
+    (count <= MOST_TEXT && characters(text).is_some()).then_some(text)
 }
 
 fn take<'a>(rest: &mut &'a [u8], count: usize) -> Option<&'a [u8]> {

@@ -1,5 +1,5 @@
 -- `message::text_end` meets its contract: a case for each return.
-use Rattle.message.proofs.Cases.{text-no-count, text-past, text-long, text-good, text-zero}
+use Rattle.message.proofs.Cases.{text-no-count, text-past, text-long, text-good, text-ill}
 use native.Mathlib.Omega.{arith}
 use borrow.Author.Needs.{needs}
 use Rattle.message.proofs.text_end.Statement.{statement}
@@ -44,31 +44,31 @@ returns-3 c =
 add-end : tie.Need-add-end
 add-end c = search needs
 
-sub-no-zero : tie.Need-sub-no-zero
-sub-no-zero c = search needs
+sub-is-well-formed : tie.Need-sub-is-well-formed
+sub-is-well-formed c = search needs
 
-part-no-zero-start : tie.Need-part-no-zero-start
-part-no-zero-start c = search needs
+part-is-well-formed-start : tie.Need-part-is-well-formed-start
+part-is-well-formed-start c = search needs
 
-part-no-zero-end : tie.Need-part-no-zero-end
-part-no-zero-end c = search needs
+part-is-well-formed-end : tie.Need-part-is-well-formed-end
+part-is-well-formed-end c = search needs
 
-no-zero-requires : tie.Need-no-zero-requires
-no-zero-requires c κs = search needs
+is-well-formed-requires : tie.Need-is-well-formed-requires
+is-well-formed-requires c κs = search needs
 
 returns-4 : tie.Need-returns-4
 returns-4 c =
     let s = c .before .before .before .before .before .before .before .before .before in
     let n = c .before .before .before .before .before .be-number in
-    let z = c .before .no-zero .ensures in
+    let z = c .before .is-well-formed .ensures in
     text-good _ (s .args .at) (s .pre) (n .result) (n .ensures) (c .before .before .before .before .before .before .before .if1 .left) (c .before .before .before .before .if2 .left) (omega arith) _ z (c .if4 .taken)
 
 returns-5 : tie.Need-returns-5
 returns-5 c =
     let s = c .before .before .before .before .before .before .before .before .before in
     let n = c .before .before .before .before .before .be-number in
-    let z = c .before .no-zero .ensures in
-    text-zero _ (s .args .at) (s .pre) (n .result) (n .ensures) (c .before .before .before .before .before .before .before .if1 .left) (c .before .before .before .before .if2 .left) (omega arith) _ z (c .if4 .left)
+    let z = c .before .is-well-formed .ensures in
+    text-ill _ (s .args .at) (s .pre) (n .result) (n .ensures) (c .before .before .before .before .before .before .before .if1 .left) (c .before .before .before .before .if2 .left) (omega arith) _ z (c .if4 .left)
 
 pub text-end-spec : {M : Type 1} → statement M
 text-end-spec =
@@ -85,9 +85,9 @@ text-end-spec =
     returns-2
     returns-3
     add-end
-    sub-no-zero
-    part-no-zero-start
-    part-no-zero-end
-    no-zero-requires
+    sub-is-well-formed
+    part-is-well-formed-start
+    part-is-well-formed-end
+    is-well-formed-requires
     returns-4
     returns-5)

@@ -1,0 +1,13 @@
+-- The hellos, computed.
+use mathlib.Core.Path.{refl}
+use Rattle.word.specs.Number.{digits, valueFrom}
+use Rattle.utf8.specs.Grammar.{follows}
+use Rattle.message.specs.Message.{textEnd, countedEnd, bytesEnd, exactly, requestOf}
+use Rattle.examples.specs.Texts.{Texts}
+
+pub texts : Texts
+unfolding digits valueFrom follows textEnd countedEnd bytesEnd exactly requestOf
+texts = record {
+  version = refl;
+  uid = refl;
+}
