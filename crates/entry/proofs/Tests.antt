@@ -29,7 +29,7 @@ module _ (e : Entry) where
     dsize-over h k = rw (le-leb 40 (e .psize) psize-from, le-leb (e .psize) 57344 psize-to, le-leb 1 (e .dsize) h, lt-leb (e .dsize) 57344 k)
 
     module _ (dsize-from : 1 ≤ e .dsize) (dsize-to : e .dsize ≤ 57344) where
-      sizes : ((not (e .directory) || eqb (e .dsize % 40) 0) && (e .plain && leb (e .size) (e .dsize * pointers e ^ e .depth))) ≡ wellFormed e
+      sizes : ((not (e .directory) || eqb (e .dsize % 40) 0) && (e .plain && (e .clean && leb (e .size) (e .dsize * pointers e ^ e .depth)))) ≡ wellFormed e
       unfolding wellFormed
       sizes =
           rw (le-leb 40 (e .psize) psize-from, le-leb (e .psize) 57344 psize-to, le-leb 1 (e .dsize) dsize-from, le-leb (e .dsize) 57344 dsize-to)
@@ -40,9 +40,12 @@ module _ (e : Entry) where
       pub flagged : (not (e .directory) || eqb (e .dsize % 40) 0) ≡ true → e .plain ≡ false → false ≡ wellFormed e
       flagged d f = rw (← sizes, d, f)
 
-      pub in-room : (not (e .directory) || eqb (e .dsize % 40) 0) ≡ true → e .plain ≡ true
+      pub unclean : (not (e .directory) || eqb (e .dsize % 40) 0) ≡ true → e .plain ≡ true → e .clean ≡ false → false ≡ wellFormed e
+      unclean d f c = rw (← sizes, d, f, c)
+
+      pub in-room : (not (e .directory) || eqb (e .dsize % 40) 0) ≡ true → e .plain ≡ true → e .clean ≡ true
           → leb (e .size) (e .dsize * pointers e ^ e .depth) ≡ wellFormed e
-      in-room d f = rw (← sizes, d, f)
+      in-room d f c = rw (← sizes, d, f, c)
 
 -- the directory's test passes, by either way
 pub entries-whole : (directory : Bool) (n : ℕ) → directory ≡ true → n % 40 ≡ 0 → (not directory || eqb (n % 40) 0) ≡ true

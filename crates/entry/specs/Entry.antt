@@ -1,9 +1,9 @@
 -- Entries of directories: 40 bytes, gen[4] psize[2] dsize[2] flags[1] pad[5] size[6] score[20], numbers big-endian.
-use mathlib.Core.Bool.{Bool, true, not, _&&_, _||_}
+use mathlib.Core.Bool.{Bool, not, _&&_, _||_}
 use Prim.Native.Nat.{ℕ, _*_, _/_, _%_, _^_}
 use lib.Dec.{leb, eqb}
 use lib.ListN.{take, drop}
-use Rattle.buffer.specs.Bytes.{Bytes}
+use Rattle.buffer.specs.Bytes.{Bytes, zeros}
 use Rattle.word.specs.Number.{beNumber}
 use Rattle.entry.specs.declared.Entry.{Entry}
 
@@ -17,7 +17,11 @@ flagsOf b = field 8 1 b
 abbrev pub scoreOf : Bytes → Bytes
 scoreOf b = take 20 (drop 20 b)
 
--- "Flag bit 0 is active, bit 1 directory, bits 2 to 4 depth, bit 5 local"; plain: "bits 5 to 7 are clear"
+-- the five bytes of the pad
+abbrev pub padOf : Bytes → Bytes
+padOf b = take 5 (drop 9 b)
+
+-- "Flag bit 0 is active, bit 1 directory, bits 2 to 4 depth, bit 5 local"; plain: "bits 5 to 7 are clear"; clean: "all zeros", of the pad
 unfoldable pub entryOf : Bytes → Entry
 entryOf b =
     record {
@@ -25,6 +29,7 @@ entryOf b =
       directory = eqb (flagsOf b / 2 % 2) 1;
       depth = flagsOf b / 4 % 8;
       plain = eqb (flagsOf b / 32 % 8) 0;
+      clean = zeros (padOf b);
       psize = field 4 2 b;
       dsize = field 6 2 b;
       size = field 14 6 b;
@@ -35,17 +40,14 @@ abbrev pub pointers : Entry → ℕ
 pointers e = e .psize / 20
 
 -- "well-formed when psize is 40 to 57,344, dsize 1 to 57,344 (a multiple of 40 for a directory), bits 5 to 7 are clear,
--- and size is at most dsize times p to the power depth"
+-- and size is at most dsize times p to the power depth"; "The same holds for the five pad bytes of an active entry: 16"
 unfoldable pub wellFormed : Entry → Bool
 wellFormed e =
     (leb 40 (e .psize) && leb (e .psize) 57344)
     && ((leb 1 (e .dsize) && leb (e .dsize) 57344)
-    && ((not (e .directory) || eqb (e .dsize % 40) 0) && (e .plain && leb (e .size) (e .dsize * pointers e ^ e .depth))))
-
--- "Pads are ignored"
-abbrev pub entryPadAllowed : Bytes → Bool
-entryPadAllowed b = true
+    && ((not (e .directory) || eqb (e .dsize % 40) 0)
+    && (e .plain && (e .clean && leb (e .size) (e .dsize * pointers e ^ e .depth)))))
 
 -- whether 40 bytes are a well-formed entry, if it is active
 abbrev pub entryAllowed : Bytes → Bool
-entryAllowed b = entryPadAllowed b && wellFormed (entryOf b)
+entryAllowed b = wellFormed (entryOf b)

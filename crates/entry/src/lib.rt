@@ -3,7 +3,8 @@ ghost use mathlib.Core.Path.{_≡_};
 ghost use Prim.Native.Nat.{_+_, _*_, _^_, _≤_, _<_};
 ghost use lib.Dec.{leb};
 ghost use lib.ListN.{length, take, drop};
-ghost use Rattle.entry.specs.Entry.{field, entryOf, wellFormed};
+ghost use Rattle.entry.specs.Entry.{field, padOf, entryOf, wellFormed};
+ghost use Rattle.buffer.specs.Bytes.{zeros};
 ghost use Rattle.entry.specs.Root.{rootWellFormed};
 
 // An entry without its score, which stays where it is: the 20 bytes at offset 20.
@@ -13,6 +14,8 @@ pub struct Entry {
     pub depth: usize,
     // None of the flags that must be clear is set.
     pub plain: bool,
+    // The pad is all zeros.
+    pub clean: bool,
     pub psize: usize,
     pub dsize: usize,
     pub size: u64,
@@ -27,6 +30,16 @@ fn number_at(s: &[u8], at: usize, width: usize) -> u64
     word::number::be_number(&s[at..end])
 }
 
+// Whether the pad of the entry at an offset is all zeros.
+fn is_clean(s: &[u8], at: usize) -> bool
+    requires { ⌜ at + 40 ≤ length (now s) ⌝ }
+    ensures { λ r. ⌜ r ≡ zeros (padOf (take 40 (drop at (now (s .entry))))) ⌝ }
+{
+    let from = at + 9;
+    let end = from + 5;
+    buffer::is_zero(&s[from..end])
+}
+
 // The entry of the 40 bytes at an offset.
 pub fn entry_at(s: &[u8], at: usize) -> Entry
     requires { ⌜ at + 40 ≤ length (now s) ⌝ }
@@ -36,11 +49,13 @@ pub fn entry_at(s: &[u8], at: usize) -> Entry
     let psize = number_at(s, at + 4, 2);
     let dsize = number_at(s, at + 6, 2);
     let size = number_at(s, at + 14, 6);
+    let clean = is_clean(s, at);
     Entry {
         active: flags % 2 == 1,
         directory: flags / 2 % 2 == 1,
         depth: (flags / 4 % 8) as usize,
         plain: flags / 32 % 8 == 0,
+        clean: clean,
         psize: psize as usize,
         dsize: dsize as usize,
         size: size,
@@ -88,6 +103,9 @@ pub fn is_well_formed(e: Entry) -> bool
         }
     }
     if !e.plain {
+        return false;
+    }
+    if !e.clean {
         return false;
     }
     holds(e.size, e.dsize as u64, (e.psize / 20) as u64, e.depth)

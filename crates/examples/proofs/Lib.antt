@@ -1,3 +1,4 @@
 pub mod Marked
 pub mod Messages
 pub mod Texts
+pub mod Pads

@@ -9,7 +9,7 @@ use lib.Dec.{leb, eqb}
 use borrow.Author.Tests.{leb-true, le-leb, lt-leb, eq-eqb, ne-eqb}
 use lib.ListN.{length, getD, take, drop, length-drop, drop-of-length-le}
 use lib.Seq.{length-take-le, take-nil}
-use Rattle.buffer.specs.Bytes.{Bytes, same}
+use Rattle.buffer.specs.Bytes.{Bytes, same, zeros}
 use Rattle.buffer.proofs.Bytes.{and-true}
 use Rattle.word.specs.Number.{beNumber}
 use Rattle.utf8.specs.Grammar.{wellFormed}
@@ -108,17 +108,27 @@ pub read-ill : (m : Bytes) → (length m ≡ 28 → ⊥) → Ill ≡ readOf m
 unfolding readOf
 read-ill m h = rw (ne-eqb (length m) 28 h)
 
-pub read-good : (m : Bytes) (n : ℕ) → length m ≡ 28 → n ≡ beNumber (take 2 (drop 26 m)) → Read (getD m 24 0) n ≡ readOf m
-unfolding readOf
-read-good m n h e = rw (eq-eqb (length m) 28 h, e)
+module _ (m : Bytes) (h : length m ≡ 28) (b : Bool) (z : b ≡ zeros (take 1 (drop 25 m))) where
+  pub read-padded : b ≡ false → Ill ≡ readOf m
+  unfolding readOf
+  read-padded e = rw (eq-eqb (length m) 28 h, ← z, e)
+
+  pub read-good : b ≡ true → (n : ℕ) → n ≡ beNumber (take 2 (drop 26 m)) → Read (getD m 24 0) n ≡ readOf m
+  unfolding readOf
+  read-good e n q = rw (eq-eqb (length m) 28 h, ← z, e, q)
 
 pub write-ill : (m : Bytes) → length m < 8 → Ill ≡ writeOf m
 unfolding writeOf
 write-ill m h = rw (lt-leb 8 (length m) h)
 
-pub write-good : (m : Bytes) → 8 ≤ length m → Write (getD m 4 0) ≡ writeOf m
-unfolding writeOf
-write-good m h = rw (le-leb 8 (length m) h)
+module _ (m : Bytes) (h : 8 ≤ length m) (b : Bool) (z : b ≡ zeros (take 3 (drop 5 m))) where
+  pub write-padded : b ≡ false → Ill ≡ writeOf m
+  unfolding writeOf
+  write-padded e = rw (le-leb 8 (length m) h, ← z, e)
+
+  pub write-good : b ≡ true → Write (getD m 4 0) ≡ writeOf m
+  unfolding writeOf
+  write-good e = rw (le-leb 8 (length m) h, ← z, e)
 
 -- ---- hello
 

@@ -7,7 +7,7 @@ use native.Mathlib.Omega.{arith}
 use lib.Dec.{leb, eqb}
 use borrow.Author.Tests.{leb-true, eqb-true}
 use lib.ListN.{length, getD, take, drop, length-take, length-drop}
-use Rattle.buffer.specs.Bytes.{Bytes}
+use Rattle.buffer.specs.Bytes.{Bytes, zeros}
 use Rattle.buffer.proofs.Bytes.{and-true, small-getD, small-take, small-drop}
 use Rattle.word.specs.Number.{beNumber, small}
 use Rattle.word.proofs.NumberLaws.{value-lt}
@@ -70,14 +70,14 @@ empty m e = cc
 read-asks : (m : Bytes) → Asks m (readOf m)
 unfolding readOf
 read-asks m =
-    cond-cases (Asks m) (eqb (length m) 28 && true) (Read (getD m 24 0) (beNumber (take 2 (drop 26 m)))) Ill
-    (λ t. (eqb-true (length m) 28 (and-true (eqb (length m) 28) true t .0), refl, refl)) tt
+    cond-cases (Asks m) (eqb (length m) 28 && zeros (take 1 (drop 25 m))) (Read (getD m 24 0) (beNumber (take 2 (drop 26 m)))) Ill
+    (λ t. (eqb-true (length m) 28 (and-true (eqb (length m) 28) _ t .0), refl, refl)) tt
 
 write-asks : (m : Bytes) → Asks m (writeOf m)
 unfolding writeOf
 write-asks m =
-    cond-cases (Asks m) (leb 8 (length m) && true) (Write (getD m 4 0)) Ill
-    (λ t. (leb-true 8 (length m) (and-true (leb 8 (length m)) true t .0), refl)) tt
+    cond-cases (Asks m) (leb 8 (length m) && zeros (take 3 (drop 5 m))) (Write (getD m 4 0)) Ill
+    (λ t. (leb-true 8 (length m) (and-true (leb 8 (length m)) _ t .0), refl)) tt
 
 pub request-asks : (m : Bytes) → Asks m (requestOf m)
 unfolding requestOf

@@ -1,9 +1,9 @@
 -- "Messages": how a message's bytes are taken apart.
-use mathlib.Core.Bool.{Bool, true, cond, _&&_}
+use mathlib.Core.Bool.{Bool, cond, _&&_}
 use Prim.Native.Nat.{ℕ, _+_, _-_}
 use lib.Dec.{leb, eqb}
 use lib.ListN.{length, getD, take, drop}
-use Rattle.buffer.specs.Bytes.{Bytes}
+use Rattle.buffer.specs.Bytes.{Bytes, zeros}
 use Rattle.word.specs.Number.{beNumber}
 use Rattle.utf8.specs.Grammar.{wellFormed}
 use Rattle.message.specs.declared.Request.{Request}
@@ -25,9 +25,9 @@ tagOf m = getD m 3 0
 abbrev pub isText : Bytes → Bool
 isText t = leb (length t) 1024 && wellFormed t
 
--- "Pads are ignored"
+-- "A read or write whose pad isn't all zeros is refused with 6"
 abbrev pub padAllowed : Bytes → Bool
-padAllowed p = true
+padAllowed p = zeros p
 
 -- "[s] is a two-byte count and text": where the text at `at` ends
 unfoldable pub textEnd : Bytes → ℕ → Next

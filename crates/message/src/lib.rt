@@ -120,6 +120,9 @@ fn read_of(m: &[u8]) -> Request
     if m.len() != 28 {
         return Request::Ill;
     }
+    if !buffer::is_zero(&m[25..26]) {
+        return Request::Ill;
+    }
     Request::Read {
         kind: m[24],
         count: word::number::be_number(&m[26..28]) as usize,
@@ -131,6 +134,9 @@ fn write_of(m: &[u8]) -> Request
     ensures { λ r. ⌜ r ≡ writeOf (now (m .entry)) ⌝ }
 {
     if m.len() < 8 {
+        return Request::Ill;
+    }
+    if !buffer::is_zero(&m[5..8]) {
         return Request::Ill;
     }
     Request::Write { kind: m[4] }

@@ -55,14 +55,14 @@ fn message(kind: u8, tag: u8, body: &[u8]) -> Vec<u8> {
 }
 
 fn write(kind: u8, tag: u8, data: &[u8]) -> Vec<u8> {
-    message(14, tag, &[&[kind, 1, 2, 3], data].concat())
+    message(14, tag, &[&[kind, 0, 0, 0], data].concat())
 }
 
 fn read(kind: u8, tag: u8, score: [u8; 20], count: u16) -> Vec<u8> {
     message(
         12,
         tag,
-        &[&score[..], &[kind, 9], &count.to_be_bytes()].concat(),
+        &[&score[..], &[kind, 0], &count.to_be_bytes()].concat(),
     )
 }
 
@@ -148,6 +148,9 @@ fn refusals_by_order() {
         (message(4, 5, &[0, 2, b'0', 0, 0, 0, 0, 0, 0]), 6),
         (message(4, 5, &[0, 2, b'0', b'2', 0, 0, 0, 0]), 6),
         (message(4, 5, &[0, 2, b'0', b'2', 0, 0, 0, 0, 0, 0]), 6),
+        (message(4, 5, &[0, 2, 0xc0, 0x80, 0, 0, 0, 0, 0]), 6),
+        (message(12, 5, &[&[1; 20][..], &[13, 9, 0, 1]].concat()), 6),
+        (message(14, 5, &[13, 0, 0, 3]), 6),
         (message(2, 5, b""), 7),
         (message(16, 5, b""), 7),
         (read(99, 5, [1; 20], 1), 7),

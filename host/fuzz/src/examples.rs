@@ -164,6 +164,70 @@ fn second_then_second() {
     });
 }
 
+/// Each byte of a read's and a write's pad: 6, whatever the block type, and before the hello too.
+#[test]
+fn pads_of_messages() {
+    on_both(|archive| {
+        let mut log = vec![0; SECTOR];
+        let mut reply = vec![0; 57_348];
+        let mut pads = vec![(read(13, b"x", 1), 25)];
+        pads.extend([5, 6, 7].map(|at| (write(13, b"x"), at)));
+        for (good, at) in pads {
+            for byte in 1..=255 {
+                let mut message = good.clone();
+                message[at] = byte;
+                let error = [0, 10, 1, 9, 0, 6, b'w', b'h', b'y', b'=', b'0', b'6'];
+                assert_eq!(ask(archive, &mut log, &message), (6, error.to_vec()));
+                let answer = archive.serve(Session::Fresh, &message, &mut log, &mut reply);
+                assert_eq!(answer, (6, Session::Fresh));
+                let kind = if message[2] == 12 { 24 } else { 4 };
+                message[kind] = 0;
+                assert_eq!(ask(archive, &mut log, &message).0, 6);
+                message[at] = 0;
+                assert_eq!(ask(archive, &mut log, &message).0, 9);
+            }
+        }
+        assert!(log.iter().all(|&byte| byte == 0));
+    });
+}
+
+/// Each byte of an active entry's pad: 16, in reading and in a walk. Gen, and what an inactive
+/// entry has, are anything.
+#[test]
+fn pads_of_entries() {
+    on_both(|archive| {
+        let walk = |archive: &mut dyn Archive, entry: &[u8]| {
+            let mut log = vec![0; 2 * SECTOR];
+            let mut root = vec![0, 2];
+            root.resize(258, 0);
+            root.extend(sha1(entry));
+            assert_eq!(ask(archive, &mut log, &write(2, entry)).0, 0);
+            assert_eq!(ask(archive, &mut log, &write(1, &root)).0, 0);
+            archive.walk(&log, &sha1(&root), 9)
+        };
+        let page = [0; 10];
+        let good = entry(1, 5, &ZERO_SCORE);
+        assert!(archive.locate(&[], &page, &good, 0).is_ok());
+        assert_eq!(walk(archive, &good), (0, 3));
+        for at in 0..40 {
+            for byte in [1, 128, 255] {
+                let mut entry = good.clone();
+                entry[at] = byte;
+                let pad = (9..14).contains(&at);
+                if pad || at < 4 {
+                    let run = archive.locate(&[], &page, &entry, 0);
+                    assert_eq!(run.err(), pad.then_some(16), "byte {at}");
+                    let answer = if pad { (16, 2) } else { (0, 3) };
+                    assert_eq!(walk(archive, &entry), answer, "byte {at}");
+                }
+                entry[8] = 0;
+                assert_eq!(archive.locate(&[], &page, &entry, 0), Err(16));
+                assert_eq!(walk(archive, &entry), (0, 2), "inactive, byte {at}");
+            }
+        }
+    });
+}
+
 #[test]
 fn counts_and_full_logs() {
     on_both(|archive| {

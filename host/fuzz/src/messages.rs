@@ -134,14 +134,14 @@ impl Pool {
         };
         let mut body = score.to_vec();
         body.push(kind);
-        body.push(random.byte());
+        body.extend(pad(random, 1));
         body.extend((count as u16).to_be_bytes());
         frame(12, random.byte(), &body)
     }
 
     pub fn write(&self, random: &mut Random) -> Vec<u8> {
         let mut body = vec![self.kind(random)];
-        body.extend(random.bytes(3));
+        body.extend(pad(random, 3));
         if !self.stored.is_empty() && random.percent(15) {
             let (kind, data, _) = &self.stored[random.below(self.stored.len())];
             body[0] = *kind;
@@ -190,6 +190,15 @@ pub fn data(random: &mut Random) -> Vec<u8> {
         _ => {}
     }
     data
+}
+
+/// A pad of so many bytes, now and then with a byte that isn't 0.
+pub fn pad(random: &mut Random, count: usize) -> Vec<u8> {
+    let mut pad = vec![0; count];
+    if random.percent(3) {
+        pad[random.below(count)] = random.mark();
+    }
+    pad
 }
 
 /// A message with its size, whatever that is.

@@ -72,6 +72,15 @@ pub fn reply_data(reply: &[u8]) -> usize {
     number(&reply[..2]) - 2
 }
 
+/// The bytes with a 0 at a place, if they reach there.
+pub fn without(bytes: &[u8], at: usize) -> Vec<u8> {
+    let mut patched = bytes.to_vec();
+    if let Some(byte) = patched.get_mut(at) {
+        *byte = 0;
+    }
+    patched
+}
+
 /// A hello with its texts altered.
 pub fn texts_altered(message: &[u8], alter: fn(&mut [u8])) -> Vec<u8> {
     let mut patched = message.to_vec();

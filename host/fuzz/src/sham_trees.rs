@@ -110,7 +110,13 @@ impl Walk<'_> {
                 entry(bytes)?;
             }
         }
-        for bytes in block.chunks(ENTRY).filter(|bytes| active(bytes)) {
+        for bytes in block.chunks(ENTRY) {
+            if !active(bytes) {
+                if self.broken == Broken::WalkJudgesInactive && bytes[9..14] != [0; 5] {
+                    return Err(16);
+                }
+                continue;
+            }
             let entry = match entry(bytes) {
                 Err(_) if self.broken == Broken::WalkSkipsIllFormed => continue,
                 entry => entry?,

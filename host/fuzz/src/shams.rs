@@ -10,7 +10,7 @@ use crate::archive::{Archive, Second};
 use crate::sham_texts::{no_overlong, no_surrogate, no_zero, not_cut_off, not_past_end};
 use crate::sham_tools::{
     lower_label, only_blank_doubts, records_and_doubtful, refit, refuse, reply_data, report_text,
-    serve_altered, texts_altered, Tests,
+    serve_altered, texts_altered, without, Tests,
 };
 use crate::sham_trees;
 
@@ -42,6 +42,10 @@ broken! {
     SurrogateAccepted,
     PastEndAccepted,
     CutOffAccepted,
+    ReadPadIgnored,
+    WritePadEndIgnored,
+    EntryPadEndIgnored,
+    WalkJudgesInactive,
     HoleReadAsZeros,
     WorksOnceThenPretends,
     InventedVisits,
@@ -127,6 +131,12 @@ impl Archive for Sham {
                     _ => message.to_vec(),
                 };
                 return Second.serve(session, &patched, log, reply);
+            }
+            Broken::ReadPadIgnored if request == Err(6) && message[2] == 12 => {
+                return Second.serve(session, &without(message, 25), log, reply);
+            }
+            Broken::WritePadEndIgnored if request == Err(6) && message[2] == 14 => {
+                return Second.serve(session, &without(message, 7), log, reply);
             }
             _ => Second.serve(session, message, log, reply),
         };
@@ -277,7 +287,10 @@ impl Archive for Sham {
     }
 
     fn locate(&mut self, log: &[u8], page: &[u8], entry: &[u8], offset: u64) -> Result<Run, u8> {
-        let answer = Second.locate(log, page, entry, offset);
+        let answer = match self.broken {
+            Broken::EntryPadEndIgnored => Second.locate(log, page, &without(entry, 13), offset),
+            _ => Second.locate(log, page, entry, offset),
+        };
         sham_trees::locate(answer, page, entry, offset, self.broken)
     }
 

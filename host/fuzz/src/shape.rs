@@ -2,6 +2,7 @@
 
 use second::Score;
 
+use crate::messages::pad;
 use crate::random::Random;
 
 /// The measures of a tree.
@@ -26,7 +27,8 @@ impl Shape {
         bytes
     }
 
-    /// An entry, mostly well-formed and active, of a size that its tree can have or nearly.
+    /// An entry, mostly well-formed and active, of a size that its tree can have or nearly. The pad
+    /// of an inactive one is anything.
     pub fn entry(&self, random: &mut Random, score: &Score) -> Vec<u8> {
         let fan = (self.psize / 20) as u128;
         let most = (self.dsize as u128 * fan.pow(self.depth as u32)).min((1 << 48) - 1) as u64;
@@ -38,9 +40,8 @@ impl Shape {
             _ => random.number() % (most + 1),
         };
         let mut bytes = self.bytes(score, size);
-        let gen_and_pad = random.bytes(9);
-        bytes[..4].copy_from_slice(&gen_and_pad[..4]);
-        bytes[9..14].copy_from_slice(&gen_and_pad[4..]);
+        bytes[..4].copy_from_slice(&random.bytes(4));
+        bytes[9..14].copy_from_slice(&pad(random, 5));
         match random.below(60) {
             0 => bytes[8] |= 0x20 << random.below(3),
             1 => bytes[4..6].copy_from_slice(&[0, 39]),
@@ -48,7 +49,10 @@ impl Shape {
             3 => bytes[6..8].copy_from_slice(&[0, 0]),
             4 => bytes[6..8].copy_from_slice(&[0xe0, 1]),
             5 => bytes[7] = bytes[7].wrapping_add(1),
-            6..=9 => bytes[8] &= !1,
+            6..=9 => {
+                bytes[8] &= !1;
+                bytes[9..14].copy_from_slice(&random.bytes(5));
+            }
             10 => bytes[8] = random.byte(),
             _ => {}
         }

@@ -101,7 +101,7 @@ fn body(request: u8, bytes: &[u8]) -> Option<Body<'_>> {
         2 => bytes.is_empty().then_some(Body::Ping),
         4 => hello(bytes),
         6 => bytes.is_empty().then_some(Body::Goodbye),
-        12 if bytes.len() == 24 => {
+        12 if bytes.len() == 24 && bytes[21] == 0 => {
             let mut score = [0; 20];
             score.copy_from_slice(&bytes[..20]);
             Some(Body::Read {
@@ -110,7 +110,7 @@ fn body(request: u8, bytes: &[u8]) -> Option<Body<'_>> {
                 count: number(&bytes[22..24]),
             })
         }
-        14 if bytes.len() >= 4 => Some(Body::Write {
+        14 if bytes.len() >= 4 && bytes[1..4] == [0; 3] => Some(Body::Write {
             kind: bytes[0],
             data: &bytes[4..],
         }),

@@ -47,6 +47,7 @@ pub fn entry(bytes: &[u8]) -> Result<Entry, u8> {
         && (1..=57_344).contains(&entry.dsize)
         && (!entry.directory || entry.dsize.is_multiple_of(40))
         && flags & 0b1110_0000 == 0
+        && bytes[9..14] == [0; 5]
         && u128::from(entry.size) <= entry.dsize as u128 * entry.fan().pow(entry.depth);
     if well_formed {
         Ok(entry)

@@ -28,11 +28,15 @@ add-number-at-4 c = search needs
 number-at-requires-4 : tie.Need-number-at-requires-4
 number-at-requires-4 c κs = search needs
 
+is-clean-requires : tie.Need-is-clean-requires
+is-clean-requires c κs = search needs
+
 returns : tie.Need-returns
 returns c =
-    let a = c .before .before .before .before .before .args in
-    entry-fields (a .s .now) (a .at) (c .before .before .before .number-at .result) (c .before .before .number-at2 .result) (c .before .number-at3 .result) (c .number-at4 .result)
-    (c .before .before .before .number-at .ensures) (c .before .before .number-at2 .ensures) (c .before .number-at3 .ensures) (c .number-at4 .ensures)
+    let n = c .before in
+    let a = n .before .before .before .before .before .args in
+    entry-fields (a .s .now) (a .at) (n .before .before .before .number-at .result) (n .before .before .number-at2 .result) (n .before .number-at3 .result) (n .number-at4 .result) (c .is-clean .result)
+    (n .before .before .before .number-at .ensures) (n .before .before .number-at2 .ensures) (n .before .number-at3 .ensures) (n .number-at4 .ensures) (c .is-clean .ensures)
 
 pub entry-at-spec : {M : Type 1} → statement M
 entry-at-spec =
@@ -46,4 +50,5 @@ entry-at-spec =
     number-at-requires-3
     add-number-at-4
     number-at-requires-4
+    is-clean-requires
     returns)

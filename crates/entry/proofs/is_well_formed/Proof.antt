@@ -3,7 +3,7 @@ use mathlib.Core.Path.{_∙_}
 use mathlib.Core.Logic.{⊎-elim}
 use native.Mathlib.Omega.{arith}
 use borrow.Author.Tests.{not-true, not-false}
-use Rattle.entry.proofs.Tests.{psize-under, psize-over, dsize-under, dsize-over, dsize-ragged, flagged, in-room, entries-whole, entries-none}
+use Rattle.entry.proofs.Tests.{psize-under, psize-over, dsize-under, dsize-over, dsize-ragged, flagged, unclean, in-room, entries-whole, entries-none}
 use borrow.Author.Needs.{needs}
 use Rattle.entry.proofs.is_well_formed.Statement.{statement}
 use Rattle.entry.proofs.is_well_formed.Tie as tie
@@ -25,23 +25,29 @@ returns-5 c = dsize-ragged (c .before .before .before .before .before .before .b
 
 returns-6 : tie.Need-returns-6
 returns-6 c =
-    let a = c .before .before .before .before .before .before .before .before .before .before .before .args in
-    flagged (a .e) (c .before .before .before .before .before .before .before .before .before .if1 .left) (c .before .before .before .before .before .before .before .if2 .left) (c .before .before .before .before .before .if3 .left) (c .before .before .before .if4 .left)
-    (⊎-elim (λ w. entries-whole (a .e .directory) (a .e .dsize) (w .0 .taken) (omega (arith, w .2 .left))) (λ w. entries-none (a .e .directory) (a .e .dsize) (w .left)) (c .before .before .if5 .came))
-    (not-true _ (c .if7 .taken))
+    let t = c .before .before in
+    let e = t .before .before .before .before .before .before .before .before .before .args .e in
+    let d = ⊎-elim (λ w. entries-whole (e .directory) (e .dsize) (w .0 .taken) (omega (arith, w .2 .left))) (λ w. entries-none (e .directory) (e .dsize) (w .left)) (t .if5 .came) in
+    flagged e (t .before .before .before .before .before .before .before .if1 .left) (t .before .before .before .before .before .if2 .left) (t .before .before .before .if3 .left) (t .before .if4 .left) d (not-true _ (c .if7 .taken))
+
+returns-7 : tie.Need-returns-7
+returns-7 c =
+    let t = c .before .before .before .before in
+    let e = t .before .before .before .before .before .before .before .before .before .args .e in
+    let d = ⊎-elim (λ w. entries-whole (e .directory) (e .dsize) (w .0 .taken) (omega (arith, w .2 .left))) (λ w. entries-none (e .directory) (e .dsize) (w .left)) (t .if5 .came) in
+    unclean e (t .before .before .before .before .before .before .before .if1 .left) (t .before .before .before .before .before .if2 .left) (t .before .before .before .if3 .left) (t .before .if4 .left) d (not-false _ (c .before .before .if7 .left)) (not-true _ (c .if8 .taken))
 
 holds-requires : tie.Need-holds-requires
 holds-requires c κs = search needs
 
-returns-7 : tie.Need-returns-7
-returns-7 c =
-    let a = c .before .before .before .before .before .before .before .before .before .before .before .before .before .args in
-    c .holds .ensures
-    ∙ in-room (a .e) (c .before .before .before .before .before .before .before .before .before .before .before .if1 .left) (c .before .before .before .before .before .before .before .before .before .if2 .left) (c .before .before .before .before .before .before .before .if3 .left) (c .before .before .before .before .before .if4 .left)
-    (⊎-elim (λ w. entries-whole (a .e .directory) (a .e .dsize) (w .0 .taken) (omega (arith, w .2 .left))) (λ w. entries-none (a .e .directory) (a .e .dsize) (w .left)) (c .before .before .before .before .if5 .came))
-    (not-false _ (c .before .before .if7 .left))
+returns-8 : tie.Need-returns-8
+returns-8 c =
+    let t = c .before .before .before .before .before .before in
+    let e = t .before .before .before .before .before .before .before .before .before .args .e in
+    let d = ⊎-elim (λ w. entries-whole (e .directory) (e .dsize) (w .0 .taken) (omega (arith, w .2 .left))) (λ w. entries-none (e .directory) (e .dsize) (w .left)) (t .if5 .came) in
+    c .holds .ensures ∙ in-room e (t .before .before .before .before .before .before .before .if1 .left) (t .before .before .before .before .before .if2 .left) (t .before .before .before .if3 .left) (t .before .if4 .left) d (not-false _ (c .before .before .before .before .if7 .left)) (not-false _ (c .before .before .if8 .left))
 
 pub is-well-formed-spec : {M : Type 1} → statement M
 is-well-formed-spec =
     tie.close
-    (tie.spec returns returns-2 returns-3 returns-4 returns-5 returns-6 holds-requires returns-7)
+    (tie.spec returns returns-2 returns-3 returns-4 returns-5 returns-6 returns-7 holds-requires returns-8)
