@@ -39,7 +39,7 @@ const REFUSALS: [Words; 23] = [
     ),
     words(
         "ill-formed body",
-        "the message's body isn't laid out as its type asks, or isn't used up exactly",
+        "the message's body isn't laid out as its type asks (texts UTF-8, pads zero), or isn't used up exactly",
         "Mend the sender.",
     ),
     words(
@@ -93,7 +93,7 @@ const REFUSALS: [Words; 23] = [
     ),
     words(
         "ill-formed entry or root",
-        "an entry has 40 bytes, is active and its fields agree; a root has version 2",
+        "an entry has 40 bytes, is active, its pad is zero and its fields agree; a root has version 2",
         "Check where these bytes come from.",
     ),
     words(
