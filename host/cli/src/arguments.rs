@@ -3,8 +3,8 @@
 use std::ffi::{OsStr, OsString};
 use std::path::Path;
 
+use crate::format::Score;
 use crate::hex;
-use crate::session::Score;
 use crate::status::Failure;
 
 /// What a command takes.

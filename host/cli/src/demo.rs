@@ -9,8 +9,8 @@ use std::path::{Path, PathBuf};
 
 use crate::arguments::Arguments;
 use crate::command;
+use crate::format::SECTOR;
 use crate::hex;
-use crate::log_file::SECTOR;
 use crate::status::{Failure, CLAIM_FAILED, DONE, NOT_HELD, NOT_KNOWN, VERDICT_NOT_KNOWN};
 use crate::streams::Streams;
 use crate::unique;
@@ -160,6 +160,7 @@ impl Demo<'_, '_> {
             err: &mut err,
             out_terminal: false,
             err_terminal: false,
+            progress: false,
         };
         let status = command::run(&full, &mut streams);
         let folder = format!("{}/", self.folder.display());

@@ -5,8 +5,9 @@ use std::os::unix::fs::FileExt;
 use std::path::Path;
 
 use crate::arguments::Arguments;
+use crate::format::{used, SECTOR};
 use crate::lock;
-use crate::log_file::{self, SECTOR};
+use crate::log_file;
 use crate::loss::Loss;
 use crate::mark::{self, Mark};
 use crate::sectors;
@@ -30,13 +31,13 @@ pub fn run(arguments: &Arguments, streams: &mut Streams) -> Result<u8, Failure> 
     let mut bytes = log_file::load(&file, path, Some(mark), streams)?.bytes;
     let length = bytes.len() as u64;
     let marked = mark.sectors * SECTOR;
-    let loss = Loss::new(mark, Some(length), log_file::used(&bytes));
+    let loss = Loss::new(mark, Some(length), used(&bytes));
     if loss.cut() {
         let zeros = vec![0; marked - bytes.len()];
         file.write_all_at(&zeros, length).map_err(failed)?;
         bytes.resize(marked, 0);
     }
-    if log_file::used(&bytes) < mark.used {
+    if used(&bytes) < mark.used {
         let at = (mark.used - 1) * SECTOR;
         let doubt = sectors::unsound(SENTENCE);
         file.write_all_at(&doubt, at as u64).map_err(failed)?;

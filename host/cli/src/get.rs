@@ -1,8 +1,9 @@
 //! `get`: a block's bytes.
 
 use crate::arguments::Arguments;
+use crate::format::MOST_DATA;
 use crate::log_file;
-use crate::session::{Client, MOST_DATA};
+use crate::session::Client;
 use crate::status::{Failure, DONE};
 use crate::streams::Streams;
 

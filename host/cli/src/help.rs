@@ -65,7 +65,8 @@ two write nothing to standard output.
 pub const SERVE: &str = "\
 Reads framed messages (size[2] type[1] tag[1] body) from standard input and writes the replies to
 standard output, until a goodbye or the end of input, so that any transport can carry it: a pipe,
-ssh, an inetd. An appended block is on disk before its reply is written. One writer at a time.
+ssh, an inetd. A write is answered when its block is on disk: also one that is held already is looked
+at there, and stored anew where it was damaged meanwhile. One writer at a time.
 Input that ends inside a message is status 1.
   --adopt    take a log without a good mark as it is, and mark it
 ";

@@ -6,9 +6,9 @@ use std::os::unix::fs::FileExt;
 use std::path::Path;
 
 use crate::arguments::Arguments;
+use crate::format::{MOST_SECTORS, SECTOR};
 use crate::lock;
-use crate::log_file::SECTOR;
-use crate::mark::{self, Mark, MOST_SECTORS};
+use crate::mark::{self, Mark};
 use crate::status::{Failure, DONE, EXISTS};
 use crate::streams::Streams;
 

@@ -5,28 +5,18 @@ use std::io;
 use std::os::unix::fs::FileExt;
 use std::path::Path;
 
+use crate::format::{allowed, used, SECTOR};
 use crate::loss::Loss;
-use crate::mark::{self, Found, Mark, MOST_SECTORS};
+use crate::mark::{self, Found, Mark};
 use crate::sectors::{self, Loaded};
 use crate::status::{Failure, MISSING};
 use crate::streams::Streams;
 use crate::writer::Writer;
 
-/// Bytes in a sector.
-pub const SECTOR: usize = 512;
-
-pub const BLANK: [u8; SECTOR] = [0; SECTOR];
-
-/// The sectors of the used part.
-pub fn used(log: &[u8]) -> usize {
-    let last = log.chunks_exact(SECTOR).rposition(|sector| sector != BLANK);
-    last.map_or(0, |last| last + 1)
-}
-
 /// Reads a log that fits its mark. With `adopt`, a log without a good mark gets one first.
 pub fn read(path: &Path, adopt: bool, streams: &mut Streams) -> Result<Vec<u8>, Failure> {
     if adopt {
-        return Ok(Writer::open(path, true, streams)?.bytes);
+        return Ok(Writer::open(path, true, streams)?.bytes());
     }
     is_file(path)?;
     // The mark first: then an append that goes on meanwhile never looks like a loss.
@@ -38,7 +28,7 @@ pub fn read(path: &Path, adopt: bool, streams: &mut Streams) -> Result<Vec<u8>, 
         // A crash came before the mark: without it, a block that is read now could later be lost
         // unseen. Where this reader can't write, or a writer is at work, it goes on.
         if let Ok(log) = Writer::open(path, false, streams) {
-            return Ok(log.bytes);
+            return Ok(log.bytes());
         }
     }
     Ok(bytes)
@@ -107,11 +97,6 @@ fn no_log(path: &Path, length: u64, mark: Option<Mark>) -> Failure {
         );
     }
     failure
-}
-
-/// Test 3.
-fn allowed(length: u64) -> bool {
-    length.is_multiple_of(SECTOR as u64) && length / SECTOR as u64 <= MOST_SECTORS as u64
 }
 
 /// Whether the log has all that its mark says.

@@ -1,9 +1,11 @@
 //! Skywimple's command-line program, over the proved archive.
 
 mod arguments;
+mod blocks;
 mod command;
 mod demo;
 mod doubt;
+mod format;
 mod get;
 mod help;
 mod hex;
@@ -50,6 +52,7 @@ fn main() -> ExitCode {
         err: &mut io::stderr(),
         out_terminal,
         err_terminal,
+        progress: false,
     };
     // Not through `Stdout`, which would cut replies at each line's end: a reply is one write.
     let status = match io::stdout().as_fd().try_clone_to_owned() {

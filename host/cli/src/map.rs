@@ -2,11 +2,9 @@
 
 use std::fmt::Write;
 
-use crate::log_file::{self, SECTOR};
+use crate::format::{sectors_of, used, SECTOR};
 use skywimple_archive::sound_at;
 
-/// Bytes of payload in a sector.
-const PAYLOAD: usize = 403;
 /// The most rows that a map is drawn in.
 const MOST_ROWS: usize = 16;
 
@@ -35,14 +33,14 @@ pub struct Scaled {
 impl Map {
     /// The map of a log, or the refusal's number.
     pub fn of(log: &[u8]) -> Result<Map, u8> {
-        let used = log_file::used(log);
+        let used = used(log);
         let mut sectors = vec![Cell::Blank; log.len() / SECTOR];
         let mut next = 0;
         while next < used {
             let size = sound_at(log, next)?;
             let (end, cell) = match size {
                 0 => (next + 1, Cell::Doubtful),
-                size => (next + size.div_ceil(PAYLOAD), Cell::Sound),
+                size => (next + sectors_of(size), Cell::Sound),
             };
             sectors[next..end].fill(cell);
             next = end;

@@ -11,12 +11,10 @@ use std::path::{Path, PathBuf};
 
 use skywimple_archive::crc32;
 
+use crate::format::MOST_SECTORS;
 use crate::hex;
 use crate::status::{Failure, MISSING, UNFIT};
 use crate::unique;
-
-/// The most sectors a log may have.
-pub const MOST_SECTORS: usize = 131_072;
 
 const LENGTH: usize = 16 + 1 + 13 + 1 + 12 + 1;
 

@@ -6,8 +6,9 @@ use std::io::{self, Read};
 use std::path::Path;
 
 use crate::arguments::Arguments;
+use crate::format::{Score, MOST_DATA};
 use crate::hex;
-use crate::session::{Client, Score, MOST_DATA};
+use crate::session::Client;
 use crate::status::{Failure, DONE};
 use crate::streams::Streams;
 use crate::writer::Writer;
@@ -25,21 +26,21 @@ pub fn run(arguments: &Arguments, streams: &mut Streams) -> Result<u8, Failure> 
         _ => None,
     };
     let mut log = Writer::open(arguments.path(0), arguments.flag("--adopt"), streams)?;
-    let mut client = Client::greet(&mut log.bytes)?;
+    let mut client = Client::greet_writer(&mut log, streams)?;
 
     let mut status = DONE;
     for file in files {
         let block = early.take();
         let block = block.unwrap_or_else(|| read_block(file, streams.input));
-        let stored = block.and_then(|block| {
-            let score = client.write(&mut log.bytes, kind, &block);
-            score.map_err(|number| Failure::refused_about(number, shown(file)))
-        });
-        match stored {
-            Ok(score) => {
-                log.keep()?;
-                streams.answer(&line(&score, file, files.len() > 1))?;
+        let stored = match block {
+            Ok(block) => {
+                let stored = client.store(&mut log, kind, &block, streams)?;
+                stored.map_err(|number| Failure::refused_about(number, shown(file)))
             }
+            Err(failure) => Err(failure),
+        };
+        match stored {
+            Ok(score) => streams.answer(&line(&score, file, files.len() > 1))?,
             Err(failure) => {
                 streams.tell(&failure.words);
                 if status == DONE {

@@ -7,19 +7,16 @@ use std::path::Path;
 use skywimple_archive::{locate, sound_at, Run};
 
 use crate::arguments::Arguments;
+use crate::format::{LABEL, MOST_DATA, PAYLOAD, SECTOR};
 use crate::hex;
-use crate::log_file::{self, SECTOR};
+use crate::log_file;
 use crate::progress::Progress;
-use crate::session::MOST_DATA;
 use crate::status::{Failure, DONE};
 use crate::streams::Streams;
 use crate::words;
 
 /// Bytes in an entry.
 const ENTRY: usize = 40;
-/// Bytes in a sector's label, and in its payload.
-const LABEL: usize = 96;
-const PAYLOAD: usize = 403;
 /// The number of an offset at or past the file's size.
 const PAST_THE_END: u8 = 17;
 
@@ -28,7 +25,7 @@ pub fn run(arguments: &Arguments, streams: &mut Streams) -> Result<u8, Failure> 
     let log = log_file::read(arguments.path(0), arguments.flag("--adopt"), streams)?;
     let mut progress = Progress::start();
     let ended = copy(&log, &entry, &mut progress, streams);
-    progress.clear(streams);
+    streams.clear_progress();
     streams.out.flush().map_err(Failure::output)?;
     ended
 }

@@ -2,7 +2,7 @@
 
 use std::io::{self, ErrorKind};
 
-use crate::log_file::SECTOR;
+use crate::format::SECTOR;
 
 pub struct Loaded {
     pub bytes: Vec<u8>,

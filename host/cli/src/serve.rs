@@ -17,7 +17,7 @@ pub fn run(arguments: &Arguments, streams: &mut Streams) -> Result<u8, Failure> 
     let mut log = Writer::open(arguments.path(0), arguments.flag("--adopt"), streams)?;
     let mut progress = Progress::start();
     let ended = talk(&mut log, &mut progress, streams);
-    progress.clear(streams);
+    streams.clear_progress();
     ended
 }
 
@@ -38,14 +38,13 @@ fn talk(log: &mut Writer, progress: &mut Progress, streams: &mut Streams) -> Res
             }
             Err(e) => return Err(Failure::disk("read", Path::new("standard input"), &e)),
         };
-        let number;
-        (number, session) = skywimple_archive::serve(session, &message, &mut log.bytes, &mut reply);
         // On disk before the reply.
-        appended += log.keep()?;
+        let served = log.serve(session, &message, &mut reply, streams)?;
+        session = served.session;
+        appended += served.appended;
         requests += 1;
-        if (1..=4).contains(&number) {
-            progress.clear(streams);
-            let words = words::refusal(number);
+        if (1..=4).contains(&served.number) {
+            let words = words::refusal(served.number);
             streams.tell(&format!("message {requests} was not answered: {words}"));
         } else if session != Session::Closed {
             streams.answer(whole_reply(&reply))?;

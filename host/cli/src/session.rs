@@ -2,14 +2,13 @@
 
 use skywimple_archive::{serve, Session};
 
+use crate::format::Score;
 use crate::status::Failure;
+use crate::streams::Streams;
+use crate::writer::Writer;
 
 /// The bytes that a reply buffer needs.
 pub const REPLY: usize = 57_348;
-/// The most bytes a block may have.
-pub const MOST_DATA: usize = 57_344;
-
-pub type Score = [u8; 20];
 
 const HELLO: [u8; 13] = [0, 11, 4, 0, 0, 2, b'0', b'2', 0, 0, 0, 0, 0];
 const READ: u8 = 12;
@@ -31,13 +30,40 @@ impl Client {
         Ok(client)
     }
 
-    /// Stores a block of at most 65,529 bytes. Gives its score, or the refusal's number.
+    /// A session with a log on disk that said hello.
+    pub fn greet_writer(log: &mut Writer, streams: &mut Streams) -> Result<Client, Failure> {
+        let mut reply = vec![0; REPLY];
+        let served = log.serve(Session::Fresh, &HELLO, &mut reply, streams)?;
+        if served.number != 0 {
+            return Err(Failure::refused(served.number));
+        }
+        Ok(Client {
+            session: served.session,
+            reply,
+        })
+    }
+
+    /// Has a block of at most 65,529 bytes on disk. Gives its score, or the refusal's number.
+    pub fn store(
+        &mut self,
+        log: &mut Writer,
+        kind: u8,
+        data: &[u8],
+        streams: &mut Streams,
+    ) -> Result<Result<Score, u8>, Failure> {
+        let message = write_message(kind, data);
+        let served = log.serve(self.session, &message, &mut self.reply, streams)?;
+        Ok(match served.number {
+            0 => Ok(score_in(&self.reply)),
+            number => Err(number),
+        })
+    }
+
+    /// Stores a block of at most 65,529 bytes in memory. Gives its score, or the refusal's number.
+    #[cfg(test)]
     pub fn write(&mut self, log: &mut [u8], kind: u8, data: &[u8]) -> Result<Score, u8> {
-        let body = [&[kind, 0, 0, 0], data].concat();
-        let reply = self.ask(log, &message(WRITE, &body))?;
-        let mut score = [0; 20];
-        score.copy_from_slice(reply);
-        Ok(score)
+        self.ask(log, &write_message(kind, data))?;
+        Ok(score_in(&self.reply))
     }
 
     /// A block's bytes, or the refusal's number.
@@ -67,6 +93,25 @@ impl Client {
 pub fn whole_reply(buffer: &[u8]) -> &[u8] {
     let size = usize::from(u16::from_be_bytes([buffer[0], buffer[1]]));
     &buffer[..2 + size]
+}
+
+/// The type and score of the block that an accepted request wrote, if it was a write.
+pub fn stored(message: &[u8], reply: &[u8]) -> Option<(u8, Score)> {
+    match message {
+        [_, _, WRITE, _, kind, ..] => Some((*kind, score_in(reply))),
+        _ => None,
+    }
+}
+
+/// The score that the reply to a write gives.
+fn score_in(reply: &[u8]) -> Score {
+    let mut score = [0; 20];
+    score.copy_from_slice(&reply[4..24]);
+    score
+}
+
+fn write_message(kind: u8, data: &[u8]) -> Vec<u8> {
+    message(WRITE, &[&[kind, 0, 0, 0], data].concat())
 }
 
 fn message(kind: u8, body: &[u8]) -> Vec<u8> {

@@ -10,6 +10,8 @@ pub struct Streams<'a> {
     pub err: &'a mut dyn Write,
     pub out_terminal: bool,
     pub err_terminal: bool,
+    /// Whether a line of progress stands on the terminal, to be taken away before anything is told.
+    pub progress: bool,
 }
 
 impl Streams<'_> {
@@ -26,7 +28,23 @@ impl Streams<'_> {
 
     /// The same, without the name in front.
     pub fn tell_plain(&mut self, text: &str) {
+        self.clear_progress();
         let _ = self.err.write_all(text.as_bytes());
         let _ = self.err.flush();
+    }
+
+    /// Shows how far the work has come, in place of what was shown before.
+    pub fn show_progress(&mut self, line: &str) {
+        let _ = write!(self.err, "\r\x1b[K{line}");
+        let _ = self.err.flush();
+        self.progress = true;
+    }
+
+    pub fn clear_progress(&mut self) {
+        if self.progress {
+            let _ = write!(self.err, "\r\x1b[K");
+            let _ = self.err.flush();
+            self.progress = false;
+        }
     }
 }

@@ -1,0 +1,42 @@
+//! The layout of a log: its sizes, its used part, and what a sector's label says.
+
+use crate::hex;
+
+/// Bytes in a sector, in its label and in its payload.
+pub const SECTOR: usize = 512;
+pub const LABEL: usize = 96;
+pub const PAYLOAD: usize = 403;
+/// The most sectors a log may have.
+pub const MOST_SECTORS: usize = 131_072;
+/// The most bytes a block may have.
+pub const MOST_DATA: usize = 57_344;
+
+pub const BLANK: [u8; SECTOR] = [0; SECTOR];
+
+pub type Score = [u8; 20];
+
+/// The sectors of the used part.
+pub fn used(log: &[u8]) -> usize {
+    let last = log.chunks_exact(SECTOR).rposition(|sector| sector != BLANK);
+    last.map_or(0, |last| last + 1)
+}
+
+/// The sectors that a block of so many bytes takes.
+pub fn sectors_of(size: usize) -> usize {
+    size.div_ceil(PAYLOAD)
+}
+
+/// Test 3, of a length in bytes.
+pub fn allowed(length: u64) -> bool {
+    length.is_multiple_of(SECTOR as u64) && length / SECTOR as u64 <= MOST_SECTORS as u64
+}
+
+/// What the label of a block's sector says of the block: its type's digits and its score's.
+pub fn named(sector: &[u8]) -> (&[u8], &[u8]) {
+    (&sector[36..38], &sector[55..95])
+}
+
+/// The digits that a label has for a type and a score.
+pub fn digits(kind: u8, score: &Score) -> (String, String) {
+    (hex::encode(&[kind]), hex::encode(score))
+}
