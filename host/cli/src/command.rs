@@ -59,10 +59,10 @@ pub const COMMANDS: [Command; 9] = [
     },
     Command {
         name: "serve",
-        usage: "LOG [--adopt]",
+        usage: "LOG [--read-only | [--wait SECONDS] [--adopt]]",
         summary: "answer Venti messages from standard input",
         details: help::SERVE,
-        syntax: syntax(&["--adopt"], &[], 1, 1),
+        syntax: syntax(&["--adopt", "--read-only"], &["--wait"], 1, 1),
         run: serve::run,
     },
     Command {

@@ -3,6 +3,7 @@
 use std::fs::OpenOptions;
 use std::os::unix::fs::FileExt;
 use std::path::Path;
+use std::time::Duration;
 
 use crate::arguments::Arguments;
 use crate::format::{used, SECTOR};
@@ -23,7 +24,7 @@ pub fn run(arguments: &Arguments, streams: &mut Streams) -> Result<u8, Failure> 
     Mark::require(path)?;
     let mut options = OpenOptions::new();
     let options = options.read(true).write(true).create(true).truncate(false);
-    let file = lock::open(options, path)?;
+    let file = lock::open(options, path, Duration::ZERO, streams)?;
     // Again, now that no writer can renew it.
     let mark = Mark::require(path)?;
     let failed = |e| Failure::disk("mend", path, &e);

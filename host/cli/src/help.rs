@@ -66,9 +66,12 @@ pub const SERVE: &str = "\
 Reads framed messages (size[2] type[1] tag[1] body) from standard input and writes the replies to
 standard output, until a goodbye or the end of input, so that any transport can carry it: a pipe,
 ssh, an inetd. A write is answered when its block is on disk: also one that is held already is looked
-at there, and stored anew where it was damaged meanwhile. One writer at a time.
-Input that ends inside a message is status 1.
-  --adopt    take a log without a good mark as it is, and mark it
+at there, and stored anew where it was damaged meanwhile. Input that ends inside a message is
+status 1. One writer at a time: while another holds the log, the status is 75.
+  --read-only     many at once, and beside a writer, whose blocks are found as soon as it has answered
+                  for them. Nothing is ever written: a new block is refused with 14 (no room)
+  --wait SECONDS  how long another writer may still hold the log before it is status 75 (default 0)
+  --adopt         take a log without a good mark as it is, and mark it
 ";
 
 pub const DOUBT: &str = "\

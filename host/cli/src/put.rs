@@ -26,7 +26,7 @@ pub fn run(arguments: &Arguments, streams: &mut Streams) -> Result<u8, Failure> 
         _ => None,
     };
     let mut log = Writer::open(arguments.path(0), arguments.flag("--adopt"), streams)?;
-    let mut client = Client::greet_writer(&mut log, streams)?;
+    let mut client = Client::greet_on_disk(&mut log, streams)?;
 
     let mut status = DONE;
     for file in files {

@@ -1,6 +1,8 @@
 //! Reads a log, also where some of its sectors cannot be read.
 
+use std::fs::File;
 use std::io::{self, ErrorKind};
+use std::os::unix::fs::FileExt;
 
 use crate::format::SECTOR;
 
@@ -38,6 +40,11 @@ pub fn load(read_at: impl Fn(&mut [u8], u64) -> io::Result<usize>, length: u64) 
     }
     bytes.truncate(end);
     Loaded { bytes, unreadable }
+}
+
+/// The same from some byte of a file on.
+pub fn load_from(file: &File, start: u64, length: usize) -> Loaded {
+    load(|buffer, at| file.read_at(buffer, start + at), length as u64)
 }
 
 /// Reads until the buffer is full or the file ends, and gives the count of bytes.

@@ -2,27 +2,56 @@
 
 use std::io::{self, Read};
 use std::path::Path;
+use std::time::Duration;
 
 use skywimple_archive::Session;
 
 use crate::arguments::Arguments;
 use crate::progress::Progress;
-use crate::session::{whole_reply, REPLY};
+use crate::reader::Reader;
+use crate::session::{whole_reply, Answers, REPLY};
 use crate::status::{Failure, DONE};
 use crate::streams::Streams;
 use crate::words;
 use crate::writer::Writer;
 
 pub fn run(arguments: &Arguments, streams: &mut Streams) -> Result<u8, Failure> {
-    let mut log = Writer::open(arguments.path(0), arguments.flag("--adopt"), streams)?;
+    let mut log = open(arguments, streams)?;
     let mut progress = Progress::start();
-    let ended = talk(&mut log, &mut progress, streams);
+    let ended = talk(&mut *log, &mut progress, streams);
     streams.clear_progress();
     ended
 }
 
+/// The log, to be written too unless it is only to be read.
+fn open(arguments: &Arguments, streams: &mut Streams) -> Result<Box<dyn Answers>, Failure> {
+    let path = arguments.path(0);
+    let adopt = arguments.flag("--adopt");
+    let wait = arguments.number("--wait")?;
+    if arguments.flag("--read-only") {
+        if adopt {
+            return Err(Failure::usage(
+                "--read-only writes nothing, so --adopt has no place beside it",
+            ));
+        }
+        if wait.is_some() {
+            return Err(Failure::usage(
+                "--read-only takes no lock, so there is nothing to --wait for",
+            ));
+        }
+        return Ok(Box::new(Reader::open(path, streams)?));
+    }
+    let wait = Duration::from_secs(wait.unwrap_or(0));
+    let log = Writer::open_within(wait, path, adopt, streams)?;
+    Ok(Box::new(log))
+}
+
 /// Answers requests until goodbye or the end of input.
-fn talk(log: &mut Writer, progress: &mut Progress, streams: &mut Streams) -> Result<u8, Failure> {
+fn talk(
+    log: &mut dyn Answers,
+    progress: &mut Progress,
+    streams: &mut Streams,
+) -> Result<u8, Failure> {
     let mut session = Session::Fresh;
     let mut reply = vec![0; REPLY];
     let (mut requests, mut appended) = (0_u64, 0);

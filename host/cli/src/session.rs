@@ -5,7 +5,6 @@ use skywimple_archive::{serve, Session};
 use crate::format::Score;
 use crate::status::Failure;
 use crate::streams::Streams;
-use crate::writer::Writer;
 
 /// The bytes that a reply buffer needs.
 pub const REPLY: usize = 57_348;
@@ -13,6 +12,28 @@ pub const REPLY: usize = 57_348;
 const HELLO: [u8; 13] = [0, 11, 4, 0, 0, 2, b'0', b'2', 0, 0, 0, 0, 0];
 const READ: u8 = 12;
 const WRITE: u8 = 14;
+
+/// What came of a request.
+pub struct Served {
+    /// The refusal's number, 0 for none.
+    pub number: u8,
+    /// The session afterwards.
+    pub session: Session,
+    /// The sectors that were appended.
+    pub appended: usize,
+}
+
+/// A log on disk that answers requests.
+pub trait Answers {
+    /// Answers one request. What is acknowledged is on disk.
+    fn serve(
+        &mut self,
+        session: Session,
+        message: &[u8],
+        reply: &mut [u8],
+        streams: &mut Streams,
+    ) -> Result<Served, Failure>;
+}
 
 pub struct Client {
     session: Session,
@@ -31,7 +52,7 @@ impl Client {
     }
 
     /// A session with a log on disk that said hello.
-    pub fn greet_writer(log: &mut Writer, streams: &mut Streams) -> Result<Client, Failure> {
+    pub fn greet_on_disk(log: &mut dyn Answers, streams: &mut Streams) -> Result<Client, Failure> {
         let mut reply = vec![0; REPLY];
         let served = log.serve(Session::Fresh, &HELLO, &mut reply, streams)?;
         if served.number != 0 {
@@ -46,7 +67,7 @@ impl Client {
     /// Has a block of at most 65,529 bytes on disk. Gives its score, or the refusal's number.
     pub fn store(
         &mut self,
-        log: &mut Writer,
+        log: &mut dyn Answers,
         kind: u8,
         data: &[u8],
         streams: &mut Streams,

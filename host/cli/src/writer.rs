@@ -2,19 +2,19 @@
 
 use std::fs::{File, OpenOptions};
 use std::io::ErrorKind;
-use std::ops::Range;
 use std::os::unix::fs::{FileExt, MetadataExt};
 use std::path::{Path, PathBuf};
+use std::time::Duration;
 
 use skywimple_archive::Session;
 
-use crate::blocks;
 use crate::format::{used, BLANK, SECTOR};
+use crate::held;
 use crate::lock;
 use crate::log_file::{fits, is_file, load};
 use crate::mark::{self, Found, Mark};
-use crate::sectors::{self, Loaded};
-use crate::session;
+use crate::sectors::Loaded;
+use crate::session::{Answers, Served};
 use crate::status::{Failure, INPUT_OUTPUT, UNFIT};
 use crate::streams::Streams;
 
@@ -28,21 +28,22 @@ pub struct Writer {
     bytes: Vec<u8>,
 }
 
-/// What came of a request.
-pub struct Served {
-    /// The refusal's number, 0 for none.
-    pub number: u8,
-    /// The session afterwards.
-    pub session: Session,
-    /// The sectors that were appended.
-    pub appended: usize,
-}
-
 impl Writer {
     /// Opens a log that fits its mark. With `adopt`, a log without a good mark gets one.
     pub fn open(path: &Path, adopt: bool, streams: &mut Streams) -> Result<Writer, Failure> {
+        Writer::open_within(Duration::ZERO, path, adopt, streams)
+    }
+
+    /// The same, where another writer may hold the log for so long.
+    pub fn open_within(
+        wait: Duration,
+        path: &Path,
+        adopt: bool,
+        streams: &mut Streams,
+    ) -> Result<Writer, Failure> {
         is_file(path)?;
-        let file = lock::open(OpenOptions::new().read(true).write(true), path)?;
+        let mut options = OpenOptions::new();
+        let file = lock::open(options.read(true).write(true), path, wait, streams)?;
         one_name(&file, path)?;
         let mark_path = mark::path_of(path);
         let mark = match Mark::find(&mark_path)? {
@@ -80,75 +81,6 @@ impl Writer {
     /// The log's bytes, as they were read and written since.
     pub fn bytes(self) -> Vec<u8> {
         self.bytes
-    }
-
-    /// Answers one request. When it has, what it appended is on disk, and so is a block that it
-    /// took for held: where that was damaged on disk meanwhile, it is stored anew.
-    pub fn serve(
-        &mut self,
-        session: Session,
-        message: &[u8],
-        reply: &mut [u8],
-        streams: &mut Streams,
-    ) -> Result<Served, Failure> {
-        loop {
-            let (number, after) =
-                skywimple_archive::serve(session, message, &mut self.bytes, reply);
-            let appended = self.keep()?;
-            let duplicate = number == 0 && appended == 0;
-            if duplicate && self.damaged_meanwhile(message, reply, streams) {
-                continue;
-            }
-            // A reply acknowledges, also where nothing was appended.
-            self.in_place()?;
-            return Ok(Served {
-                number,
-                session: after,
-                appended,
-            });
-        }
-    }
-
-    /// Whether an accepted write, which appended nothing, found a block that is another on disk by
-    /// now. What is on disk is taken then: damage that fell between two requests.
-    fn damaged_meanwhile(&mut self, message: &[u8], reply: &[u8], streams: &mut Streams) -> bool {
-        let Some((kind, score)) = session::stored(message, reply) else {
-            return false;
-        };
-        let Some(found) = blocks::find(&self.bytes, kind, &score) else {
-            return false; // the empty block, which is in no sector
-        };
-        let on_disk = self.on_disk(&found);
-        let held = &mut self.bytes[found.start * SECTOR..found.end * SECTOR];
-        if on_disk == held {
-            return false;
-        }
-        held.copy_from_slice(&on_disk);
-        streams.tell(&format!(
-            "sectors {} to {} of {} were damaged on disk since they were read; the block that was \
-             in them is written again.",
-            found.start,
-            found.end - 1,
-            self.path.display()
-        ));
-        true
-    }
-
-    /// These sectors as they are on disk. Where they are blank, cut off or unreadable, and were not
-    /// so before, they are damaged, and are so in memory: never blank, since the used part does not
-    /// end before its mark.
-    fn on_disk(&self, sectors: &Range<usize>) -> Vec<u8> {
-        let start = (sectors.start * SECTOR) as u64;
-        let length = sectors.len() * SECTOR;
-        let read_at = |buffer: &mut [u8], at| self.file.read_at(buffer, start + at);
-        let mut bytes = sectors::load(read_at, length as u64).bytes;
-        bytes.resize(length, 0);
-        for sector in bytes.chunks_exact_mut(SECTOR) {
-            if *sector == BLANK {
-                sector.copy_from_slice(&sectors::unsound(b"lost"));
-            }
-        }
-        bytes
     }
 
     /// Has what the last request appended on disk, with the mark. Gives the sectors appended.
@@ -204,6 +136,38 @@ impl Writer {
             return Err(lock::replaced(&self.path));
         }
         lock::in_place(&self.file, &self.path)
+    }
+}
+
+impl Answers for Writer {
+    /// When it has answered, what the request appended is on disk, and so is a block that it took
+    /// for held: where that was damaged on disk meanwhile, it is stored anew.
+    fn serve(
+        &mut self,
+        session: Session,
+        message: &[u8],
+        reply: &mut [u8],
+        streams: &mut Streams,
+    ) -> Result<Served, Failure> {
+        loop {
+            let (number, after) =
+                skywimple_archive::serve(session, message, &mut self.bytes, reply);
+            let appended = self.keep()?;
+            if number == 0 && appended == 0 {
+                let damaged = held::damaged(&mut self.bytes, &self.file, message, reply);
+                if let Some(damaged) = damaged {
+                    streams.tell(&held::words(&damaged, &self.path));
+                    continue;
+                }
+            }
+            // A reply acknowledges, also where nothing was appended.
+            self.in_place()?;
+            return Ok(Served {
+                number,
+                session: after,
+                appended,
+            });
+        }
     }
 }
 

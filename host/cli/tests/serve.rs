@@ -207,7 +207,7 @@ fn a_write_heals_what_was_damaged_meanwhile() {
             }
             let (status, told) = server.end();
             assert_eq!(status, 0, "{told}");
-            assert!(told.contains("were damaged on disk"), "{told}");
+            assert!(told.contains("damaged on disk"), "{told}");
             for block in &blocks {
                 place.reads(&score(block), block);
             }

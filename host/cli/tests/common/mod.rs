@@ -165,7 +165,19 @@ impl Place {
 
     /// `serve` over `log`, with pipes.
     pub fn serve(&self) -> Server {
-        Server::start(self.command(&["serve", "log"]))
+        self.serve_with(&[])
+    }
+
+    pub fn serve_with(&self, options: &[&str]) -> Server {
+        Server::start(self.command(&[&["serve", "log"], options].concat()))
+    }
+
+    /// The same, greeted.
+    #[track_caller]
+    pub fn greeted(&self, options: &[&str]) -> Server {
+        let mut server = self.serve_with(options);
+        assert_eq!(server.ask(&HELLO), HELLO_REPLY);
+        server
     }
 }
 
