@@ -59,10 +59,15 @@ pub const COMMANDS: [Command; 9] = [
     },
     Command {
         name: "serve",
-        usage: "LOG [--read-only | [--wait SECONDS] [--adopt]]",
+        usage: "LOG [--read-only | [--wait SECONDS] [--adopt]] [--handshake]",
         summary: "answer Venti messages from standard input",
         details: help::SERVE,
-        syntax: syntax(&["--adopt", "--read-only"], &["--wait"], 1, 1),
+        syntax: syntax(
+            &["--adopt", "--read-only", "--handshake"],
+            &["--wait"],
+            1,
+            1,
+        ),
         run: serve::run,
     },
     Command {

@@ -7,6 +7,7 @@ mod demo;
 mod doubt;
 mod format;
 mod get;
+mod handshake;
 mod held;
 mod help;
 mod hex;

@@ -7,6 +7,7 @@ use std::time::Duration;
 use skywimple_archive::Session;
 
 use crate::arguments::Arguments;
+use crate::handshake;
 use crate::progress::Progress;
 use crate::reader::Reader;
 use crate::session::{whole_reply, Answers, REPLY};
@@ -15,35 +16,50 @@ use crate::streams::Streams;
 use crate::words;
 use crate::writer::Writer;
 
+/// How the log is opened.
+enum Access {
+    ReadOnly,
+    Write { wait: Duration, adopt: bool },
+}
+
 pub fn run(arguments: &Arguments, streams: &mut Streams) -> Result<u8, Failure> {
-    let mut log = open(arguments, streams)?;
+    let access = access(arguments)?;
+    if arguments.flag("--handshake") {
+        // A client that is slow to begin holds up no other.
+        handshake::exchange(streams)?;
+    }
+    let mut log = open(arguments.path(0), access, streams)?;
     let mut progress = Progress::start();
     let ended = talk(&mut *log, &mut progress, streams);
     streams.clear_progress();
     ended
 }
 
-/// The log, to be written too unless it is only to be read.
-fn open(arguments: &Arguments, streams: &mut Streams) -> Result<Box<dyn Answers>, Failure> {
-    let path = arguments.path(0);
+fn access(arguments: &Arguments) -> Result<Access, Failure> {
     let adopt = arguments.flag("--adopt");
     let wait = arguments.number("--wait")?;
-    if arguments.flag("--read-only") {
-        if adopt {
-            return Err(Failure::usage(
-                "--read-only writes nothing, so --adopt has no place beside it",
-            ));
-        }
-        if wait.is_some() {
-            return Err(Failure::usage(
-                "--read-only takes no lock, so there is nothing to --wait for",
-            ));
-        }
-        return Ok(Box::new(Reader::open(path, streams)?));
+    if !arguments.flag("--read-only") {
+        let wait = Duration::from_secs(wait.unwrap_or(0));
+        return Ok(Access::Write { wait, adopt });
     }
-    let wait = Duration::from_secs(wait.unwrap_or(0));
-    let log = Writer::open_within(wait, path, adopt, streams)?;
-    Ok(Box::new(log))
+    if adopt {
+        return Err(Failure::usage(
+            "--read-only writes nothing, so --adopt has no place beside it",
+        ));
+    }
+    if wait.is_some() {
+        return Err(Failure::usage(
+            "--read-only takes no lock, so there is nothing to --wait for",
+        ));
+    }
+    Ok(Access::ReadOnly)
+}
+
+fn open(path: &Path, access: Access, streams: &mut Streams) -> Result<Box<dyn Answers>, Failure> {
+    Ok(match access {
+        Access::ReadOnly => Box::new(Reader::open(path, streams)?),
+        Access::Write { wait, adopt } => Box::new(Writer::open_within(wait, path, adopt, streams)?),
+    })
 }
 
 /// Answers requests until goodbye or the end of input.

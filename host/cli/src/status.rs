@@ -18,9 +18,10 @@ pub const MISSING: u8 = 66;
 pub const EXISTS: u8 = 73;
 pub const INPUT_OUTPUT: u8 = 74;
 pub const BUSY: u8 = 75;
+pub const PROTOCOL: u8 = 76;
 
 /// All statuses, as the help prints them.
-pub const TABLE: [(&str, &str); 9] = [
+pub const TABLE: [(&str, &str); 10] = [
     ("0", "done"),
     (
         "1 to 23",
@@ -36,6 +37,10 @@ pub const TABLE: [(&str, &str); 9] = [
     ("73", "init or --svg would overwrite a file"),
     ("74", "reading or writing failed"),
     ("75", "another writer holds the log"),
+    (
+        "76",
+        "serve --handshake: the client's opening line is late, too long or no such line",
+    ),
 ];
 
 /// Why a command ends, and with which status. Without words it ends silently.
