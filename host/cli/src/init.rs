@@ -36,7 +36,7 @@ pub fn run(arguments: &Arguments, _: &mut Streams) -> Result<u8, Failure> {
     let mark = Mark { sectors, used: 0 };
     let made = lock::take(&file, path)
         .and_then(|()| blank(&file, path, sectors))
-        .and_then(|()| mark.write(&mark_path));
+        .and_then(|()| mark.write(&mark_path, &file));
     if made.is_err() {
         // Both are this call's own files.
         let _ = fs::remove_file(&mark_path);

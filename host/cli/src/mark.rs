@@ -5,8 +5,9 @@
 //! CRC-32 of the two before.
 
 use std::ffi::OsString;
-use std::fs::{self, File};
+use std::fs::{self, File, Metadata, Permissions};
 use std::io::{self, Read, Write};
+use std::os::unix::fs::{fchown, MetadataExt, PermissionsExt};
 use std::path::{Path, PathBuf};
 
 use skywimple_archive::crc32;
@@ -35,6 +36,8 @@ pub enum Found {
 
 /// What marks' names end in.
 pub const SUFFIX: &str = ".mark";
+/// What a mark's name ends in besides, before it is in place.
+const NEW: &str = ".new";
 
 /// The mark of a log: beside the file itself where the path is a symbolic link.
 pub fn path_of(log: &Path) -> PathBuf {
@@ -115,11 +118,13 @@ impl Mark {
         }
     }
 
-    /// Puts it in place of the one before, all or nothing, and on disk. Its caller holds the log's lock.
-    pub fn write(&self, path: &Path) -> Result<(), Failure> {
-        let new = with_suffix(path, &format!(".{}.new", unique::name()));
+    /// Puts it in place of the one before, all or nothing, and on disk: with the owner, group and
+    /// mode that the one before has, or else the log. Its caller holds the log's lock.
+    pub fn write(&self, path: &Path, log: &File) -> Result<(), Failure> {
+        let new = with_suffix(path, &format!(".{}{NEW}", unique::name()));
         let replaced = File::create_new(&new).and_then(|file| {
-            let replaced = self.replace(file, &new, path);
+            let like = fs::metadata(path).or_else(|_| log.metadata());
+            let replaced = like.and_then(|like| self.replace(file, &like, &new, path));
             if replaced.is_err() {
                 let _ = fs::remove_file(&new);
             }
@@ -130,11 +135,58 @@ impl Mark {
     }
 
     /// Writes it to a new file and gives that the mark's name.
-    fn replace(&self, mut file: File, new: &Path, path: &Path) -> io::Result<()> {
+    fn replace(&self, mut file: File, like: &Metadata, new: &Path, path: &Path) -> io::Result<()> {
         file.write_all(self.text().as_bytes())?;
+        keep_access(&file, like)?;
         file.sync_all()?;
         fs::rename(new, path)
     }
+}
+
+/// Gives a new mark the owner, group and mode of another file, as far as this process may.
+fn keep_access(file: &File, like: &Metadata) -> io::Result<()> {
+    let own = file.metadata()?;
+    let mut mode = like.mode() & 0o777;
+    if (own.uid(), own.gid()) != (like.uid(), like.gid()) {
+        // Who is not the superuser cannot give a file away, but can give it to a group of his own.
+        let kept = fchown(file, Some(like.uid()), Some(like.gid()))
+            .or_else(|_| fchown(file, None, Some(like.gid())));
+        if kept.is_err() {
+            mode &= 0o707; // what one group may do is not for another
+        }
+    }
+    if own.mode() & 0o777 != mode {
+        file.set_permissions(Permissions::from_mode(mode))?;
+    }
+    Ok(())
+}
+
+/// Removes what writers that died left of their new marks. Its caller holds the log's lock, so no
+/// living one is at it.
+pub fn remove_left_over(path: &Path) {
+    let (Some(mark), Ok(entries)) = (path.file_name(), fs::read_dir(folder(path))) else {
+        return;
+    };
+    for entry in entries.flatten() {
+        if is_left_over(
+            mark.as_encoded_bytes(),
+            entry.file_name().as_encoded_bytes(),
+        ) {
+            let _ = fs::remove_file(entry.path());
+        }
+    }
+}
+
+/// Whether a file has the name that a mark has before it is in place, `LOG.mark.DIGITS-DIGITS.new`.
+fn is_left_over(mark: &[u8], name: &[u8]) -> bool {
+    let middle = name.strip_prefix(mark).and_then(|n| n.strip_prefix(b"."));
+    let middle = middle.and_then(|n| n.strip_suffix(NEW.as_bytes()));
+    let Some(middle) = middle else {
+        return false;
+    };
+    let parts: Vec<_> = middle.split(|byte| *byte == b'-').collect();
+    let digits = |part: &&[u8]| !part.is_empty() && part.iter().all(u8::is_ascii_digit);
+    parts.len() == 2 && parts.iter().all(digits)
 }
 
 /// As much of a file as a mark can have, and one byte.
@@ -206,6 +258,31 @@ mod tests {
             assert_eq!(Mark::parse(&text[..at]), None, "cut to {at}");
         }
         assert_eq!(Mark::parse(&[&text[..], b"\n"].concat()), None);
+    }
+
+    #[test]
+    fn names_that_are_left_over() {
+        let left_over = |name: &str| is_left_over(b"log.mark", name.as_bytes());
+        assert!(left_over("log.mark.7-7.new"));
+        assert!(left_over(&format!("log.mark.{}.new", unique::name())));
+        let others = [
+            "log",
+            "log.mark",
+            "log.mark.new",
+            "log.mark..new",
+            "log.mark.-.new",
+            "log.mark.7.new",
+            "log.mark.7-.new",
+            "log.mark.7-7-7.new",
+            "log.mark.7-x.new",
+            "log.mark.7-7.new.old",
+            "log.mark7-7.new",
+            "xlog.mark.7-7.new",
+            "log.mark.7-7",
+        ];
+        for other in others {
+            assert!(!left_over(other), "{other}");
+        }
     }
 
     #[test]

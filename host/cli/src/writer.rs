@@ -46,6 +46,7 @@ impl Writer {
         let file = lock::open(options.read(true).write(true), path, wait, streams)?;
         one_name(&file, path)?;
         let mark_path = mark::path_of(path);
+        mark::remove_left_over(&mark_path);
         let mark = match Mark::find(&mark_path)? {
             Found::Good(mark) => Some(mark),
             Found::Missing | Found::Damaged if adopt => None,
@@ -124,7 +125,7 @@ impl Writer {
                 .sync_data()
                 .map_err(|e| Failure::disk("sync", &self.path, &e))?;
             self.in_place()?;
-            now.write(&self.mark_path)?;
+            now.write(&self.mark_path, &self.file)?;
             self.mark = Some(now);
         }
         Ok(())

@@ -118,8 +118,46 @@ fn a_piece_of_a_new_mark() {
     place.reads(&score(&blocks[1]), &blocks[1]);
     place.put(b"next");
     assert_eq!(place.file("log.mark"), common::mark(16, 8).as_bytes());
-    let files = ["log", "log.mark", "log.mark.7-7.new"];
-    assert!(only(&place.folder, &files), "no other piece is left");
+    assert!(
+        only(&place.folder, &["log", "log.mark"]),
+        "no piece is left"
+    );
+}
+
+/// The next writer removes the pieces that dead ones left, and no other file.
+#[test]
+fn pieces_of_dead_writers() {
+    let place = Place::with_log(8);
+    let pieces = [
+        "log.mark.1-2.new",
+        "log.mark.4194304-1700000000123456789.new",
+    ];
+    let others = [
+        "log",
+        "log.mark",
+        "log.mark.1-2.new.old",
+        "log.mark.new",
+        "log.mark.one-two.new",
+        "other.mark.1-2.new",
+    ];
+    for name in pieces.iter().chain(&others[2..]) {
+        place.write(name, "sectors=0000");
+    }
+    let server = place.greeted(&[]);
+    assert!(only(&place.folder, &others));
+    for name in pieces {
+        place.write(name, "this may be the writer's own");
+    }
+    place
+        .feed(&["put", "log"], b"card")
+        .fails(75, "another writer");
+    place.not_held(&score(b"card"));
+    for name in pieces {
+        assert!(place.path(name).exists(), "only who holds the lock removes");
+    }
+    server.end();
+    place.put(b"card");
+    assert!(only(&place.folder, &others));
 }
 
 /// Kills a server that is busy with writes, again and again on one log. Every block that was
@@ -141,6 +179,7 @@ fn killed_while_appending() {
         check(&place, &known, &blocks[answered..]);
     }
     assert!(cut_short > 0, "no kill came in time");
+    assert!(only(&place.folder, &["log", "log.mark"]));
 }
 
 /// Sends all writes, waits for so many replies, kills the server, and counts the replies it gave.

@@ -2,7 +2,10 @@
 
 mod common;
 
-use std::fs;
+use std::fs::{self, Permissions};
+use std::os::unix::fs::{chown, MetadataExt, PermissionsExt};
+use std::os::unix::process::CommandExt;
+use std::process::Command;
 
 use common::*;
 
@@ -212,6 +215,78 @@ fn a_log_without_a_mark() {
         assert_eq!(place.file("log.mark"), mark(10, 6).as_bytes());
         place.reads(&scores[1], &blocks[1]);
     }
+}
+
+/// Owner, group and mode of a file.
+fn access(place: &Place, name: &str) -> (u32, u32, u32) {
+    let found = fs::metadata(place.path(name)).unwrap();
+    (found.uid(), found.gid(), found.mode() & 0o777)
+}
+
+/// A new mark is as the one before it, whoever writes it; the first is as its log.
+#[test]
+fn the_mark_keeps_its_mode() {
+    let place = Place::with_log(16);
+    for (seed, mode) in [0o600, 0o640, 0o664, 0o666, 0o444].into_iter().enumerate() {
+        let mode_of = Permissions::from_mode(mode);
+        fs::set_permissions(place.path("log.mark"), mode_of).unwrap();
+        place.put(&block(seed, 9));
+        assert_eq!(access(&place, "log.mark").2, mode, "{mode:o}");
+    }
+    fs::set_permissions(place.path("log"), Permissions::from_mode(0o606)).unwrap();
+    fs::remove_file(place.path("log.mark")).unwrap();
+    place.run(&["report", "log", "--adopt"]).with(0);
+    assert_eq!(access(&place, "log.mark").2, 0o606);
+}
+
+#[test]
+fn the_mark_keeps_its_owner() {
+    if !superuser() {
+        return skipped("a mark keeps its owner: only the superuser can give files away");
+    }
+    let place = Place::with_log(16);
+    let owners = [("log.mark", 4711, 4712), ("log", 4713, 4714)];
+    for (name, user, group) in owners {
+        chown(place.path(name), Some(user), Some(group)).unwrap();
+    }
+    fs::set_permissions(place.path("log.mark"), Permissions::from_mode(0o640)).unwrap();
+    place.put(b"card");
+    assert_eq!(access(&place, "log.mark"), (4711, 4712, 0o640));
+    fs::remove_file(place.path("log.mark")).unwrap();
+    place.run(&["report", "log", "--adopt"]).with(0);
+    let (user, group, _) = access(&place, "log.mark");
+    assert_eq!((user, group), (4713, 4714), "the log's");
+}
+
+/// Who cannot give the mark its owner back keeps its group and mode, where the group is his.
+#[test]
+fn the_mark_of_another_owner() {
+    if !superuser() {
+        return skipped("the mark of another owner: only the superuser can give files away");
+    }
+    let place = Place::with_log(16);
+    let program = place.path("skywimple");
+    fs::copy(env!("CARGO_BIN_EXE_skywimple"), &program).unwrap();
+    for (name, mode) in [(".", 0o777), ("log", 0o666), ("log.mark", 0o664)] {
+        chown(place.path(name), Some(4711), Some(4712)).unwrap();
+        fs::set_permissions(place.path(name), Permissions::from_mode(mode)).unwrap();
+    }
+    let put = |group: u32, file: &str| {
+        place.write(file, file);
+        let mut command = Command::new(&program);
+        command
+            .args(["put", "log", file])
+            .current_dir(&place.folder);
+        let output = command.uid(4700).gid(group).output().unwrap();
+        assert!(output.status.success(), "{output:?}");
+        access(&place, "log.mark")
+    };
+    assert_eq!(put(4712, "one"), (4700, 4712, 0o664));
+    assert_eq!(
+        put(4799, "two"),
+        (4700, 4799, 0o604),
+        "no other group gets its rights"
+    );
 }
 
 #[test]

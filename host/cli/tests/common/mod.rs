@@ -5,6 +5,7 @@
 use std::ffi::OsStr;
 use std::fs;
 use std::io::{Read, Write};
+use std::os::unix::fs::MetadataExt;
 use std::path::{Path, PathBuf};
 use std::process::{Child, ChildStdin, ChildStdout, Command, Stdio};
 use std::sync::atomic::{AtomicUsize, Ordering};
@@ -290,6 +291,17 @@ pub fn mark(sectors: usize, used: usize) -> String {
     let lines = format!("sectors={sectors:08x}\nused={used:08x}\n");
     let crc = skywimple_archive::crc32(lines.as_bytes());
     format!("{lines}crc={crc:08x}\n")
+}
+
+/// Whether the tests are run by the superuser, who may do everything.
+pub fn superuser() -> bool {
+    fs::metadata("/proc/self").expect("a process").uid() == 0
+}
+
+/// Says that a part of a test was not run, also where the test passes.
+pub fn skipped(what: &str) {
+    // Not by a macro: their output is kept from view.
+    let _ = writeln!(std::io::stderr(), "SKIPPED: {what}");
 }
 
 /// Whether a folder has only these files.
