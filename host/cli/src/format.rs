@@ -26,6 +26,17 @@ pub fn sectors_of(size: usize) -> usize {
     size.div_ceil(PAYLOAD)
 }
 
+/// A block type as `--type` takes it.
+pub fn kind_name(kind: u8) -> String {
+    match kind {
+        1 => "root".to_string(),
+        2 => "dir".to_string(),
+        3..=9 => format!("ptr{}", kind - 2),
+        13 => "data".to_string(),
+        other => other.to_string(),
+    }
+}
+
 /// Test 3, of a length in bytes.
 pub fn allowed(length: u64) -> bool {
     length.is_multiple_of(SECTOR as u64) && length / SECTOR as u64 <= MOST_SECTORS as u64
@@ -34,6 +45,13 @@ pub fn allowed(length: u64) -> bool {
 /// What the label of a block's sector says of the block: its type's digits and its score's.
 pub fn named(sector: &[u8]) -> (&[u8], &[u8]) {
     (&sector[36..38], &sector[55..95])
+}
+
+/// The type and score that the label of a sound block says.
+pub fn label(sector: &[u8]) -> Option<(u8, Score)> {
+    let (kind, score) = named(sector);
+    let kind: [u8; 1] = hex::decode(str::from_utf8(kind).ok()?)?;
+    Some((kind[0], hex::decode(str::from_utf8(score).ok()?)?))
 }
 
 /// The digits that a label has for a type and a score.

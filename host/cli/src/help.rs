@@ -95,13 +95,19 @@ Prints sectors, used, records, doubtful and the verdict: sound (status 0) or not
 pub const READ: &str = "\
 Writes the bytes of the file that ENTRY stands for: 80 hex digits, or the name of a file with the
 40 bytes of an entry. Stops at the first offset that is refused and says which and why; what was
-written before it is right. The status is the refusal's number. A missing block is never zeros.
+written before it is right. The status is the refusal's number. A missing block is never zeros; its
+type and score are told, so that it can be fetched from a copy. At a terminal, progress is shown
+where the file goes elsewhere. Each leaf takes a scan of the log for each level of the tree.
   --adopt    take a log without a good mark as it is, and mark it
 ";
 
 pub const WALK: &str = "\
 Visits every block below the root SCORE (40 hex digits) and prints the visits spent, and `done` if
-all could be read. Otherwise the first refusal is told and its number is the status.
+all could be read. Otherwise the first refusal is told and its number is the status; the type and
+score of that block are printed, and where in the tree it is, so that it can be fetched from a copy:
+entry 2/0, byte 1500 is byte 1500 of the file of entry 0 in the directory of entry 2.
+Each visit looks through the log up to its block, some 10 ns for each sector: a full log of small
+blocks takes a minute or two. At a terminal the time gone by and the time expected are shown.
   --allowance N  the most visits, up to 1000000 (the default)
   --adopt        take a log without a good mark as it is, and mark it
 ";

@@ -2,8 +2,8 @@
 
 use std::fmt::Write;
 
-use crate::format::{sectors_of, used, SECTOR};
-use skywimple_archive::sound_at;
+use crate::blocks;
+use crate::format::SECTOR;
 
 /// The most rows that a map is drawn in.
 const MOST_ROWS: usize = 16;
@@ -33,17 +33,13 @@ pub struct Scaled {
 impl Map {
     /// The map of a log, or the refusal's number.
     pub fn of(log: &[u8]) -> Result<Map, u8> {
-        let used = used(log);
         let mut sectors = vec![Cell::Blank; log.len() / SECTOR];
-        let mut next = 0;
-        while next < used {
-            let size = sound_at(log, next)?;
-            let (end, cell) = match size {
-                0 => (next + 1, Cell::Doubtful),
-                size => (next + sectors_of(size), Cell::Sound),
+        for piece in blocks::pieces(log)? {
+            let cell = match piece.block {
+                Some(_) => Cell::Sound,
+                None => Cell::Doubtful,
             };
-            sectors[next..end].fill(cell);
-            next = end;
+            sectors[piece.sector..piece.sector + piece.count].fill(cell);
         }
         Ok(Map { sectors })
     }

@@ -7,48 +7,78 @@ use std::path::Path;
 use skywimple_archive::{locate, sound_at, Run};
 
 use crate::arguments::Arguments;
-use crate::format::{LABEL, MOST_DATA, PAYLOAD, SECTOR};
+use crate::entry::{Entry, LENGTH as ENTRY};
+use crate::format::{kind_name, Score, LABEL, MOST_DATA, PAYLOAD, SECTOR};
 use crate::hex;
 use crate::log_file;
 use crate::progress::Progress;
+use crate::session::Client;
 use crate::status::{Failure, DONE};
 use crate::streams::Streams;
 use crate::words;
 
-/// Bytes in an entry.
-const ENTRY: usize = 40;
-/// The number of an offset at or past the file's size.
+/// The number of an offset at or past the file's size, and of a pointer block of odd length.
 const PAST_THE_END: u8 = 17;
+const ILL_FORMED_POINTERS: u8 = 18;
 
 pub fn run(arguments: &Arguments, streams: &mut Streams) -> Result<u8, Failure> {
     let entry = entry(arguments.path(1))?;
-    let log = log_file::read(arguments.path(0), arguments.flag("--adopt"), streams)?;
+    let mut log = log_file::read(arguments.path(0), arguments.flag("--adopt"), streams)?;
     let mut progress = Progress::start();
     let ended = copy(&log, &entry, &mut progress, streams);
     streams.clear_progress();
     streams.out.flush().map_err(Failure::output)?;
-    ended
+    let Some((offset, number)) = ended? else {
+        return Ok(DONE);
+    };
+    let block = refused_block(&mut log, &entry, offset, number);
+    let mut at = format!("reading stopped at offset {offset}");
+    if let Some((kind, score)) = &block {
+        let (kind, score) = (kind_name(*kind), hex::encode(score));
+        at += &format!(", at the {kind} block {score}");
+    }
+    let block = block.as_ref().map(|(kind, score)| (*kind, score));
+    let words = words::refusal_in_tree(number, block);
+    Err(Failure::new(number, format!("{at}: {words}")))
 }
 
-/// Writes run after run, up to the end or the first refused offset.
+/// The block on the way to an offset that is refused by this number.
+fn refused_block(log: &mut [u8], entry: &[u8], offset: u64, number: u8) -> Option<(u8, Score)> {
+    let entry = Entry::parse(entry)?;
+    let mut client = Client::greet(log).ok()?;
+    let mut score = entry.score;
+    for level in (0..=entry.depth).rev() {
+        let (kind, count) = (entry.kind(level), entry.count(level));
+        let block = match client.read(log, kind, &score, count as u16) {
+            Ok(block) => block,
+            Err(refused) => return (refused == number).then_some((kind, score)),
+        };
+        if level > 0 && !block.len().is_multiple_of(20) {
+            return (number == ILL_FORMED_POINTERS).then_some((kind, score));
+        }
+        if level > 0 {
+            let start = 20 * entry.pointer(offset, level);
+            score = block.get(start..start + 20)?.try_into().ok()?;
+        }
+    }
+    None
+}
+
+/// Writes run after run, up to the end or the first refused offset, which it gives with the number.
 fn copy(
     log: &[u8],
     entry: &[u8],
     progress: &mut Progress,
     streams: &mut Streams,
-) -> Result<u8, Failure> {
+) -> Result<Option<(u64, u8)>, Failure> {
     let page = vec![0; MOST_DATA];
     let mut offset = 0;
     loop {
         let runs = match runs(log, &page, entry, offset) {
             Ok(runs) => runs,
             // An offset that is refused so, and no other, is the end: all tests before it passed.
-            Err(PAST_THE_END) => return Ok(DONE),
-            Err(number) => {
-                let words = words::refusal_in_tree(number);
-                let words = format!("reading stopped at offset {offset}: {words}");
-                return Err(Failure::new(number, words));
-            }
+            Err(PAST_THE_END) => return Ok(None),
+            Err(number) => return Ok(Some((offset, number))),
         };
         for bytes in runs {
             streams.out.write_all(bytes).map_err(Failure::output)?;
@@ -110,7 +140,6 @@ fn front(file: File) -> io::Result<Vec<u8>> {
 #[cfg(test)]
 mod tests {
     use super::*;
-    use crate::session::Client;
 
     /// A data entry of depth 0 with leaves of 1,000 bytes.
     fn file(size: u64, score: &[u8; 20]) -> Vec<u8> {

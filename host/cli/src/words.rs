@@ -1,5 +1,8 @@
 //! The refusals in words: what each is called, when it is given, what to do.
 
+use crate::format::{kind_name, Score};
+use crate::hex;
+
 struct Words {
     name: &'static str,
     when: &'static str,
@@ -139,17 +142,27 @@ pub fn refusal(number: u8) -> String {
     told(number, None)
 }
 
-/// A refusal of a block that a tree leads to: no option changes its type or its count.
-pub fn refusal_in_tree(number: u8) -> String {
-    let advice = match number {
-        11 => Some(
-            "Check the score or entry given; if it is right, a block below it is missing: \
-             store the tree again from its source.",
-        ),
-        13 => Some("The tree was written wrongly; store it again from its source."),
-        _ => None,
+/// A refusal of a block that a tree leads to: no option changes its type or its count. What can be
+/// done depends on which block it is.
+pub fn refusal_in_tree(number: u8, block: Option<(u8, &Score)>) -> String {
+    let fetch = match block {
+        Some((kind, score)) => {
+            let (kind, score) = (kind_name(kind), hex::encode(score));
+            format!(
+                "Fetch it from a copy of the log and store it again: \
+                 `skywimple get COPY {score} --type {kind} > block && \
+                 skywimple put LOG block --type {kind}`."
+            )
+        }
+        None => "Store the tree again from its source.".to_string(),
     };
-    told(number, advice)
+    let advice = match number {
+        11 => format!("If the score or entry given is right, a block below it is missing. {fetch}"),
+        12 => format!("{fetch} `skywimple report LOG --map` shows the damage."),
+        13 => "The tree was written wrongly; store it again from its source.".to_string(),
+        _ => return told(number, None),
+    };
+    told(number, Some(&advice))
 }
 
 fn told(number: u8, advice: Option<&str>) -> String {
@@ -178,7 +191,8 @@ mod tests {
         for number in 0..=255 {
             let sign = format!("({number})");
             assert!(refusal(number).contains(&sign));
-            assert!(refusal_in_tree(number).contains(&sign));
+            assert!(refusal_in_tree(number, None).contains(&sign));
+            assert!(refusal_in_tree(number, Some((13, &[7; 20]))).contains(&sign));
         }
     }
 
@@ -186,7 +200,15 @@ mod tests {
     fn no_advice_on_options_that_are_not_there() {
         for (number, option) in [(11, "--type"), (13, "--count")] {
             assert!(refusal(number).contains(option));
-            assert!(!refusal_in_tree(number).contains(option));
+            assert!(!refusal_in_tree(number, None).contains(option));
         }
+    }
+
+    #[test]
+    fn a_block_to_fetch() {
+        let words = refusal_in_tree(12, Some((3, &[0x0a; 20])));
+        let score = "0a".repeat(20);
+        assert!(words.contains(&format!("get COPY {score} --type ptr1 > block")));
+        assert!(words.contains("DO NOT READ THIS AS ABSENT"));
     }
 }
