@@ -5,7 +5,7 @@ use std::ffi::OsString;
 use crate::arguments::{Arguments, Syntax};
 use crate::status::{Failure, DONE, USAGE};
 use crate::streams::Streams;
-use crate::{demo, doubt, get, help, init, put, read, report, serve, walk};
+use crate::{demo, doubt, get, help, init, list, put, read, report, serve, walk};
 
 pub struct Command {
     pub name: &'static str,
@@ -32,7 +32,7 @@ const fn syntax(
     }
 }
 
-pub const COMMANDS: [Command; 9] = [
+pub const COMMANDS: [Command; 10] = [
     Command {
         name: "init",
         usage: "LOG --sectors N",
@@ -80,11 +80,19 @@ pub const COMMANDS: [Command; 9] = [
     },
     Command {
         name: "report",
-        usage: "LOG [--map] [--svg FILE] [--width N] [--adopt]",
+        usage: "LOG [--json | --map] [--svg FILE] [--width N] [--adopt]",
         summary: "say what a log holds and whether it is sound",
         details: help::REPORT,
-        syntax: syntax(&["--map", "--adopt"], &["--svg", "--width"], 1, 1),
+        syntax: syntax(&["--json", "--map", "--adopt"], &["--svg", "--width"], 1, 1),
         run: report::run,
+    },
+    Command {
+        name: "list",
+        usage: "LOG [--json] [--adopt]",
+        summary: "list the sound blocks and the doubtful sectors",
+        details: help::LIST,
+        syntax: syntax(&["--json", "--adopt"], &[], 1, 1),
+        run: list::run,
     },
     Command {
         name: "read",

@@ -123,7 +123,7 @@ impl Demo<'_, '_> {
         self.reads(&scores[0], CARDS[0].1)?;
         self.reads(&scores[2], CARDS[2].1)?;
         let report = self.command(&["report", LOG, "--map", "--width", "8"])?;
-        let shown = report.status == VERDICT_NOT_KNOWN && report.out.contains("\n#?#.....\n");
+        let shown = report.status == VERDICT_NOT_KNOWN && report.out.contains("\n0 #?#.....\n");
         self.claim("status 32, one sector is doubtful", shown)
     }
 

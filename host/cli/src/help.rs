@@ -86,10 +86,21 @@ newer mark: an older one cannot tell what is lost. Copy the mark first, then the
 
 pub const REPORT: &str = "\
 Prints sectors, used, records, doubtful and the verdict: sound (status 0) or notknown (status 32).
-  --map       draws the log: # sound, ? doubtful, . blank; a cell with any doubtful sector is ?
+  --json      prints the same as one JSON object
+  --map       draws the log: # sound, ? doubtful, . blank; a cell with any doubtful sector is ?, and
+              the number before a row is that of its first sector
   --svg FILE  writes the map as a picture; overwrites FILE only if it is a picture
-  --width N   cells in a row (default: COLUMNS, else the terminal's width, else 80)
+  --width N   cells in a row (default: what COLUMNS, else the terminal, else 80 has room for)
   --adopt     take a log without a good mark as it is, and mark it
+";
+
+pub const LIST: &str = "\
+Prints a line for each sound block, in the log's order: the sector where it starts, its type, its
+size in bytes and its score; and a line for each run of doubtful sectors: the first, and how many.
+The status is 0, or 32 if any sector is doubtful.
+  --json     prints JSON, an object on each line: sector, type, size and score of a block; sector and
+             count of a doubtful run
+  --adopt    take a log without a good mark as it is, and mark it
 ";
 
 pub const READ: &str = "\

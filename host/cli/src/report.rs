@@ -7,6 +7,7 @@ use std::os::unix::fs::{FileTypeExt, MetadataExt};
 use std::path::Path;
 
 use crate::arguments::Arguments;
+use crate::escape;
 use crate::log_file;
 use crate::map::Map;
 use crate::mark;
@@ -21,9 +22,13 @@ const BUFFER: usize = 128;
 
 pub fn run(arguments: &Arguments, streams: &mut Streams) -> Result<u8, Failure> {
     let path = arguments.path(0);
+    let (json, drawn) = (arguments.flag("--json"), arguments.flag("--map"));
     let width = arguments.number("--width")?;
     if width == Some(0) {
         return Err(Failure::usage("--width is at least 1"));
+    }
+    if json && drawn {
+        return Err(Failure::usage("a map is no JSON: give --json or --map"));
     }
     let picture = arguments.value("--svg");
     if let Some(picture) = picture {
@@ -31,28 +36,81 @@ pub fn run(arguments: &Arguments, streams: &mut Streams) -> Result<u8, Failure> 
     }
 
     let log = log_file::read(path, arguments.flag("--adopt"), streams)?;
-    let mut buffer = [0; BUFFER];
-    let length = report(&log, &mut buffer).map_err(Failure::refused)?;
-    let text = &buffer[..length];
-    streams.answer(text)?;
-    if arguments.flag("--map") || picture.is_some() {
+    let report = Report::of(&log)?;
+    match json {
+        true => streams.answer(report.json().as_bytes())?,
+        false => streams.answer(report.text.as_bytes())?,
+    }
+    if drawn || picture.is_some() {
         let map = Map::of(&log).map_err(Failure::refused)?;
-        let width = terminal::width(width, streams.out_terminal);
-        if arguments.flag("--map") {
-            let drawn = map.draw(width, terminal::colour(streams.out_terminal));
+        let name = path.file_name().unwrap_or(path.as_os_str());
+        let name = name.to_string_lossy();
+        let width = cells(width, &map, streams.out_terminal);
+        if drawn {
+            let heading = format!("{}: {}", escape::visible(&name), report.verdict());
+            let drawn = map.draw(&heading, width, terminal::colour(streams.out_terminal));
             streams.answer(drawn.as_bytes())?;
         }
         if let Some(picture) = picture {
-            let name = path.file_name().unwrap_or(path.as_os_str());
-            fs::write(picture, svg::draw(&map, width, &name.to_string_lossy()))
+            fs::write(picture, svg::draw(&map, width, &name, report.verdict()))
                 .map_err(|e| Failure::disk("write", Path::new(picture), &e))?;
         }
     }
-    Ok(if text.ends_with(b"verdict=sound\n") {
-        DONE
-    } else {
-        VERDICT_NOT_KNOWN
-    })
+    Ok(report.status())
+}
+
+/// The cells in a row: what was asked for, or what there is room for beside the rows' numbers.
+fn cells(asked: Option<u64>, map: &Map, terminal: bool) -> usize {
+    match asked {
+        Some(width) => usize::try_from(width).unwrap_or(usize::MAX),
+        None => {
+            let room = terminal::width(terminal);
+            room.saturating_sub(map.label() + 1).max(1)
+        }
+    }
+}
+
+/// The proved report: lines of a name, an equals sign and a value, the verdict the last.
+struct Report {
+    text: String,
+}
+
+impl Report {
+    fn of(log: &[u8]) -> Result<Report, Failure> {
+        let mut buffer = [0; BUFFER];
+        let length = report(log, &mut buffer).map_err(Failure::refused)?;
+        let text = String::from_utf8_lossy(&buffer[..length]).into_owned();
+        Ok(Report { text })
+    }
+
+    fn fields(&self) -> impl Iterator<Item = (&str, &str)> {
+        self.text.lines().filter_map(|line| line.split_once('='))
+    }
+
+    fn verdict(&self) -> &str {
+        let verdict = self.fields().find(|(name, _)| *name == "verdict");
+        verdict.map_or("", |(_, value)| value)
+    }
+
+    fn status(&self) -> u8 {
+        match self.verdict() {
+            "sound" => DONE,
+            _ => VERDICT_NOT_KNOWN,
+        }
+    }
+
+    /// One object: numbers as they are, the verdict as a string.
+    fn json(&self) -> String {
+        let value = |value: &str| match value.bytes().all(|byte| byte.is_ascii_digit()) {
+            true => value.to_string(),
+            false => format!("\"{value}\""),
+        };
+        let fields = self.fields();
+        let fields: Vec<_> = fields
+            .map(|(name, found)| format!("\"{name}\":{}", value(found)))
+            .collect();
+        format!("{{{}}}\n", fields.join(","))
+    }
 }
 
 /// A picture may overwrite a picture only: not the log or its mark, by whatever name, nor any other

@@ -27,7 +27,10 @@ pub const TABLE: [(&str, &str); 10] = [
         "1 to 23",
         "refused; the status is the refusal's number (11 not held, 12 not known)",
     ),
-    ("32", "report: the verdict is notknown"),
+    (
+        "32",
+        "report, list: part of the log is doubtful, the verdict is notknown",
+    ),
     ("64", "the words given make no command"),
     (
         "65",

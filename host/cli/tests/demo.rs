@@ -22,7 +22,7 @@ fn it_shows_what_it_says() {
         "not held (11)",
         "not known (12)",
         "antigen Vel: not tested",
-        "\n  #?#.....\n",
+        "cards.log: notknown\n  0 #?#.....\n",
         "$ skywimple put cards.log ben.card",
         "antigen Vel: present",
         "claims above were checked",

@@ -23,10 +23,12 @@ fn refused(place: &Place, status: i32, words: &str) {
     let before = fs::read(place.path("log")).ok();
     let any = score(b"any");
     let entry = "00".repeat(40);
-    let commands: [&[&str]; 6] = [
+    let commands: [&[&str]; 8] = [
         &["get", "log", &any],
         &["put", "log"],
         &["serve", "log"],
+        &["serve", "log", "--read-only"],
+        &["list", "log"],
         &["report", "log", "--map"],
         &["read", "log", &entry],
         &["walk", "log", &any],
@@ -197,7 +199,7 @@ fn the_sector_of_doubt() {
 
 #[test]
 fn a_log_without_a_mark() {
-    for command in ["put", "serve", "report", "get", "walk", "read"] {
+    for command in ["put", "serve", "report", "list", "get", "walk", "read"] {
         let (place, blocks, scores) = filled();
         fs::remove_file(place.path("log.mark")).unwrap();
         refused(&place, 66, "log has no mark");

@@ -10,8 +10,8 @@ use std::process::Stdio;
 
 use common::*;
 
-const COMMANDS: [&str; 9] = [
-    "init", "put", "get", "serve", "doubt", "report", "read", "walk", "demo",
+const COMMANDS: [&str; 10] = [
+    "init", "put", "get", "serve", "doubt", "report", "list", "read", "walk", "demo",
 ];
 
 #[test]
@@ -90,7 +90,7 @@ fn odd_words_never_bring_it_down() {
         OsStr::from_bytes(b"--\xff"),
         OsStr::from_bytes(b"--type=\xff"),
     ];
-    for command in &COMMANDS[..8] {
+    for command in &COMMANDS[..9] {
         for first in odd.iter().chain([&OsStr::new("log")]) {
             for second in odd {
                 let words = [OsStr::new(command), first, second];
