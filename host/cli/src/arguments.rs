@@ -13,8 +13,8 @@ pub struct Syntax {
     pub flags: &'static [&'static str],
     /// Options with one.
     pub values: &'static [&'static str],
-    /// How many other words, at least and at most.
-    pub least: usize,
+    /// The other words that it cannot do without, by their names, and how many it may have.
+    pub words: &'static [&'static str],
     pub most: usize,
 }
 
@@ -44,8 +44,8 @@ impl Arguments {
             found.option(syntax, word, &mut rest)?;
         }
         let count = found.words.len();
-        if !found.help && count < syntax.least {
-            return Err(Failure::usage("words are missing"));
+        if !found.help && count < syntax.words.len() {
+            return Err(missing(&syntax.words[count..]));
         }
         if !found.help && count > syntax.most {
             let extra = found.words[syntax.most].display();
@@ -132,6 +132,12 @@ impl Arguments {
     }
 }
 
+/// Words that were not given.
+fn missing(names: &[&str]) -> Failure {
+    let are = if names.len() == 1 { "is" } else { "are" };
+    Failure::usage(format!("{} {are} missing", names.join(" and ")))
+}
+
 /// A decimal number; those that are too large are the largest there is.
 fn decimal(text: &str) -> Option<u64> {
     if text.is_empty() || !text.bytes().all(|byte| byte.is_ascii_digit()) {
@@ -162,7 +168,7 @@ mod tests {
     const SYNTAX: Syntax = Syntax {
         flags: &["--adopt"],
         values: &["--type", "--count"],
-        least: 1,
+        words: &["LOG"],
         most: 2,
     };
 
@@ -198,6 +204,13 @@ mod tests {
         for words in bad {
             assert_eq!(parse(words).unwrap_err().status, 64, "{words:?}");
         }
+    }
+
+    #[test]
+    fn what_is_missing_is_named() {
+        assert!(parse(&[]).unwrap_err().words.contains("LOG is missing"));
+        let two = missing(&["LOG", "SCORE"]).words;
+        assert!(two.contains("LOG and SCORE are missing"));
     }
 
     #[test]

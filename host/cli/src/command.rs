@@ -21,13 +21,13 @@ pub struct Command {
 const fn syntax(
     flags: &'static [&'static str],
     values: &'static [&'static str],
-    least: usize,
+    words: &'static [&'static str],
     most: usize,
 ) -> Syntax {
     Syntax {
         flags,
         values,
-        least,
+        words,
         most,
     }
 }
@@ -38,7 +38,7 @@ pub const COMMANDS: [Command; 10] = [
         usage: "LOG --sectors N",
         summary: "make a new log of N blank sectors",
         details: help::INIT,
-        syntax: syntax(&[], &["--sectors"], 1, 1),
+        syntax: syntax(&[], &["--sectors"], &["LOG"], 1),
         run: init::run,
     },
     Command {
@@ -46,7 +46,7 @@ pub const COMMANDS: [Command; 10] = [
         usage: "LOG [FILE...] [--type T] [--adopt]",
         summary: "store each file as a block, print its score",
         details: help::PUT,
-        syntax: syntax(&["--adopt"], &["--type"], 1, usize::MAX),
+        syntax: syntax(&["--adopt"], &["--type"], &["LOG"], usize::MAX),
         run: put::run,
     },
     Command {
@@ -54,7 +54,7 @@ pub const COMMANDS: [Command; 10] = [
         usage: "LOG SCORE [--type T] [--count N] [--adopt]",
         summary: "write a block's bytes to standard output",
         details: help::GET,
-        syntax: syntax(&["--adopt"], &["--type", "--count"], 2, 2),
+        syntax: syntax(&["--adopt"], &["--type", "--count"], &["LOG", "SCORE"], 2),
         run: get::run,
     },
     Command {
@@ -65,7 +65,7 @@ pub const COMMANDS: [Command; 10] = [
         syntax: syntax(
             &["--adopt", "--read-only", "--handshake"],
             &["--wait"],
-            1,
+            &["LOG"],
             1,
         ),
         run: serve::run,
@@ -75,7 +75,7 @@ pub const COMMANDS: [Command; 10] = [
         usage: "LOG",
         summary: "let what a log has lost at its end be \"not known\"",
         details: help::DOUBT,
-        syntax: syntax(&[], &[], 1, 1),
+        syntax: syntax(&[], &[], &["LOG"], 1),
         run: doubt::run,
     },
     Command {
@@ -83,7 +83,12 @@ pub const COMMANDS: [Command; 10] = [
         usage: "LOG [--json | --map] [--svg FILE] [--width N] [--adopt]",
         summary: "say what a log holds and whether it is sound",
         details: help::REPORT,
-        syntax: syntax(&["--json", "--map", "--adopt"], &["--svg", "--width"], 1, 1),
+        syntax: syntax(
+            &["--json", "--map", "--adopt"],
+            &["--svg", "--width"],
+            &["LOG"],
+            1,
+        ),
         run: report::run,
     },
     Command {
@@ -91,7 +96,7 @@ pub const COMMANDS: [Command; 10] = [
         usage: "LOG [--json] [--adopt]",
         summary: "list the sound blocks and the doubtful sectors",
         details: help::LIST,
-        syntax: syntax(&["--json", "--adopt"], &[], 1, 1),
+        syntax: syntax(&["--json", "--adopt"], &[], &["LOG"], 1),
         run: list::run,
     },
     Command {
@@ -99,7 +104,7 @@ pub const COMMANDS: [Command; 10] = [
         usage: "LOG ENTRY [--adopt]",
         summary: "write a file's bytes, found through its hash tree",
         details: help::READ,
-        syntax: syntax(&["--adopt"], &[], 2, 2),
+        syntax: syntax(&["--adopt"], &[], &["LOG", "ENTRY"], 2),
         run: read::run,
     },
     Command {
@@ -107,7 +112,7 @@ pub const COMMANDS: [Command; 10] = [
         usage: "LOG SCORE [--allowance N] [--adopt]",
         summary: "visit every block below a root",
         details: help::WALK,
-        syntax: syntax(&["--adopt"], &["--allowance"], 2, 2),
+        syntax: syntax(&["--adopt"], &["--allowance"], &["LOG", "SCORE"], 2),
         run: walk::run,
     },
     Command {
@@ -115,7 +120,7 @@ pub const COMMANDS: [Command; 10] = [
         usage: "",
         summary: "show it all in a temporary folder",
         details: help::DEMO,
-        syntax: syntax(&[], &[], 0, 0),
+        syntax: syntax(&[], &[], &[], 0),
         run: demo::run,
     },
 ];

@@ -21,6 +21,7 @@ const SENTENCE: &[u8] = b"skywimple doubt: the log's tail was lost. \
 
 pub fn run(arguments: &Arguments, streams: &mut Streams) -> Result<u8, Failure> {
     let path = arguments.path(0);
+    mark::not_a_mark(path)?;
     Mark::require(path)?;
     let mut options = OpenOptions::new();
     let options = options.read(true).write(true).create(true).truncate(false);

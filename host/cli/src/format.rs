@@ -15,6 +15,13 @@ pub const BLANK: [u8; SECTOR] = [0; SECTOR];
 
 pub type Score = [u8; 20];
 
+/// That limit as one reads it, with a comma after each thousand.
+pub fn limit() -> String {
+    let digits = MOST_SECTORS.to_string();
+    let groups: Vec<_> = digits.as_bytes().rchunks(3).rev().collect();
+    String::from_utf8_lossy(&groups.join(&b',')).into_owned()
+}
+
 /// The sectors of the used part.
 pub fn used(log: &[u8]) -> usize {
     let last = log.chunks_exact(SECTOR).rposition(|sector| sector != BLANK);

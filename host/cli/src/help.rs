@@ -1,6 +1,7 @@
 //! What `--help` prints.
 
 use crate::command::{Command, COMMANDS};
+use crate::format::MOST_SECTORS;
 use crate::status;
 
 /// All commands and statuses.
@@ -31,11 +32,12 @@ pub fn of(command: &Command) -> String {
     } = command;
     let usage = format!("{name} {usage}");
     let usage = usage.trim_end();
+    let details = details.replace("{limit}", &MOST_SECTORS.to_string());
     format!("skywimple {usage}\n\n{name}: {summary}.\n\n{details}\n`skywimple --help` lists all exit statuses.\n")
 }
 
 pub const INIT: &str = "\
-N is 0 to 131072. Writes N sectors of 512 zero bytes to LOG and the mark to LOG.mark, both synced.
+N is 0 to {limit}. Writes N sectors of 512 zero bytes to LOG and the mark to LOG.mark, both synced.
 Never overwrites a file: where LOG or LOG.mark is there, the status is 73. LOG must not end in .mark.
 Keep LOG and LOG.mark together; without the mark nobody can tell whether the log's tail was lost.
 Copy the mark first, then the log. When you restore an older log, keep the newer mark: an older one
@@ -89,7 +91,8 @@ Prints sectors, used, records, doubtful and the verdict: sound (status 0) or not
   --json      prints the same as one JSON object
   --map       draws the log: # sound, ? doubtful, . blank; a cell with any doubtful sector is ?, and
               the number before a row is that of its first sector
-  --svg FILE  writes the map as a picture; overwrites FILE only if it is a picture
+  --svg FILE  writes the map as a picture; overwrites FILE only if it is a picture. With - it goes to
+              standard output, in place of the lines above
   --width N   cells in a row (default: what COLUMNS, else the terminal, else 80 has room for)
   --adopt     take a log without a good mark as it is, and mark it
 ";

@@ -7,10 +7,15 @@ use std::path::Path;
 
 use crate::arguments::Arguments;
 use crate::format::{MOST_SECTORS, SECTOR};
+use crate::interrupt::Held;
 use crate::lock;
 use crate::mark::{self, Mark};
 use crate::status::{Failure, DONE, EXISTS};
 use crate::streams::Streams;
+use crate::words;
+
+/// Sectors that are written at once.
+const PIECE: usize = 2048;
 
 pub fn run(arguments: &Arguments, _: &mut Streams) -> Result<u8, Failure> {
     let path = arguments.path(0);
@@ -19,7 +24,10 @@ pub fn run(arguments: &Arguments, _: &mut Streams) -> Result<u8, Failure> {
     };
     let sectors = usize::try_from(sectors).unwrap_or(usize::MAX);
     if sectors > MOST_SECTORS {
-        return Err(Failure::refused(3));
+        let mebibytes = MOST_SECTORS * SECTOR / (1024 * 1024);
+        let words = words::refusal(3);
+        let words = format!("--sectors is at most {MOST_SECTORS} ({mebibytes} MiB): {words}");
+        return Err(Failure::new(3, words));
     }
     let name = path.as_os_str().as_encoded_bytes();
     if name.ends_with(mark::SUFFIX.as_bytes()) {
@@ -29,14 +37,16 @@ pub fn run(arguments: &Arguments, _: &mut Streams) -> Result<u8, Failure> {
     if fs::symlink_metadata(&mark_path).is_ok() {
         return Err(exists(&mark_path));
     }
+    let held = Held::start();
     let file = File::create_new(path).map_err(|e| match e.kind() {
         io::ErrorKind::AlreadyExists => exists(path),
         _ => Failure::disk("create", path, &e),
     })?;
     let mark = Mark { sectors, used: 0 };
     let made = lock::take(&file, path)
-        .and_then(|()| blank(&file, path, sectors))
-        .and_then(|()| mark.write(&mark_path, &file));
+        .and_then(|()| blank(&file, path, sectors, &held))
+        .and_then(|()| mark.write(&mark_path, &file))
+        .and_then(|()| held.check());
     if made.is_err() {
         // Both are this call's own files.
         let _ = fs::remove_file(&mark_path);
@@ -46,14 +56,18 @@ pub fn run(arguments: &Arguments, _: &mut Streams) -> Result<u8, Failure> {
 }
 
 /// Writes real zeros, so that the room is there, and has them on disk.
-fn blank(file: &File, path: &Path, sectors: usize) -> Result<(), Failure> {
-    let zeros = vec![0; sectors * SECTOR];
-    let write = || {
-        file.write_all_at(&zeros, 0)?;
-        file.sync_all()?;
-        mark::sync_folder(path)
-    };
-    write().map_err(|e| Failure::disk("write", path, &e))
+fn blank(file: &File, path: &Path, sectors: usize, held: &Held) -> Result<(), Failure> {
+    let failed = |e| Failure::disk("write", path, &e);
+    let zeros = vec![0; SECTOR * PIECE];
+    for start in (0..sectors).step_by(PIECE) {
+        held.check()?;
+        let piece = &zeros[..PIECE.min(sectors - start) * SECTOR];
+        let written = file.write_all_at(piece, (start * SECTOR) as u64);
+        written.map_err(failed)?;
+    }
+    held.check()?;
+    file.sync_all().map_err(failed)?;
+    mark::sync_folder(path).map_err(failed)
 }
 
 fn exists(path: &Path) -> Failure {

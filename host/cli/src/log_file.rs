@@ -36,6 +36,7 @@ pub fn read(path: &Path, adopt: bool, streams: &mut Streams) -> Result<Vec<u8>, 
 
 /// Whether a log file is there. A mark without one means that it is lost.
 pub fn is_file(path: &Path) -> Result<(), Failure> {
+    mark::not_a_mark(path)?;
     match fs::metadata(path) {
         Ok(found) if found.is_file() => Ok(()),
         Ok(_) => Err(Failure::new(

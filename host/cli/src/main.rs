@@ -2,6 +2,7 @@
 
 mod arguments;
 mod blocks;
+mod closed;
 mod command;
 mod demo;
 mod doubt;
@@ -14,6 +15,7 @@ mod held;
 mod help;
 mod hex;
 mod init;
+mod interrupt;
 mod list;
 mod lock;
 mod log_file;
@@ -40,11 +42,12 @@ mod writer;
 
 use std::env;
 use std::fs::File;
-use std::io::{self, BufWriter, IsTerminal};
+use std::io::{self, BufWriter, IsTerminal, Read, Write};
 use std::os::fd::AsFd;
 use std::process::ExitCode;
 
-use status::Failure;
+use closed::Closed;
+use status::{Failure, INPUT_OUTPUT};
 use streams::Streams;
 
 /// More than any reply has.
@@ -52,23 +55,34 @@ const BUFFER: usize = 65_536;
 
 fn main() -> ExitCode {
     let words: Vec<_> = env::args_os().skip(1).collect();
-    let (out_terminal, err_terminal) = (io::stdout().is_terminal(), io::stderr().is_terminal());
+    let mut input: Box<dyn Read> = match closed::input() {
+        true => Box::new(Closed),
+        false => Box::new(io::stdin().lock()),
+    };
+    let mut out = match output() {
+        Ok(out) => out,
+        Err(e) => {
+            eprintln!("skywimple: {}", Failure::output(e).words);
+            return ExitCode::from(INPUT_OUTPUT);
+        }
+    };
     let mut streams = Streams {
-        input: &mut io::stdin().lock(),
-        out: &mut io::sink(),
+        input: &mut *input,
+        out: &mut *out,
         err: &mut io::stderr(),
-        out_terminal,
-        err_terminal,
+        out_terminal: io::stdout().is_terminal(),
+        err_terminal: io::stderr().is_terminal(),
         progress: false,
     };
-    // Not through `Stdout`, which would cut replies at each line's end: a reply is one write.
-    let status = match io::stdout().as_fd().try_clone_to_owned() {
-        Ok(out) => {
-            let mut out = BufWriter::with_capacity(BUFFER, File::from(out));
-            streams.out = &mut out;
-            command::run(&words, &mut streams)
-        }
-        Err(e) => command::end(Failure::output(e), &mut streams),
-    };
-    ExitCode::from(status)
+    ExitCode::from(command::run(&words, &mut streams))
+}
+
+/// Standard output. Not through `Stdout`, which would cut replies at each line's end: a reply is one
+/// write.
+fn output() -> io::Result<Box<dyn Write>> {
+    if closed::output() {
+        return Ok(Box::new(Closed));
+    }
+    let out = File::from(io::stdout().as_fd().try_clone_to_owned()?);
+    Ok(Box::new(BufWriter::with_capacity(BUFFER, out)))
 }

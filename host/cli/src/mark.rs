@@ -196,6 +196,22 @@ fn read_front(file: File) -> io::Result<Vec<u8>> {
     Ok(text)
 }
 
+/// Fails where what is given as a log is a mark, by its name or by what is in it.
+pub fn not_a_mark(path: &Path) -> Result<(), Failure> {
+    let name = path.as_os_str().as_encoded_bytes();
+    let log = name.strip_suffix(SUFFIX.as_bytes());
+    let holds_one = || matches!(Mark::find(path), Ok(Found::Good(_)));
+    if log.is_none() && !holds_one() {
+        return Ok(());
+    }
+    let log = match log {
+        Some(log) => format!("give the log itself, {}", String::from_utf8_lossy(log)),
+        None => "give the log itself".to_string(),
+    };
+    let words = format!("{} is the mark of a log, not a log: {log}.", path.display());
+    Err(Failure::new(MISSING, words))
+}
+
 /// Has the folder's own entries written to disk.
 pub fn sync_folder(file: &Path) -> io::Result<()> {
     File::open(folder(file))?.sync_all()
@@ -287,7 +303,7 @@ mod tests {
 
     #[test]
     fn impossible_numbers_are_damage() {
-        for (sectors, used) in [(4, 5), (131_073, 0)] {
+        for (sectors, used) in [(4, 5), (MOST_SECTORS + 1, 0)] {
             let mark = Mark { sectors, used };
             assert_eq!(Mark::parse(mark.text().as_bytes()), None);
         }

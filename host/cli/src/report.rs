@@ -31,13 +31,20 @@ pub fn run(arguments: &Arguments, streams: &mut Streams) -> Result<u8, Failure> 
         return Err(Failure::usage("a map is no JSON: give --json or --map"));
     }
     let picture = arguments.value("--svg");
-    if let Some(picture) = picture {
+    let picture_alone = picture.is_some_and(|picture| picture == "-");
+    if picture_alone && (json || drawn) {
+        return Err(Failure::usage(
+            "--svg - has standard output for the picture alone, without --json and --map",
+        ));
+    }
+    if let Some(picture) = picture.filter(|_| !picture_alone) {
         may_draw(path, picture)?;
     }
 
     let log = log_file::read(path, arguments.flag("--adopt"), streams)?;
     let report = Report::of(&log)?;
     match json {
+        _ if picture_alone => {}
         true => streams.answer(report.json().as_bytes())?,
         false => streams.answer(report.text.as_bytes())?,
     }
@@ -52,8 +59,13 @@ pub fn run(arguments: &Arguments, streams: &mut Streams) -> Result<u8, Failure> 
             streams.answer(drawn.as_bytes())?;
         }
         if let Some(picture) = picture {
-            fs::write(picture, svg::draw(&map, width, &name, report.verdict()))
-                .map_err(|e| Failure::disk("write", Path::new(picture), &e))?;
+            let drawn = svg::draw(&map, width, &name, report.verdict());
+            if picture_alone {
+                streams.answer(drawn.as_bytes())?;
+            } else {
+                let written = fs::write(picture, drawn);
+                written.map_err(|e| Failure::disk("write", Path::new(picture), &e))?;
+            }
         }
     }
     Ok(report.status())

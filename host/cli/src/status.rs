@@ -21,7 +21,7 @@ pub const BUSY: u8 = 75;
 pub const PROTOCOL: u8 = 76;
 
 /// All statuses, as the help prints them.
-pub const TABLE: [(&str, &str); 10] = [
+pub const TABLE: [(&str, &str); 12] = [
     ("0", "done"),
     (
         "1 to 23",
@@ -37,12 +37,17 @@ pub const TABLE: [(&str, &str); 10] = [
         "the log does not fit its mark, the mark is damaged, or the log has a second name",
     ),
     ("66", "no such file, or the log has no mark (see --adopt)"),
+    ("69", "./skywimple: the program could not be built"),
     ("73", "init or --svg would overwrite a file"),
     ("74", "reading or writing failed"),
     ("75", "another writer holds the log"),
     (
         "76",
         "serve --handshake: the client's opening line is late, too long or no such line",
+    ),
+    (
+        "128 + n",
+        "init: interrupted by signal n (130: Ctrl-C); nothing is left",
     ),
 ];
 

@@ -2,6 +2,7 @@
 
 use std::io::{Read, Write};
 
+use crate::escape;
 use crate::status::Failure;
 
 pub struct Streams<'a> {
@@ -21,9 +22,10 @@ impl Streams<'_> {
         written.map_err(Failure::output)
     }
 
-    /// Tells something on standard error. Where nobody can be told, the work goes on.
+    /// Tells something on standard error, in one line whatever names are in it. Where nobody can be
+    /// told, the work goes on.
     pub fn tell(&mut self, words: &str) {
-        self.tell_plain(&format!("skywimple: {words}\n"));
+        self.tell_plain(&format!("skywimple: {}\n", escape::visible(words)));
     }
 
     /// The same, without the name in front.

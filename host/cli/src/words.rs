@@ -1,6 +1,6 @@
 //! The refusals in words: what each is called, when it is given, what to do.
 
-use crate::format::{kind_name, Score};
+use crate::format::{kind_name, limit, Score, MOST_SECTORS, SECTOR};
 use crate::hex;
 
 struct Words {
@@ -27,7 +27,7 @@ const REFUSALS: [Words; 23] = [
     ),
     words(
         "not a log",
-        "a log is whole sectors of 512 bytes, 0 to 131,072 of them",
+        "a log is whole sectors of 512 bytes, 0 to {limit} of them",
         "Give a file that `skywimple init` made, and check the number of its sectors.",
     ),
     words(
@@ -86,7 +86,7 @@ const REFUSALS: [Words; 23] = [
         "log full",
         "too few sectors are left after the used part",
         "Nothing was stored. Lengthen the log with zeros while no writer runs \
-         (`truncate -s +1M LOG`) (at most 131,072 sectors in all), or begin another one with `skywimple init`.",
+         (at most {limit} sectors in all), or begin another one with `skywimple init`.",
     ),
     words(
         "clash",
@@ -165,11 +165,34 @@ pub fn refusal_in_tree(number: u8, block: Option<(u8, &Score)>) -> String {
     told(number, Some(&advice))
 }
 
+/// Refusal 14 of a log of so many sectors, with so many used, for a block that needs so many.
+pub fn full(log: &str, sectors: usize, used: usize, needed: usize) -> String {
+    let lack = format!("the block takes {needed}, and {} are left", sectors - used);
+    let advice = if used + needed > MOST_SECTORS {
+        format!(
+            "Nothing was stored. No log has more than {{limit}} sectors, so this one cannot be \
+             lengthened for it ({lack}): begin another one with `skywimple init`."
+        )
+    } else {
+        let more = needed.max(A_MEGABYTE).min(MOST_SECTORS - sectors) * SECTOR;
+        format!(
+            "Nothing was stored ({lack}). Lengthen the log with zeros while no writer runs \
+             (`truncate -s +{more} {log}`; at most {{limit}} sectors in all), or begin another one \
+             with `skywimple init`."
+        )
+    };
+    told(14, Some(&advice))
+}
+
+/// The sectors of a megabyte.
+const A_MEGABYTE: usize = 2048;
+
 fn told(number: u8, advice: Option<&str>) -> String {
     match REFUSALS.get(usize::from(number).wrapping_sub(1)) {
         Some(w) => {
             let advice = advice.unwrap_or(w.advice);
-            format!("{} ({number}): {}. {advice}", w.name, w.when)
+            let words = format!("{} ({number}): {}. {advice}", w.name, w.when);
+            words.replace("{limit}", &limit())
         }
         None => format!("refused ({number})"),
     }
@@ -177,7 +200,7 @@ fn told(number: u8, advice: Option<&str>) -> String {
 
 #[cfg(test)]
 mod tests {
-    use super::{refusal, refusal_in_tree};
+    use super::*;
 
     #[test]
     fn not_held_and_not_known_differ() {
@@ -202,6 +225,28 @@ mod tests {
             assert!(refusal(number).contains(option));
             assert!(!refusal_in_tree(number, None).contains(option));
         }
+    }
+
+    #[test]
+    fn a_full_log_near_the_limit() {
+        let words = |sectors, used, needed| full("x.log", sectors, used, needed);
+        assert!(words(10, 9, 2).contains("`truncate -s +1048576 x.log`"));
+        assert!(words(10, 9, 2).contains("takes 2, and 1 are left"));
+        let near = MOST_SECTORS - 3;
+        assert!(words(near, near, 3).contains("`truncate -s +1536 x.log`"));
+        for (sectors, used, needed) in [(near, near, 4), (MOST_SECTORS, MOST_SECTORS, 1)] {
+            let words = words(sectors, used, needed);
+            assert!(!words.contains("truncate"), "{words}");
+            assert!(
+                words.contains(&format!("more than {} sectors", limit())),
+                "{words}"
+            );
+        }
+        let past = refusal(3);
+        assert!(
+            past.contains(&format!("0 to {} of them", limit())),
+            "{past}"
+        );
     }
 
     #[test]

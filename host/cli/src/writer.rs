@@ -79,6 +79,15 @@ impl Writer {
         Ok(log)
     }
 
+    pub fn path(&self) -> &Path {
+        &self.path
+    }
+
+    /// How many sectors the log has, and how many of them are used.
+    pub fn sectors(&self) -> (usize, usize) {
+        (self.bytes.len() / SECTOR, self.used)
+    }
+
     /// The log's bytes, as they were read and written since.
     pub fn bytes(self) -> Vec<u8> {
         self.bytes

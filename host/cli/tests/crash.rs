@@ -4,6 +4,7 @@ mod common;
 
 use std::io::Write;
 use std::ops::Range;
+use std::process::Command;
 use std::thread;
 use std::time::Duration;
 
@@ -258,6 +259,41 @@ fn killed_in_init() {
         }
     }
     assert!(kills > 0, "no kill came in time");
+}
+
+/// Ctrl-C leaves a whole log with its mark, or nothing.
+#[test]
+fn interrupted_in_init() {
+    let sectors = MOST_SECTORS.to_string();
+    let mut interrupted = 0;
+    for delay in (0..60).step_by(3) {
+        let place = Place::new();
+        let init = ["init", "log", "--sectors", &sectors];
+        let child = place.command(&init).spawn().unwrap();
+        thread::sleep(Duration::from_millis(delay));
+        let signal = ["-INT", &child.id().to_string()];
+        Command::new("kill").args(signal).status().unwrap();
+        let output = child.wait_with_output().unwrap();
+        match output.status.code() {
+            Some(0) => assert!(only(&place.folder, &["log", "log.mark"])),
+            Some(130) => {
+                let told = String::from_utf8(output.stderr).unwrap();
+                assert!(
+                    told.contains("interrupted; nothing is left half made"),
+                    "{told}"
+                );
+                assert!(only(&place.folder, &[]));
+                interrupted += 1;
+            }
+            // The signal came before anything was begun.
+            None => assert!(only(&place.folder, &[])),
+            other => panic!("{other:?}"),
+        }
+        if interrupted == 3 {
+            return;
+        }
+    }
+    assert!(interrupted > 0, "no signal came in time");
 }
 
 /// What was lost is "not known" or the log is not served, and `doubt` can be run again.

@@ -118,6 +118,22 @@ fn a_picture() {
     );
 }
 
+/// With a dash the picture, and nothing else, goes to standard output.
+#[test]
+fn a_picture_on_standard_output() {
+    let place = damaged();
+    let draw = |more: &[&str]| place.run(&[&["report", "log", "--svg", "-"], more].concat());
+    let answer = draw(&[]).with(32);
+    assert!(answer.out.starts_with(b"<svg "), "{answer:?}");
+    assert!(answer.out.ends_with(b"</svg>\n"));
+    place.run(&["report", "log", "--svg", "map.svg"]).with(32);
+    assert_eq!(answer.out, place.file("map.svg"));
+    for more in ["--map", "--json"] {
+        draw(&[more]).fails(64, "--svg - has standard output for the picture alone");
+    }
+    assert!(only(&place.folder, &["log", "log.mark", "map.svg"]));
+}
+
 /// A picture in the place of the log or of its mark would be the very loss.
 #[test]
 fn a_picture_never_overwrites_the_log() {

@@ -301,7 +301,7 @@ fn a_damaged_mark() {
         good[..good.len() - 1].to_string(),
         String::new(),
         mark(10, 11),
-        mark(131_073, 6),
+        mark(MOST_SECTORS + 1, 6),
         good.to_uppercase(),
     ];
     for text in bad {
@@ -335,15 +335,31 @@ fn files_that_are_no_logs() {
     place.write("odd", [0; 700]);
     get("odd").fails(3, "odd: not a log (3)");
     let long = fs::File::create(place.path("long")).unwrap();
-    long.set_len(131_073 * SECTOR as u64).unwrap();
+    long.set_len(((MOST_SECTORS + 1) * SECTOR) as u64).unwrap();
     get("long").fails(3, "long: not a log (3)");
     assert!(only(&place.folder, &["long", "odd"]));
+}
+
+/// A mark is no log, and its log is named.
+#[test]
+fn a_mark_given_as_a_log() {
+    let (place, _, scores) = filled();
+    fs::copy(place.path("log.mark"), place.path("copy")).unwrap();
+    let told = "log.mark is the mark of a log, not a log: give the log itself, log.";
+    let get = |name: &str, more: &str| place.run(&["get", name, &scores[0], more]);
+    get("log.mark", "--adopt").fails(66, told);
+    get("log.mark", "--type=data").fails(66, told);
+    get("copy", "--adopt").fails(66, "copy is the mark of a log, not a log");
+    for command in ["put", "serve", "doubt", "report", "list"] {
+        place.run(&[command, "log.mark"]).fails(66, told);
+    }
+    assert!(only(&place.folder, &["copy", "log", "log.mark"]));
 }
 
 /// Beside a good mark the refusal says how to cut a file back, and that is right.
 #[test]
 fn a_log_with_bytes_too_many() {
-    for length in [10 * SECTOR + 1, 131_073 * SECTOR] {
+    for length in [10 * SECTOR + 1, (MOST_SECTORS + 1) * SECTOR] {
         let (place, blocks, scores) = filled();
         let log = fs::OpenOptions::new().write(true).open(place.path("log"));
         let log = log.unwrap();

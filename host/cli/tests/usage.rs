@@ -6,7 +6,7 @@ use std::ffi::{OsStr, OsString};
 use std::fs::{self, OpenOptions};
 use std::os::unix::ffi::OsStrExt;
 use std::os::unix::fs::{MetadataExt, PermissionsExt};
-use std::process::Stdio;
+use std::process::{Command, Stdio};
 
 use common::*;
 
@@ -20,7 +20,14 @@ fn help_and_version() {
     let overview = place.run(&["--help"]).with(0);
     assert_eq!(place.run(&["help"]).with(0).out, overview.out);
     let overview = overview.text();
-    for (status, words) in [("32", "notknown"), ("65", "mark"), ("75", "another writer")] {
+    for (status, words) in [
+        ("32", "notknown"),
+        ("65", "mark"),
+        ("69", "could not be built"),
+        ("75", "another writer"),
+        ("76", "opening line"),
+        ("128 + n", "130: Ctrl-C"),
+    ] {
         let line = overview
             .lines()
             .find(|line| line.trim().starts_with(status));
@@ -69,8 +76,115 @@ fn words_that_make_no_command() {
         &["demo", "now"],
     ];
     for words in bad {
-        place.run(words).fails(64, "");
+        let answer = place.run(words).fails(64, "");
+        // Each says what to do next.
+        let more = [
+            "Usage: skywimple",
+            "`skywimple --help`",
+            "Commands:",
+            "one word too many",
+        ];
+        assert!(
+            more.iter().any(|more| answer.err.contains(more)),
+            "{answer:?}"
+        );
     }
+}
+
+/// The words that are missing are named.
+#[test]
+fn missing_words() {
+    let place = Place::with_log(2);
+    let cases: [(&[&str], &str); 8] = [
+        (&["init"], "LOG is missing"),
+        (&["init", "new"], "--sectors is missing"),
+        (&["get"], "LOG and SCORE are missing"),
+        (&["get", "log"], "SCORE is missing"),
+        (&["read", "log"], "ENTRY is missing"),
+        (&["walk", "log"], "SCORE is missing"),
+        (&["serve"], "LOG is missing"),
+        (&["list", "--json"], "LOG is missing"),
+    ];
+    for (words, told) in cases {
+        place.run(words).fails(64, told);
+    }
+}
+
+/// Runs it by a shell that closes streams.
+fn with_closed(place: &Place, words: &str, closed: &str) -> Answer {
+    let mut shell = Command::new("sh");
+    let line = format!("exec \"$0\" {words} {closed}");
+    shell.args(["-c", &line, env!("CARGO_BIN_EXE_skywimple")]);
+    shell.current_dir(&place.folder).stdin(Stdio::null());
+    let output = shell.output().unwrap();
+    Answer {
+        status: output.status.code().unwrap(),
+        out: output.stdout,
+        err: String::from_utf8(output.stderr).unwrap(),
+    }
+}
+
+/// No input and closed input are two things, and so are an answer that nobody reads and one that
+/// nobody can get.
+#[test]
+fn closed_streams() {
+    let place = Place::with_log(8);
+    let card = place.put(b"card");
+    for words in ["put log", "put log -", "serve log", "serve log --handshake"] {
+        let answer = with_closed(&place, words, "<&-").with(74);
+        assert!(
+            answer.err.contains("cannot read standard input"),
+            "{answer:?}"
+        );
+        let answer = with_closed(&place, words, "<&- >&-").with(74);
+        assert!(answer.err.starts_with("skywimple: cannot "), "{answer:?}");
+    }
+    let get = format!("get log {card}");
+    for words in [
+        "put log",
+        &get,
+        "report log",
+        "list log",
+        "--help",
+        "--version",
+    ] {
+        let answer = with_closed(&place, words, ">&-").with(74);
+        let told = "cannot write standard output: Bad file descriptor";
+        assert!(answer.err.contains(told), "{answer:?}");
+    }
+    // Who has nothing to read or to say is not concerned; and /dev/null is no closed stream.
+    with_closed(&place, "init new --sectors 1", "<&- >&- 2>&-").with(0);
+    assert_eq!(with_closed(&place, &get, "<&-").with(0).out, b"card");
+    assert_eq!(
+        with_closed(&place, "put log", "</dev/null").with(0).text(),
+        score(b"")
+    );
+    with_closed(&place, &get, ">/dev/null").with(0);
+    with_closed(&place, &get, "<>/dev/null 1<>/dev/null").with(0);
+}
+
+/// A name cannot move the cursor, nor look like another line.
+#[test]
+fn names_with_control_characters() {
+    let place = Place::new();
+    let name = "odd\x1b[2J\nskywimple: all is well\r\u{202e}";
+    let shown = "odd\\u{1b}[2J\\nskywimple: all is well\\r\\u{202e}";
+    let words: [&[&str]; 4] = [
+        &["get", name, &score(b"")],
+        &["report", name],
+        &[name],
+        &["put", "log", name, name],
+    ];
+    for words in words {
+        let answer = place.run(words);
+        assert!(answer.status >= 64, "{answer:?}");
+        assert_eq!(answer.err.matches('\n').count(), 1, "{answer:?}");
+        let visible = |sign: char| sign == '\n' || !sign.is_control() && sign != '\u{202e}';
+        assert!(answer.err.chars().all(visible), "{answer:?}");
+    }
+    place.run(&["report", name]).fails(66, shown);
+    place.run(&["init", "log", "--sectors", "2"]).with(0);
+    place.run(&["put", "log", name]).fails(66, shown);
 }
 
 /// Odd words in every place of every command.

@@ -13,6 +13,8 @@ use std::process::{Child, ChildStdin, ChildStdout, Command, Stdio};
 use std::sync::atomic::{AtomicUsize, Ordering};
 
 pub const SECTOR: usize = 512;
+/// The most sectors a log may have.
+pub const MOST_SECTORS: usize = 131_072;
 
 /// What the program answered.
 #[derive(Debug)]
