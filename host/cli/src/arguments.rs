@@ -3,6 +3,8 @@
 use std::ffi::{OsStr, OsString};
 use std::path::Path;
 
+use skywimple_archive::Refusal;
+
 use crate::format::Score;
 use crate::hex;
 use crate::status::Failure;
@@ -118,7 +120,7 @@ impl Arguments {
             return Ok(13);
         };
         let kind = value.to_str().and_then(kind);
-        kind.ok_or_else(|| Failure::refused_about(9, value))
+        kind.ok_or_else(|| Failure::refused_about(Refusal::BlockType, value))
     }
 
     /// The score at a place.

@@ -2,7 +2,7 @@
 
 use std::ops::Range;
 
-use skywimple_archive::sound_at;
+use skywimple_archive::{sound_at, Refusal};
 
 use crate::format::{self, Score, PAYLOAD, SECTOR};
 
@@ -25,8 +25,8 @@ pub struct Piece {
     pub block: Option<Block>,
 }
 
-/// The used part from its front to its end, or the refusal's number.
-pub fn pieces(log: &[u8]) -> Result<Vec<Piece>, u8> {
+/// The used part from its front to its end.
+pub fn pieces(log: &[u8]) -> Result<Vec<Piece>, Refusal> {
     let used = format::used(log);
     let mut pieces: Vec<Piece> = Vec::new();
     let mut next = 0;
@@ -117,6 +117,6 @@ mod tests {
             pieces(&log).unwrap(),
             [&[doubtful][..], &rest, &[again]].concat()
         );
-        assert_eq!(pieces(&log[..700]), Err(3));
+        assert_eq!(pieces(&log[..700]), Err(Refusal::LogLength));
     }
 }

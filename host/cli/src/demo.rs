@@ -7,11 +7,13 @@ use std::io;
 use std::os::unix::fs::FileExt;
 use std::path::{Path, PathBuf};
 
+use skywimple_archive::Refusal;
+
 use crate::arguments::Arguments;
 use crate::command;
 use crate::format::SECTOR;
 use crate::hex;
-use crate::status::{Failure, CLAIM_FAILED, DONE, NOT_HELD, NOT_KNOWN, VERDICT_NOT_KNOWN};
+use crate::status::{Failure, CLAIM_FAILED, DONE, VERDICT_NOT_KNOWN};
 use crate::streams::Streams;
 use crate::unique;
 
@@ -92,7 +94,10 @@ impl Demo<'_, '_> {
         self.reads(&scores[1], CARDS[1].1)?;
         self.say("A card that nobody stored: the log is sound, so it can say \"not held\".")?;
         let other = self.command(&["get", LOG, &never_stored()])?;
-        self.claim("status 11, not held", refused(&other, NOT_HELD, "not held"))
+        self.claim(
+            "status 11, not held",
+            refused(&other, Refusal::NotHeld, "not held"),
+        )
     }
 
     /// Writes over the sector of the second card.
@@ -112,12 +117,12 @@ impl Demo<'_, '_> {
         let lost = self.command(&["get", LOG, &scores[1]])?;
         self.claim(
             "status 12, not known, and not a byte",
-            refused(&lost, NOT_KNOWN, "not known"),
+            refused(&lost, Refusal::NotKnown, "not known"),
         )?;
         let other = self.command(&["get", LOG, &never_stored()])?;
         self.claim(
             "the card that nobody stored is \"not known\" now as well: it could have been there",
-            refused(&other, NOT_KNOWN, "not known"),
+            refused(&other, Refusal::NotKnown, "not known"),
         )?;
         self.say("The other cards are as they were.")?;
         self.reads(&scores[0], CARDS[0].1)?;
@@ -190,8 +195,9 @@ impl Demo<'_, '_> {
     }
 }
 
-/// Whether a command wrote nothing and was refused by this number and in these words.
-fn refused(answer: &Answer, number: u8, words: &str) -> bool {
+/// Whether a command wrote nothing and was refused so and in these words.
+fn refused(answer: &Answer, refusal: Refusal, words: &str) -> bool {
+    let number = refusal.number();
     let expected = format!("skywimple: {words} ({number})");
     answer.status == number && answer.out.is_empty() && answer.err.starts_with(&expected)
 }

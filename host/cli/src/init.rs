@@ -5,6 +5,8 @@ use std::io;
 use std::os::unix::fs::FileExt;
 use std::path::Path;
 
+use skywimple_archive::Refusal;
+
 use crate::arguments::Arguments;
 use crate::format::{MOST_SECTORS, SECTOR};
 use crate::interrupt::Held;
@@ -12,7 +14,6 @@ use crate::lock;
 use crate::mark::{self, Mark};
 use crate::status::{Failure, DONE, EXISTS};
 use crate::streams::Streams;
-use crate::words;
 
 /// Sectors that are written at once.
 const PIECE: usize = 2048;
@@ -25,9 +26,10 @@ pub fn run(arguments: &Arguments, _: &mut Streams) -> Result<u8, Failure> {
     let sectors = usize::try_from(sectors).unwrap_or(usize::MAX);
     if sectors > MOST_SECTORS {
         let mebibytes = MOST_SECTORS * SECTOR / (1024 * 1024);
-        let words = words::refusal(3);
-        let words = format!("--sectors is at most {MOST_SECTORS} ({mebibytes} MiB): {words}");
-        return Err(Failure::new(3, words));
+        let mut failure = Failure::refused(Refusal::LogLength);
+        let most = format!("--sectors is at most {MOST_SECTORS} ({mebibytes} MiB): ");
+        failure.words.insert_str(0, &most);
+        return Err(failure);
     }
     let name = path.as_os_str().as_encoded_bytes();
     if name.ends_with(mark::SUFFIX.as_bytes()) {

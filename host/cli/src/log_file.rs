@@ -5,6 +5,8 @@ use std::io;
 use std::os::unix::fs::FileExt;
 use std::path::Path;
 
+use skywimple_archive::Refusal;
+
 use crate::format::{allowed, used, SECTOR};
 use crate::loss::Loss;
 use crate::mark::{self, Found, Mark};
@@ -87,7 +89,7 @@ pub fn load(
 
 /// Refusal 3. Beside a good mark it is known which length is right.
 fn no_log(path: &Path, length: u64, mark: Option<Mark>) -> Failure {
-    let mut failure = Failure::refused_about(3, path.as_os_str());
+    let mut failure = Failure::refused_about(Refusal::LogLength, path.as_os_str());
     if let Some(Mark { sectors, .. }) = mark {
         let marked = sectors * SECTOR;
         failure.words += &format!(

@@ -2,6 +2,8 @@
 
 use std::fmt::Write;
 
+use skywimple_archive::Refusal;
+
 use crate::blocks;
 use crate::format::SECTOR;
 
@@ -31,8 +33,8 @@ pub struct Scaled {
 }
 
 impl Map {
-    /// The map of a log, or the refusal's number.
-    pub fn of(log: &[u8]) -> Result<Map, u8> {
+    /// The map of a log.
+    pub fn of(log: &[u8]) -> Result<Map, Refusal> {
         let mut sectors = vec![Cell::Blank; log.len() / SECTOR];
         for piece in blocks::pieces(log)? {
             let cell = match piece.block {

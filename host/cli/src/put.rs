@@ -5,6 +5,8 @@ use std::fs::File;
 use std::io::{self, Read};
 use std::path::Path;
 
+use skywimple_archive::Refusal;
+
 use crate::arguments::Arguments;
 use crate::format::{sectors_of, Score, MOST_DATA};
 use crate::hex;
@@ -13,9 +15,6 @@ use crate::status::{Failure, DONE};
 use crate::streams::Streams;
 use crate::words;
 use crate::writer::Writer;
-
-/// The number of a block for which there is no room.
-const FULL: u8 = 14;
 
 pub fn run(arguments: &Arguments, streams: &mut Streams) -> Result<u8, Failure> {
     let kind = arguments.kind()?;
@@ -39,7 +38,7 @@ pub fn run(arguments: &Arguments, streams: &mut Streams) -> Result<u8, Failure> 
         let stored = match block {
             Ok(block) => {
                 let stored = client.store(&mut log, kind, &block, streams)?;
-                stored.map_err(|number| refused(number, file, &block, &log))
+                stored.map_err(|refusal| refused(refusal, file, &block, &log))
             }
             Err(failure) => Err(failure),
         };
@@ -56,14 +55,15 @@ pub fn run(arguments: &Arguments, streams: &mut Streams) -> Result<u8, Failure> 
     Ok(status)
 }
 
-fn refused(number: u8, file: &OsStr, block: &[u8], log: &Writer) -> Failure {
-    if number != FULL {
-        return Failure::refused_about(number, shown(file));
+fn refused(refusal: Refusal, file: &OsStr, block: &[u8], log: &Writer) -> Failure {
+    if refusal != Refusal::NoRoom {
+        return Failure::refused_about(refusal, shown(file));
     }
     let (sectors, used) = log.sectors();
     let path = log.path().display().to_string();
     let words = words::full(&path, sectors, used, sectors_of(block.len()));
-    Failure::new(number, format!("{}: {words}", shown(file).display()))
+    let words = format!("{}: {words}", shown(file).display());
+    Failure::new(refusal.number(), words)
 }
 
 /// A file as it is called in words.

@@ -4,7 +4,7 @@ use std::fs::File;
 use std::io::{self, Read};
 use std::path::Path;
 
-use skywimple_archive::{locate, sound_at, Run};
+use skywimple_archive::{locate, sound_at, Refusal, Run};
 
 use crate::arguments::Arguments;
 use crate::entry::{Entry, LENGTH as ENTRY};
@@ -17,10 +17,6 @@ use crate::status::{Failure, DONE};
 use crate::streams::Streams;
 use crate::words;
 
-/// The number of an offset at or past the file's size, and of a pointer block of odd length.
-const PAST_THE_END: u8 = 17;
-const ILL_FORMED_POINTERS: u8 = 18;
-
 pub fn run(arguments: &Arguments, streams: &mut Streams) -> Result<u8, Failure> {
     let entry = entry(arguments.path(1))?;
     let mut log = log_file::read(arguments.path(0), arguments.flag("--adopt"), streams)?;
@@ -28,22 +24,27 @@ pub fn run(arguments: &Arguments, streams: &mut Streams) -> Result<u8, Failure> 
     let ended = copy(&log, &entry, &mut progress, streams);
     streams.clear_progress();
     streams.out.flush().map_err(Failure::output)?;
-    let Some((offset, number)) = ended? else {
+    let Some((offset, refusal)) = ended? else {
         return Ok(DONE);
     };
-    let block = refused_block(&mut log, &entry, offset, number);
+    let block = refused_block(&mut log, &entry, offset, refusal);
     let mut at = format!("reading stopped at offset {offset}");
     if let Some((kind, score)) = &block {
         let (kind, score) = (kind_name(*kind), hex::encode(score));
         at += &format!(", at the {kind} block {score}");
     }
     let block = block.as_ref().map(|(kind, score)| (*kind, score));
-    let words = words::refusal_in_tree(number, block);
-    Err(Failure::new(number, format!("{at}: {words}")))
+    let words = words::refusal_in_tree(refusal, block);
+    Err(Failure::new(refusal.number(), format!("{at}: {words}")))
 }
 
-/// The block on the way to an offset that is refused by this number.
-fn refused_block(log: &mut [u8], entry: &[u8], offset: u64, number: u8) -> Option<(u8, Score)> {
+/// The block on the way to an offset that is refused so.
+fn refused_block(
+    log: &mut [u8],
+    entry: &[u8],
+    offset: u64,
+    refusal: Refusal,
+) -> Option<(u8, Score)> {
     let entry = Entry::parse(entry)?;
     let mut client = Client::greet(log).ok()?;
     let mut score = entry.score;
@@ -51,10 +52,10 @@ fn refused_block(log: &mut [u8], entry: &[u8], offset: u64, number: u8) -> Optio
         let (kind, count) = (entry.kind(level), entry.count(level));
         let block = match client.read(log, kind, &score, count as u16) {
             Ok(block) => block,
-            Err(refused) => return (refused == number).then_some((kind, score)),
+            Err(refused) => return (refused == refusal).then_some((kind, score)),
         };
         if level > 0 && !block.len().is_multiple_of(20) {
-            return (number == ILL_FORMED_POINTERS).then_some((kind, score));
+            return (refusal == Refusal::Pointers).then_some((kind, score));
         }
         if level > 0 {
             let start = 20 * entry.pointer(offset, level);
@@ -64,21 +65,21 @@ fn refused_block(log: &mut [u8], entry: &[u8], offset: u64, number: u8) -> Optio
     None
 }
 
-/// Writes run after run, up to the end or the first refused offset, which it gives with the number.
+/// Writes run after run, up to the end or the first refused offset, which it gives with the refusal.
 fn copy(
     log: &[u8],
     entry: &[u8],
     progress: &mut Progress,
     streams: &mut Streams,
-) -> Result<Option<(u64, u8)>, Failure> {
+) -> Result<Option<(u64, Refusal)>, Failure> {
     let page = vec![0; MOST_DATA];
     let mut offset = 0;
     loop {
         let runs = match runs(log, &page, entry, offset) {
             Ok(runs) => runs,
             // An offset that is refused so, and no other, is the end: all tests before it passed.
-            Err(PAST_THE_END) => return Ok(None),
-            Err(number) => return Ok(Some((offset, number))),
+            Err(Refusal::Offset) => return Ok(None),
+            Err(refusal) => return Ok(Some((offset, refusal))),
         };
         for bytes in runs {
             streams.out.write_all(bytes).map_err(Failure::output)?;
@@ -92,7 +93,12 @@ fn copy(
 
 /// The run at an offset and, where it is the front of a stored leaf, the leaf's other runs too: the
 /// block is sound, so its payloads lie in the sectors that follow, and none has to be looked up anew.
-fn runs<'a>(log: &'a [u8], page: &'a [u8], entry: &[u8], offset: u64) -> Result<Vec<&'a [u8]>, u8> {
+fn runs<'a>(
+    log: &'a [u8],
+    page: &'a [u8],
+    entry: &[u8],
+    offset: u64,
+) -> Result<Vec<&'a [u8]>, Refusal> {
     let (at, length) = match locate(log, page, entry, offset)? {
         Run::Log { at, length } => (at, length),
         Run::Page { length } => return Ok(vec![&page[..length]]),

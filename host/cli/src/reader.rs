@@ -82,9 +82,8 @@ impl Answers for Reader {
     ) -> Result<Served, Failure> {
         self.follow(streams)?;
         loop {
-            let (number, session) =
-                skywimple_archive::serve(session, message, &mut self.bytes, reply);
-            if number == 0 {
+            let served = skywimple_archive::serve(session, message, &mut self.bytes, reply);
+            if served.outcome.is_ok() {
                 let damaged = held::damaged(&mut self.bytes, &self.file, message, reply);
                 if let Some(damaged) = damaged {
                     streams.tell(&held::words(&damaged, &self.path));
@@ -92,8 +91,8 @@ impl Answers for Reader {
                 }
             }
             return Ok(Served {
-                number,
-                session,
+                outcome: served.outcome,
+                session: served.session,
                 appended: 0,
             });
         }

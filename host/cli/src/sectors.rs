@@ -69,6 +69,7 @@ fn fill(
 mod tests {
     use super::*;
     use crate::session::Client;
+    use skywimple_archive::Refusal;
     use std::cell::Cell;
 
     /// Loads from a file that gives 300 bytes at a time, is interrupted, and fails in some sectors.
@@ -126,17 +127,21 @@ mod tests {
             for i in 0..3 {
                 let read = client.read(&mut loaded.bytes, 13, &scores[i], 60_000);
                 let expected = if i == lost {
-                    Err(12)
+                    Err(Refusal::NotKnown)
                 } else {
                     Ok(&blocks[i][..])
                 };
                 assert_eq!(read, expected);
             }
             let never = client.read(&mut loaded.bytes, 13, &[9; 20], 60_000);
-            assert_eq!(never, Err(12));
+            assert_eq!(never, Err(Refusal::NotKnown));
         }
         let mut loaded = load_with(&log, log.len(), &[7]);
         let never = client.read(&mut loaded.bytes, 13, &[9; 20], 60_000);
-        assert_eq!(never, Err(12), "a blank sector could have been another");
+        assert_eq!(
+            never,
+            Err(Refusal::NotKnown),
+            "a blank sector could have been another"
+        );
     }
 }

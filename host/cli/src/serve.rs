@@ -88,8 +88,9 @@ fn talk(
         session = served.session;
         appended += served.appended;
         requests += 1;
-        if (1..=4).contains(&served.number) {
-            let words = words::refusal(served.number);
+        let silent = served.outcome.err().filter(|refusal| refusal.number() <= 4);
+        if let Some(refusal) = silent {
+            let words = words::refusal(refusal);
             streams.tell(&format!("message {requests} was not answered: {words}"));
         } else if session != Session::Closed {
             streams.answer(whole_reply(&reply))?;

@@ -1,6 +1,6 @@
 //! One greeted session over a log in memory.
 
-use skywimple_archive::{serve, Session};
+use skywimple_archive::{serve, Refusal, Session};
 
 use crate::format::Score;
 use crate::status::Failure;
@@ -15,8 +15,7 @@ const WRITE: u8 = 14;
 
 /// What came of a request.
 pub struct Served {
-    /// The refusal's number, 0 for none.
-    pub number: u8,
+    pub outcome: Result<(), Refusal>,
     /// The session afterwards.
     pub session: Session,
     /// The sectors that were appended.
@@ -55,57 +54,50 @@ impl Client {
     pub fn greet_on_disk(log: &mut dyn Answers, streams: &mut Streams) -> Result<Client, Failure> {
         let mut reply = vec![0; REPLY];
         let served = log.serve(Session::Fresh, &HELLO, &mut reply, streams)?;
-        if served.number != 0 {
-            return Err(Failure::refused(served.number));
-        }
+        served.outcome.map_err(Failure::refused)?;
         Ok(Client {
             session: served.session,
             reply,
         })
     }
 
-    /// Has a block of at most 65,529 bytes on disk. Gives its score, or the refusal's number.
+    /// Has a block of at most 65,529 bytes on disk. Gives its score, or the refusal.
     pub fn store(
         &mut self,
         log: &mut dyn Answers,
         kind: u8,
         data: &[u8],
         streams: &mut Streams,
-    ) -> Result<Result<Score, u8>, Failure> {
+    ) -> Result<Result<Score, Refusal>, Failure> {
         let message = write_message(kind, data);
         let served = log.serve(self.session, &message, &mut self.reply, streams)?;
-        Ok(match served.number {
-            0 => Ok(score_in(&self.reply)),
-            number => Err(number),
-        })
+        Ok(served.outcome.map(|()| score_in(&self.reply)))
     }
 
-    /// Stores a block of at most 65,529 bytes in memory. Gives its score, or the refusal's number.
+    /// Stores a block of at most 65,529 bytes in memory. Gives its score.
     #[cfg(test)]
-    pub fn write(&mut self, log: &mut [u8], kind: u8, data: &[u8]) -> Result<Score, u8> {
+    pub fn write(&mut self, log: &mut [u8], kind: u8, data: &[u8]) -> Result<Score, Refusal> {
         self.ask(log, &write_message(kind, data))?;
         Ok(score_in(&self.reply))
     }
 
-    /// A block's bytes, or the refusal's number.
+    /// A block's bytes.
     pub fn read(
         &mut self,
         log: &mut [u8],
         kind: u8,
         score: &Score,
         count: u16,
-    ) -> Result<&[u8], u8> {
+    ) -> Result<&[u8], Refusal> {
         let body = [&score[..], &[kind, 0], &count.to_be_bytes()].concat();
         self.ask(log, &message(READ, &body))
     }
 
-    /// Asks, and gives the reply's body or the refusal's number.
-    fn ask(&mut self, log: &mut [u8], message: &[u8]) -> Result<&[u8], u8> {
-        let (number, session) = serve(self.session, message, log, &mut self.reply);
-        self.session = session;
-        if number != 0 {
-            return Err(number);
-        }
+    /// Asks, and gives the reply's body.
+    fn ask(&mut self, log: &mut [u8], message: &[u8]) -> Result<&[u8], Refusal> {
+        let served = serve(self.session, message, log, &mut self.reply);
+        self.session = served.session;
+        served.outcome?;
         Ok(&whole_reply(&self.reply)[4..])
     }
 }

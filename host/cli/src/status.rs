@@ -4,13 +4,13 @@ use std::ffi::OsStr;
 use std::io;
 use std::path::Path;
 
+use skywimple_archive::Refusal;
+
 use crate::words;
 
 pub const DONE: u8 = 0;
 /// What the demonstration ends with where a claim of its does not hold.
 pub const CLAIM_FAILED: u8 = 1;
-pub const NOT_HELD: u8 = 11;
-pub const NOT_KNOWN: u8 = 12;
 pub const VERDICT_NOT_KNOWN: u8 = 32;
 pub const USAGE: u8 = 64;
 pub const UNFIT: u8 = 65;
@@ -71,14 +71,14 @@ impl Failure {
     }
 
     /// A refusal, by its number and in words.
-    pub fn refused(number: u8) -> Failure {
-        Failure::new(number, words::refusal(number))
+    pub fn refused(refusal: Refusal) -> Failure {
+        Failure::new(refusal.number(), words::refusal(refusal))
     }
 
     /// A refusal of something that has a name.
-    pub fn refused_about(number: u8, subject: &OsStr) -> Failure {
-        let words = format!("{}: {}", subject.display(), words::refusal(number));
-        Failure::new(number, words)
+    pub fn refused_about(refusal: Refusal, subject: &OsStr) -> Failure {
+        let words = format!("{}: {}", subject.display(), words::refusal(refusal));
+        Failure::new(refusal.number(), words)
     }
 
     /// A file that cannot be opened: perhaps there is none.

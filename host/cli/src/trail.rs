@@ -3,7 +3,7 @@
 
 use std::collections::HashMap;
 
-use skywimple_archive::sha1;
+use skywimple_archive::{sha1, Refusal, Walked};
 
 use crate::blocks::{self, Piece};
 use crate::entry::{self, Entry};
@@ -15,9 +15,7 @@ const MOST_NESTED: usize = 16;
 
 /// How a walk went.
 pub struct Trail {
-    /// The refusal's number, 0 for none.
-    pub number: u8,
-    pub visits: u64,
+    pub walked: Walked,
     /// The sectors before each visited block, which look-up passes by.
     pub passed: u64,
     /// The block that has the most of them: its sector, type and score.
@@ -39,8 +37,8 @@ struct Walk<'a> {
     log: &'a [u8],
     /// The first sound block of each type and score: its sector and size.
     index: HashMap<(u8, Score), (usize, usize)>,
-    /// The number for a block that isn't found.
-    missing: u8,
+    /// The refusal of a block that isn't found.
+    missing: Refusal,
     zero: Score,
     allowance: u64,
     visits: u64,
@@ -68,8 +66,8 @@ pub fn follow(log: &[u8], score: &Score, allowance: u64) -> Option<Trail> {
         log,
         index: index(&pieces),
         missing: match pieces.iter().any(|piece| piece.block.is_none()) {
-            true => 12,
-            false => 11,
+            true => Refusal::NotKnown,
+            false => Refusal::NotHeld,
         },
         zero: sha1(b""),
         allowance,
@@ -83,10 +81,12 @@ pub fn follow(log: &[u8], score: &Score, allowance: u64) -> Option<Trail> {
             byte: None,
         },
     };
-    let ended = walk.root();
+    let outcome = walk.root();
     Some(Trail {
-        number: ended.err().unwrap_or(0),
-        visits: walk.visits,
+        walked: Walked {
+            outcome,
+            visits: walk.visits,
+        },
         passed: walk.passed,
         farthest: walk.farthest,
         at: walk.at.stop(),
@@ -123,11 +123,11 @@ impl Where {
 }
 
 impl Walk<'_> {
-    fn root(&mut self) -> Result<(), u8> {
+    fn root(&mut self) -> Result<(), Refusal> {
         let mut root = self.visit(ROOT, 0)?;
         root.resize(ROOT, 0);
         if root[..2] != [0, 2] {
-            return Err(16);
+            return Err(Refusal::Entry);
         }
         self.at.kind = 2;
         self.at.score.copy_from_slice(&root[258..278]);
@@ -137,12 +137,12 @@ impl Walk<'_> {
     }
 
     /// Visits the block that the walk is at.
-    fn visit(&mut self, count: usize, nest: usize) -> Result<Vec<u8>, u8> {
+    fn visit(&mut self, count: usize, nest: usize) -> Result<Vec<u8>, Refusal> {
         if nest > MOST_NESTED {
-            return Err(20);
+            return Err(Refusal::Nest);
         }
         if self.visits == self.allowance {
-            return Err(21);
+            return Err(Refusal::Spent);
         }
         self.visits += 1;
         if self.at.score == self.zero {
@@ -155,7 +155,7 @@ impl Walk<'_> {
             .farthest
             .max(Some((sector, self.at.kind, self.at.score)));
         if size > count {
-            return Err(13);
+            return Err(Refusal::OverCount);
         }
         // The bytes of data lead nowhere.
         Ok(match self.at.kind {
@@ -165,7 +165,7 @@ impl Walk<'_> {
     }
 
     /// The entries of the directory block that the walk is at.
-    fn directory(&mut self, mut block: Vec<u8>, nest: usize) -> Result<(), u8> {
+    fn directory(&mut self, mut block: Vec<u8>, nest: usize) -> Result<(), Refusal> {
         block.resize(block.len().next_multiple_of(entry::LENGTH), 0);
         let here = self.at.clone();
         let before = here.byte.unwrap_or(0) / entry::LENGTH as u64;
@@ -176,7 +176,7 @@ impl Walk<'_> {
             self.at.clone_from(&here);
             self.at.entries.push(at);
             self.at.byte = None;
-            let entry = Entry::parse(bytes).ok_or(16)?;
+            let entry = Entry::parse(bytes).ok_or(Refusal::Entry)?;
             self.at.byte = Some(0);
             let nest = nest + usize::from(entry.directory);
             self.below(&entry, entry.depth, entry.score, nest)?;
@@ -185,7 +185,13 @@ impl Walk<'_> {
     }
 
     /// All that is below a score of an entry's tree, its own block first.
-    fn below(&mut self, entry: &Entry, level: u32, score: Score, nest: usize) -> Result<(), u8> {
+    fn below(
+        &mut self,
+        entry: &Entry,
+        level: u32,
+        score: Score,
+        nest: usize,
+    ) -> Result<(), Refusal> {
         self.at.kind = entry.kind(level);
         self.at.score = score;
         let block = self.visit(entry.count(level), nest)?;
@@ -196,7 +202,7 @@ impl Walk<'_> {
             };
         }
         if !block.len().is_multiple_of(20) {
-            return Err(18);
+            return Err(Refusal::Pointers);
         }
         let here = self.at.clone();
         for (at, pointer) in (0..).zip(block.chunks_exact(20)) {
@@ -254,18 +260,15 @@ mod tests {
         fn agrees(&self, root: &Score) {
             for allowance in (0..20).chain([1_000_000]) {
                 let trail = follow(&self.log, root, allowance).unwrap();
-                let walked = walk(&self.log, root, allowance);
-                assert_eq!((trail.number, trail.visits), walked);
+                assert_eq!(trail.walked, walk(&self.log, root, allowance));
             }
         }
 
         fn stops(&self, root: &Score, number: u8) -> Stop {
             let trail = follow(&self.log, root, 1_000_000).unwrap();
-            assert_eq!(
-                (trail.number, trail.visits),
-                walk(&self.log, root, 1_000_000)
-            );
-            assert_eq!(trail.number, number);
+            let refused = trail.walked.outcome.err();
+            assert_eq!(trail.walked, walk(&self.log, root, 1_000_000));
+            assert_eq!(refused.map_or(0, Refusal::number), number);
             trail.at
         }
     }

@@ -6,7 +6,7 @@ use std::sync::mpsc::{self, Receiver, RecvTimeoutError};
 use std::thread;
 use std::time::{Duration, Instant};
 
-use skywimple_archive::walk;
+use skywimple_archive::{walk, Refusal};
 
 use crate::arguments::Arguments;
 use crate::format::{kind_name, Score};
@@ -26,7 +26,7 @@ pub fn run(arguments: &Arguments, streams: &mut Streams) -> Result<u8, Failure> 
     let allowance = arguments.number("--allowance")?.unwrap_or(ALLOWANCE);
     let mut log = log_file::read(arguments.path(0), arguments.flag("--adopt"), streams)?;
     let mut trail = None;
-    let (number, visits) = if streams.err_terminal {
+    let walked = if streams.err_terminal {
         with_clock(|expected| {
             trail = trail::follow(&log, &score, allowance);
             if let Some(time) = trail.as_ref().and_then(|trail| estimate(&mut log, trail)) {
@@ -37,18 +37,19 @@ pub fn run(arguments: &Arguments, streams: &mut Streams) -> Result<u8, Failure> 
     } else {
         walk(&log, &score, allowance)
     };
-    if number == 0 {
+    let visits = walked.visits;
+    let Err(refusal) = walked.outcome else {
         streams.answer(format!("visits={visits}\ndone\n").as_bytes())?;
         return Ok(DONE);
-    }
+    };
     let trail = trail.or_else(|| trail::follow(&log, &score, allowance));
-    let stop = trail.filter(|trail| (trail.number, trail.visits) == (number, visits));
-    refused(number, visits, stop.map(|trail| trail.at), streams)
+    let stop = trail.filter(|trail| trail.walked == walked);
+    refused(refusal, visits, stop.map(|trail| trail.at), streams)
 }
 
 /// Names the block that was refused, and where it is.
 fn refused(
-    number: u8,
+    refusal: Refusal,
     visits: u64,
     stop: Option<Stop>,
     streams: &mut Streams,
@@ -62,8 +63,8 @@ fn refused(
     }
     streams.answer(answer.as_bytes())?;
     let block = stop.as_ref().map(|stop| (stop.kind, &stop.score));
-    let words = words::refusal_in_tree(number, block);
-    Err(Failure::new(number, format!("{at}: {words}")))
+    let words = words::refusal_in_tree(refusal, block);
+    Err(Failure::new(refusal.number(), format!("{at}: {words}")))
 }
 
 /// About how long the walk takes. It is the scans that take the time: each visit looks through all

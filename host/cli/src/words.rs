@@ -1,5 +1,7 @@
 //! The refusals in words: what each is called, when it is given, what to do.
 
+use skywimple_archive::Refusal;
+
 use crate::format::{kind_name, limit, Score, MOST_SECTORS, SECTOR};
 use crate::hex;
 
@@ -138,13 +140,13 @@ const REFUSALS: [Words; 23] = [
 ];
 
 /// A refusal in words, on one line.
-pub fn refusal(number: u8) -> String {
-    told(number, None)
+pub fn refusal(refusal: Refusal) -> String {
+    told(refusal, None)
 }
 
 /// A refusal of a block that a tree leads to: no option changes its type or its count. What can be
 /// done depends on which block it is.
-pub fn refusal_in_tree(number: u8, block: Option<(u8, &Score)>) -> String {
+pub fn refusal_in_tree(refusal: Refusal, block: Option<(u8, &Score)>) -> String {
     let fetch = match block {
         Some((kind, score)) => {
             let (kind, score) = (kind_name(kind), hex::encode(score));
@@ -156,13 +158,19 @@ pub fn refusal_in_tree(number: u8, block: Option<(u8, &Score)>) -> String {
         }
         None => "Store the tree again from its source.".to_string(),
     };
-    let advice = match number {
-        11 => format!("If the score or entry given is right, a block below it is missing. {fetch}"),
-        12 => format!("{fetch} `skywimple report LOG --map` shows the damage."),
-        13 => "The tree was written wrongly; store it again from its source.".to_string(),
-        _ => return told(number, None),
+    let advice = match refusal {
+        Refusal::NotHeld => {
+            format!("If the score or entry given is right, a block below it is missing. {fetch}")
+        }
+        Refusal::NotKnown => {
+            format!("{fetch} `skywimple report LOG --map` shows the damage.")
+        }
+        Refusal::OverCount => {
+            "The tree was written wrongly; store it again from its source.".to_string()
+        }
+        _ => return told(refusal, None),
     };
-    told(number, Some(&advice))
+    told(refusal, Some(&advice))
 }
 
 /// Refusal 14 of a log of so many sectors, with so many used, for a block that needs so many.
@@ -181,13 +189,14 @@ pub fn full(log: &str, sectors: usize, used: usize, needed: usize) -> String {
              with `skywimple init`."
         )
     };
-    told(14, Some(&advice))
+    told(Refusal::NoRoom, Some(&advice))
 }
 
 /// The sectors of a megabyte.
 const A_MEGABYTE: usize = 2048;
 
-fn told(number: u8, advice: Option<&str>) -> String {
+fn told(refusal: Refusal, advice: Option<&str>) -> String {
+    let number = refusal.number();
     match REFUSALS.get(usize::from(number).wrapping_sub(1)) {
         Some(w) => {
             let advice = advice.unwrap_or(w.advice);
@@ -204,26 +213,30 @@ mod tests {
 
     #[test]
     fn not_held_and_not_known_differ() {
-        assert!(refusal(11).starts_with("not held (11): "));
-        assert!(refusal(12).starts_with("not known (12): "));
-        assert!(!refusal(12).contains("not held"));
+        assert!(refusal(Refusal::NotHeld).starts_with("not held (11): "));
+        assert!(refusal(Refusal::NotKnown).starts_with("not known (12): "));
+        assert!(!refusal(Refusal::NotKnown).contains("not held"));
     }
 
     #[test]
-    fn any_number_has_words() {
-        for number in 0..=255 {
-            let sign = format!("({number})");
-            assert!(refusal(number).contains(&sign));
-            assert!(refusal_in_tree(number, None).contains(&sign));
-            assert!(refusal_in_tree(number, Some((13, &[7; 20]))).contains(&sign));
+    fn any_refusal_has_words() {
+        for why in Refusal::ALL {
+            let sign = format!(" ({}): ", why.number());
+            assert!(refusal(why).contains(&sign));
+            assert!(refusal_in_tree(why, None).contains(&sign));
+            assert!(refusal_in_tree(why, Some((13, &[7; 20]))).contains(&sign));
         }
     }
 
     #[test]
     fn no_advice_on_options_that_are_not_there() {
-        for (number, option) in [(11, "--type"), (13, "--count")] {
-            assert!(refusal(number).contains(option));
-            assert!(!refusal_in_tree(number, None).contains(option));
+        let options = [
+            (Refusal::NotHeld, "--type"),
+            (Refusal::OverCount, "--count"),
+        ];
+        for (why, option) in options {
+            assert!(refusal(why).contains(option));
+            assert!(!refusal_in_tree(why, None).contains(option));
         }
     }
 
@@ -242,7 +255,7 @@ mod tests {
                 "{words}"
             );
         }
-        let past = refusal(3);
+        let past = refusal(Refusal::LogLength);
         assert!(
             past.contains(&format!("0 to {} of them", limit())),
             "{past}"
@@ -251,7 +264,7 @@ mod tests {
 
     #[test]
     fn a_block_to_fetch() {
-        let words = refusal_in_tree(12, Some((3, &[0x0a; 20])));
+        let words = refusal_in_tree(Refusal::NotKnown, Some((3, &[0x0a; 20])));
         let score = "0a".repeat(20);
         assert!(words.contains(&format!("get COPY {score} --type ptr1 > block")));
         assert!(words.contains("DO NOT READ THIS AS ABSENT"));

@@ -160,10 +160,9 @@ impl Answers for Writer {
         streams: &mut Streams,
     ) -> Result<Served, Failure> {
         loop {
-            let (number, after) =
-                skywimple_archive::serve(session, message, &mut self.bytes, reply);
+            let served = skywimple_archive::serve(session, message, &mut self.bytes, reply);
             let appended = self.keep()?;
-            if number == 0 && appended == 0 {
+            if served.outcome.is_ok() && appended == 0 {
                 let damaged = held::damaged(&mut self.bytes, &self.file, message, reply);
                 if let Some(damaged) = damaged {
                     streams.tell(&held::words(&damaged, &self.path));
@@ -173,8 +172,8 @@ impl Answers for Writer {
             // A reply acknowledges, also where nothing was appended.
             self.in_place()?;
             return Ok(Served {
-                number,
-                session: after,
+                outcome: served.outcome,
+                session: served.session,
                 appended,
             });
         }
