@@ -3,7 +3,8 @@
 use std::ffi::OsString;
 
 use crate::arguments::{Arguments, Syntax};
-use crate::status::{Failure, DONE, USAGE};
+use crate::format::MOST_SECTORS;
+use crate::status::{self, Failure, DONE, USAGE};
 use crate::streams::Streams;
 use crate::{demo, doubt, get, help, init, list, put, read, report, serve, walk};
 
@@ -121,7 +122,7 @@ pub const COMMANDS: [Command; 10] = [
         summary: "show it all in a temporary folder",
         details: help::DEMO,
         syntax: syntax(&[], &[], &[], 0),
-        run: demo::run,
+        run: |_, streams| demo::run(run, streams),
     },
 ];
 
@@ -144,12 +145,12 @@ pub fn end(failure: Failure, streams: &mut Streams) -> u8 {
 fn choose(words: &[OsString], streams: &mut Streams) -> Result<u8, Failure> {
     let Some((first, rest)) = words.split_first() else {
         streams.tell("no command given");
-        streams.tell_plain(&help::overview());
+        streams.tell_plain(&overview());
         return Ok(USAGE);
     };
     match (first.to_str(), rest) {
-        (Some("--help" | "-h" | "help"), []) => print(&help::overview(), streams),
-        (Some("help"), [name]) => print(&help::of(find(name)?), streams),
+        (Some("--help" | "-h" | "help"), []) => print(&overview(), streams),
+        (Some("help"), [name]) => print(&help_of(find(name)?), streams),
         (Some("--version" | "-V"), []) => print(
             concat!("skywimple ", env!("CARGO_PKG_VERSION"), "\n"),
             streams,
@@ -176,7 +177,7 @@ fn find(name: &OsString) -> Result<&'static Command, Failure> {
 fn start(command: &Command, words: &[OsString], streams: &mut Streams) -> Result<u8, Failure> {
     let started = Arguments::parse(&command.syntax, words).and_then(|arguments| {
         if arguments.help {
-            return print(&help::of(command), streams);
+            return print(&help_of(command), streams);
         }
         (command.run)(&arguments, streams)
     });
@@ -193,4 +194,36 @@ fn start(command: &Command, words: &[OsString], streams: &mut Streams) -> Result
 fn print(text: &str, streams: &mut Streams) -> Result<u8, Failure> {
     streams.answer(text.as_bytes())?;
     Ok(DONE)
+}
+
+/// All commands and statuses.
+fn overview() -> String {
+    let mut text = String::from(
+        "skywimple: an archive that says \"not known\" when it does not know.\n\
+         Blocks are stored in one append-only log and named by their SHA-1 score.\n\nCommands:\n",
+    );
+    for command in &COMMANDS {
+        text += &format!("  {:7} {}\n", command.name, command.summary);
+    }
+    text += "\n`skywimple COMMAND --help` says more; `skywimple --version` prints the version.\n";
+    text += "Words after `--` are never options.\n\nExit statuses:\n";
+    for (status, meaning) in &status::TABLE {
+        text += &format!("  {status:8} {meaning}\n");
+    }
+    text
+}
+
+/// One command.
+fn help_of(command: &Command) -> String {
+    let Command {
+        name,
+        usage,
+        summary,
+        details,
+        ..
+    } = command;
+    let usage = format!("{name} {usage}");
+    let usage = usage.trim_end();
+    let details = details.replace("{limit}", &MOST_SECTORS.to_string());
+    format!("skywimple {usage}\n\n{name}: {summary}.\n\n{details}\n`skywimple --help` lists all exit statuses.\n")
 }

@@ -9,8 +9,6 @@ use std::path::{Path, PathBuf};
 
 use skywimple_archive::Refusal;
 
-use crate::arguments::Arguments;
-use crate::command;
 use crate::format::SECTOR;
 use crate::hex;
 use crate::status::{Failure, CLAIM_FAILED, DONE, VERDICT_NOT_KNOWN};
@@ -26,11 +24,15 @@ const CARDS: [(&str, &str); 3] = [
     ("eve.card", "donor: Eve\nantigen Vel: not tested\n"),
 ];
 
-pub fn run(_: &Arguments, streams: &mut Streams) -> Result<u8, Failure> {
+/// Runs a command, tells what fails and gives the status.
+type Run = fn(&[OsString], &mut Streams) -> u8;
+
+pub fn run(run: Run, streams: &mut Streams) -> Result<u8, Failure> {
     let folder = Folder::new()?;
     let mut demo = Demo {
         folder: &folder.path,
         streams,
+        run,
         claims: 0,
     };
     demo.play()?;
@@ -45,6 +47,7 @@ pub fn run(_: &Arguments, streams: &mut Streams) -> Result<u8, Failure> {
 struct Demo<'a, 'b> {
     folder: &'a Path,
     streams: &'a mut Streams<'b>,
+    run: Run,
     claims: usize,
 }
 
@@ -167,7 +170,7 @@ impl Demo<'_, '_> {
             err_terminal: false,
             progress: false,
         };
-        let status = command::run(&full, &mut streams);
+        let status = (self.run)(&full, &mut streams);
         let folder = format!("{}/", self.folder.display());
         let text = |bytes: Vec<u8>| String::from_utf8_lossy(&bytes).replace(&folder, "");
         let (out, err) = (text(out), text(err));

@@ -1,40 +1,4 @@
-//! What `--help` prints.
-
-use crate::command::{Command, COMMANDS};
-use crate::format::MOST_SECTORS;
-use crate::status;
-
-/// All commands and statuses.
-pub fn overview() -> String {
-    let mut text = String::from(
-        "skywimple: an archive that says \"not known\" when it does not know.\n\
-         Blocks are stored in one append-only log and named by their SHA-1 score.\n\nCommands:\n",
-    );
-    for command in &COMMANDS {
-        text += &format!("  {:7} {}\n", command.name, command.summary);
-    }
-    text += "\n`skywimple COMMAND --help` says more; `skywimple --version` prints the version.\n";
-    text += "Words after `--` are never options.\n\nExit statuses:\n";
-    for (status, meaning) in &status::TABLE {
-        text += &format!("  {status:8} {meaning}\n");
-    }
-    text
-}
-
-/// One command.
-pub fn of(command: &Command) -> String {
-    let Command {
-        name,
-        usage,
-        summary,
-        details,
-        ..
-    } = command;
-    let usage = format!("{name} {usage}");
-    let usage = usage.trim_end();
-    let details = details.replace("{limit}", &MOST_SECTORS.to_string());
-    format!("skywimple {usage}\n\n{name}: {summary}.\n\n{details}\n`skywimple --help` lists all exit statuses.\n")
-}
+//! What `--help` says of each command.
 
 pub const INIT: &str = "\
 N is 0 to {limit}. Writes N sectors of 512 zero bytes to LOG and the mark to LOG.mark, both synced.

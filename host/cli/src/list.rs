@@ -6,12 +6,12 @@ use crate::arguments::Arguments;
 use crate::blocks::{self, Block, Piece};
 use crate::format::kind_name;
 use crate::hex;
-use crate::log_file;
+use crate::reader;
 use crate::status::{Failure, DONE, VERDICT_NOT_KNOWN};
 use crate::streams::Streams;
 
 pub fn run(arguments: &Arguments, streams: &mut Streams) -> Result<u8, Failure> {
-    let log = log_file::read(arguments.path(0), arguments.flag("--adopt"), streams)?;
+    let log = reader::read(arguments.path(0), arguments.flag("--adopt"), streams)?;
     let pieces = blocks::pieces(&log).map_err(Failure::refused)?;
     let line = match arguments.flag("--json") {
         true => json,

@@ -13,28 +13,6 @@ use crate::mark::{self, Found, Mark};
 use crate::sectors::{self, Loaded};
 use crate::status::{Failure, MISSING};
 use crate::streams::Streams;
-use crate::writer::Writer;
-
-/// Reads a log that fits its mark. With `adopt`, a log without a good mark gets one first.
-pub fn read(path: &Path, adopt: bool, streams: &mut Streams) -> Result<Vec<u8>, Failure> {
-    if adopt {
-        return Ok(Writer::open(path, true, streams)?.bytes());
-    }
-    is_file(path)?;
-    // The mark first: then an append that goes on meanwhile never looks like a loss.
-    let mark = Mark::require(path)?;
-    let file = File::open(path).map_err(|e| Failure::open(path, &e))?;
-    let Loaded { bytes, unreadable } = load(&file, path, Some(mark), streams)?;
-    fits(path, mark, &bytes)?;
-    if unreadable == 0 && used(&bytes) > mark.used {
-        // A crash came before the mark: without it, a block that is read now could later be lost
-        // unseen. Where this reader can't write, or a writer is at work, it goes on.
-        if let Ok(log) = Writer::open(path, false, streams) {
-            return Ok(log.bytes());
-        }
-    }
-    Ok(bytes)
-}
 
 /// Whether a log file is there. A mark without one means that it is lost.
 pub fn is_file(path: &Path) -> Result<(), Failure> {

@@ -10,8 +10,8 @@ use crate::arguments::Arguments;
 use crate::entry::{Entry, LENGTH as ENTRY};
 use crate::format::{kind_name, Score, LABEL, MOST_DATA, PAYLOAD, SECTOR};
 use crate::hex;
-use crate::log_file;
 use crate::progress::Progress;
+use crate::reader;
 use crate::session::Client;
 use crate::status::{Failure, DONE};
 use crate::streams::Streams;
@@ -19,7 +19,7 @@ use crate::words;
 
 pub fn run(arguments: &Arguments, streams: &mut Streams) -> Result<u8, Failure> {
     let entry = entry(arguments.path(1))?;
-    let mut log = log_file::read(arguments.path(0), arguments.flag("--adopt"), streams)?;
+    let mut log = reader::read(arguments.path(0), arguments.flag("--adopt"), streams)?;
     let mut progress = Progress::start();
     let ended = copy(&log, &entry, &mut progress, streams);
     streams.clear_progress();

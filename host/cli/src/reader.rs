@@ -1,4 +1,4 @@
-//! A log that is only read: by as many processes as like, and beside a writer.
+//! Logs that are read: once, or by a server that only reads, as many as like and beside a writer.
 
 use std::fs::File;
 use std::path::{Path, PathBuf};
@@ -14,6 +14,28 @@ use crate::sectors::{self, Loaded};
 use crate::session::{Answers, Served};
 use crate::status::Failure;
 use crate::streams::Streams;
+use crate::writer::Writer;
+
+/// Reads a log that fits its mark. With `adopt`, a log without a good mark gets one first.
+pub fn read(path: &Path, adopt: bool, streams: &mut Streams) -> Result<Vec<u8>, Failure> {
+    if adopt {
+        return Ok(Writer::open(path, true, streams)?.bytes());
+    }
+    is_file(path)?;
+    // The mark first: then an append that goes on meanwhile never looks like a loss.
+    let mark = Mark::require(path)?;
+    let file = File::open(path).map_err(|e| Failure::open(path, &e))?;
+    let Loaded { bytes, unreadable } = load(&file, path, Some(mark), streams)?;
+    fits(path, mark, &bytes)?;
+    if unreadable == 0 && used(&bytes) > mark.used {
+        // A crash came before the mark: without it, a block that is read now could later be lost
+        // unseen. Where this reader can't write, or a writer is at work, it goes on.
+        if let Ok(log) = Writer::open(path, false, streams) {
+            return Ok(log.bytes());
+        }
+    }
+    Ok(bytes)
+}
 
 /// A log of which nothing is ever written, nor its mark. It is lent without room behind its used
 /// part, so the proved call itself refuses a new block, with 14.

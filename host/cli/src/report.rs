@@ -8,9 +8,9 @@ use std::path::Path;
 
 use crate::arguments::Arguments;
 use crate::escape;
-use crate::log_file;
 use crate::map::Map;
 use crate::mark;
+use crate::reader;
 use crate::status::{Failure, DONE, EXISTS, VERDICT_NOT_KNOWN};
 use crate::streams::Streams;
 use crate::svg;
@@ -41,7 +41,7 @@ pub fn run(arguments: &Arguments, streams: &mut Streams) -> Result<u8, Failure> 
         may_draw(path, picture)?;
     }
 
-    let log = log_file::read(path, arguments.flag("--adopt"), streams)?;
+    let log = reader::read(path, arguments.flag("--adopt"), streams)?;
     let report = Report::of(&log)?;
     match json {
         _ if picture_alone => {}

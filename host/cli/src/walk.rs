@@ -11,7 +11,7 @@ use skywimple_archive::{walk, Refusal};
 use crate::arguments::Arguments;
 use crate::format::{kind_name, Score};
 use crate::hex;
-use crate::log_file;
+use crate::reader;
 use crate::session::Client;
 use crate::status::{Failure, DONE};
 use crate::streams::Streams;
@@ -24,7 +24,7 @@ const ALLOWANCE: u64 = 1_000_000;
 pub fn run(arguments: &Arguments, streams: &mut Streams) -> Result<u8, Failure> {
     let score = arguments.score(1)?;
     let allowance = arguments.number("--allowance")?.unwrap_or(ALLOWANCE);
-    let mut log = log_file::read(arguments.path(0), arguments.flag("--adopt"), streams)?;
+    let mut log = reader::read(arguments.path(0), arguments.flag("--adopt"), streams)?;
     let mut trail = None;
     let walked = if streams.err_terminal {
         with_clock(|expected| {
