@@ -255,7 +255,13 @@ fn killed_in_init() {
             assert!(place.file("log") == vec![0; LONG * SECTOR]);
             assert_eq!(place.file("log.mark"), mark(LONG, 0).as_bytes());
         } else {
-            answer.fails(66, "log");
+            let log = place.path("log").exists();
+            let words = if log {
+                "log has no mark"
+            } else {
+                "no such log: log"
+            };
+            answer.fails(66, words);
         }
     }
     assert!(kills > 0, "no kill came in time");
@@ -305,8 +311,14 @@ fn killed_in_doubt() {
     for delay in 0..12 {
         place.write("log", b"");
         kills += usize::from(killed(&place, &["doubt", "log"], delay));
-        let status = place.get(&lost).status;
-        assert!([12, 65].contains(&status), "{status}");
+        match place.get(&lost).status {
+            12 => place.not_known(&lost),
+            _ => drop(
+                place
+                    .get(&lost)
+                    .fails(65, "the last 3 used sectors are lost"),
+            ),
+        }
         place.run(&["doubt", "log"]).with(0);
         place.not_known(&lost);
         assert_eq!(place.file("log").len(), LONG * SECTOR);

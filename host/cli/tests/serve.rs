@@ -81,7 +81,8 @@ fn input_that_ends_inside_a_message() {
         assert!(answer.err.contains("ended inside a message"), "{answer:?}");
     }
     place.not_held(&score(b"torn off"));
-    place.feed(&["serve", "log"], b"").with(0);
+    let nothing = place.feed(&["serve", "log"], b"").with(0);
+    assert_eq!((nothing.out, nothing.err), (Vec::new(), String::new()));
 }
 
 #[test]

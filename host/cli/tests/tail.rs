@@ -5,7 +5,6 @@ mod common;
 use std::fs::{self, Permissions};
 use std::os::unix::fs::{chown, MetadataExt, PermissionsExt};
 use std::os::unix::process::CommandExt;
-use std::process::Command;
 
 use common::*;
 
@@ -266,29 +265,22 @@ fn the_mark_of_another_owner() {
     if !superuser() {
         return skipped("the mark of another owner: only the superuser can give files away");
     }
-    let place = Place::with_log(16);
-    let program = place.path("skywimple");
-    fs::copy(env!("CARGO_BIN_EXE_skywimple"), &program).unwrap();
+    let mut place = Place::with_log(16);
+    place.plain_user();
     for (name, mode) in [(".", 0o777), ("log", 0o666), ("log.mark", 0o664)] {
         chown(place.path(name), Some(4711), Some(4712)).unwrap();
         fs::set_permissions(place.path(name), Permissions::from_mode(mode)).unwrap();
     }
     let put = |group: u32, file: &str| {
         place.write(file, file);
-        let mut command = Command::new(&program);
-        command
-            .args(["put", "log", file])
-            .current_dir(&place.folder);
-        let output = command.uid(4700).gid(group).output().unwrap();
+        let output = place.command(&["put", "log", file]).gid(group).output();
+        let output = output.unwrap();
         assert!(output.status.success(), "{output:?}");
         access(&place, "log.mark")
     };
-    assert_eq!(put(4712, "one"), (4700, 4712, 0o664));
-    assert_eq!(
-        put(4799, "two"),
-        (4700, 4799, 0o604),
-        "no other group gets its rights"
-    );
+    assert_eq!(put(4712, "one"), (OTHER_USER, 4712, 0o664));
+    let other = (OTHER_USER, 4799, 0o604);
+    assert_eq!(put(4799, "two"), other, "no other group gets its rights");
 }
 
 #[test]

@@ -5,7 +5,7 @@ mod common;
 use std::ffi::{OsStr, OsString};
 use std::fs::{self, OpenOptions};
 use std::os::unix::ffi::OsStrExt;
-use std::os::unix::fs::{MetadataExt, PermissionsExt};
+use std::os::unix::fs::PermissionsExt;
 use std::process::{Command, Stdio};
 
 use common::*;
@@ -54,40 +54,59 @@ fn help_and_version() {
 fn words_that_make_no_command() {
     let place = Place::with_log(2);
     let never = score(b"never");
-    let bad: [&[&str]; 19] = [
-        &[],
-        &[""],
-        &["fetch"],
-        &["--put"],
-        &["help", "fetch"],
-        &["help", "get", "extra"],
-        &["--help", "extra"],
-        &["--version", "extra"],
-        &["init"],
-        &["init", "a", "b", "--sectors", "1"],
-        &["put"],
-        &["get", "log"],
-        &["get", "log", "abc"],
-        &["get", "log", &never, "--type"],
-        &["get", "log", &never, "--counts", "1"],
-        &["get", "log", &never, "more"],
-        &["walk", "log", &never, "--allowance", "many"],
-        &["serve", "log", "--type", "data"],
-        &["demo", "now"],
+    let bad: [(&[&str], &str); 19] = [
+        (&[], "no command given\nskywimple: an archive"),
+        (&[""], "no such command: . `skywimple --help`"),
+        (&["fetch"], "no such command: fetch. `skywimple --help`"),
+        (&["--put"], "no such command: --put. `skywimple --help`"),
+        (&["help", "fetch"], "no such command: fetch."),
+        (&["help", "get", "extra"], "one word too many: extra"),
+        (&["--help", "extra"], "one word too many: extra"),
+        (&["--version", "extra"], "one word too many: extra"),
+        (
+            &["init"],
+            "LOG is missing. Usage: skywimple init LOG --sectors N",
+        ),
+        (
+            &["init", "a", "b", "--sectors", "1"],
+            "one word too many: b. Usage:",
+        ),
+        (&["put"], "LOG is missing. Usage: skywimple put LOG"),
+        (
+            &["get", "log"],
+            "SCORE is missing. Usage: skywimple get LOG SCORE",
+        ),
+        (
+            &["get", "log", "abc"],
+            "a score is 40 hex digits, not abc. Usage:",
+        ),
+        (
+            &["get", "log", &never, "--type"],
+            "--type takes a value. Usage:",
+        ),
+        (
+            &["get", "log", &never, "--counts", "1"],
+            "no such option here: --counts",
+        ),
+        (
+            &["get", "log", &never, "more"],
+            "one word too many: more. Usage:",
+        ),
+        (
+            &["walk", "log", &never, "--allowance", "many"],
+            "a decimal number, not many",
+        ),
+        (
+            &["serve", "log", "--type", "data"],
+            "no such option here: --type",
+        ),
+        (
+            &["demo", "now"],
+            "one word too many: now. Usage: skywimple demo",
+        ),
     ];
-    for words in bad {
-        let answer = place.run(words).fails(64, "");
-        // Each says what to do next.
-        let more = [
-            "Usage: skywimple",
-            "`skywimple --help`",
-            "Commands:",
-            "one word too many",
-        ];
-        assert!(
-            more.iter().any(|more| answer.err.contains(more)),
-            "{answer:?}"
-        );
+    for (words, told) in bad {
+        place.run(words).fails(64, told);
     }
 }
 
@@ -114,7 +133,7 @@ fn missing_words() {
 fn with_closed(place: &Place, words: &str, closed: &str) -> Answer {
     let mut shell = Command::new("sh");
     let line = format!("exec \"$0\" {words} {closed}");
-    shell.args(["-c", &line, env!("CARGO_BIN_EXE_skywimple")]);
+    shell.args(["-c", &line, PROGRAM]);
     shell.current_dir(&place.folder).stdin(Stdio::null());
     let output = shell.output().unwrap();
     Answer {
@@ -210,9 +229,16 @@ fn odd_words_never_bring_it_down() {
                 let words = [OsStr::new(command), first, second];
                 let words: Vec<OsString> = words.iter().map(OsString::from).collect();
                 let answer = place.run(&words);
-                assert!(answer.status != 101, "{words:?}");
-                let silent = answer.out.is_empty();
-                assert!(silent || answer.status == 0, "{words:?}: {answer:?}");
+                if answer.status == 0 {
+                    assert_eq!(answer.err, "", "{words:?}");
+                    continue;
+                }
+                let known = [3, 9, 11, 14, 16, 32, 64, 65, 66, 73, 74];
+                assert!(known.contains(&answer.status), "{words:?}: {answer:?}");
+                assert!(answer.out.is_empty(), "{words:?}: {answer:?}");
+                let told = answer.err.starts_with("skywimple: ") && answer.err.ends_with('\n');
+                assert!(told, "{words:?}: {answer:?}");
+                assert_eq!(answer.err.lines().count(), 1, "{words:?}: {answer:?}");
             }
         }
     }
@@ -224,13 +250,11 @@ fn a_reader_that_goes_away() {
     let long = block(1, 57_344);
     let score = place.put(&long);
     for words in [&["get", "log", &score][..], &["--help"], &["demo"]] {
-        let mut child = place.command(words).spawn().unwrap();
-        drop(child.stdout.take());
-        let output = child.wait_with_output().unwrap();
-        let status = output.status.code().unwrap();
-        // What was written before the pipe closed may have been all.
-        assert!(status == 74 || status == 0, "{words:?}: {output:?}");
-        assert!(output.stderr.is_empty(), "{output:?}");
+        let (reader, writer) = std::io::pipe().unwrap();
+        drop(reader);
+        let output = place.command(words).stdout(writer).output().unwrap();
+        assert_eq!(output.status.code(), Some(74), "{words:?}: {output:?}");
+        assert!(output.stderr.is_empty(), "that is no news: {output:?}");
     }
 }
 
@@ -267,13 +291,12 @@ fn output_that_fails() {
     );
 }
 
-/// Files and folders that may not be read or written. The superuser may always.
+/// Files and folders that may not be read or written. The superuser may always, so that one becomes
+/// another.
 #[test]
 fn missing_permissions() {
-    let place = Place::with_log(8);
-    if fs::metadata("/proc/self").unwrap().uid() == 0 {
-        return;
-    }
+    let mut place = Place::with_log(8);
+    place.plain_user();
     let card = place.put(b"card");
     let allow = |name: &str, mode| {
         fs::set_permissions(place.path(name), fs::Permissions::from_mode(mode)).unwrap();
@@ -299,6 +322,13 @@ fn missing_permissions() {
     allow("log", 0o400);
     place.reads(&score(b"other"), b"other");
     assert_eq!(place.file("log.mark"), mark(8, 1).as_bytes());
+    let mut server = place.greeted(&["--read-only"]);
+    assert_eq!(
+        server.ask(&read_message(1, b"other")),
+        message(13, 1, b"other")
+    );
+    assert_eq!(server.ask(&write_message(2, b"new")), error_reply(2, 14));
+    assert_eq!(server.end(), (0, String::new()));
     allow(".", 0o700);
     allow("log", 0o600);
     put().with(0);

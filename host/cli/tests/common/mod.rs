@@ -7,10 +7,15 @@ pub mod terminal;
 use std::ffi::OsStr;
 use std::fs;
 use std::io::{Read, Write};
-use std::os::unix::fs::MetadataExt;
+use std::os::unix::fs::{chown, MetadataExt};
+use std::os::unix::process::CommandExt;
 use std::path::{Path, PathBuf};
 use std::process::{Child, ChildStdin, ChildStdout, Command, Stdio};
 use std::sync::atomic::{AtomicUsize, Ordering};
+
+pub const PROGRAM: &str = env!("CARGO_BIN_EXE_skywimple");
+/// A user that is nobody here.
+pub const OTHER_USER: u32 = 4700;
 
 pub const SECTOR: usize = 512;
 /// The most sectors a log may have.
@@ -52,6 +57,9 @@ impl Answer {
 /// A temporary folder, removed at the end.
 pub struct Place {
     pub folder: PathBuf,
+    /// The user that the program is run by, where it is not the one who runs the tests, and the
+    /// folder that its copy of the program is in.
+    other: Option<(u32, PathBuf)>,
 }
 
 static PLACES: AtomicUsize = AtomicUsize::new(0);
@@ -63,7 +71,28 @@ impl Place {
         let folder = std::env::temp_dir().join(name);
         let _ = fs::remove_dir_all(&folder);
         fs::create_dir(&folder).expect("a temporary folder");
-        Place { folder }
+        Place {
+            folder,
+            other: None,
+        }
+    }
+
+    /// From here on the program is run by someone who may not do everything: where that is not so
+    /// already, by another user, who gets the folder and what is in it.
+    pub fn plain_user(&mut self) {
+        if !superuser() {
+            return;
+        }
+        let program = PathBuf::from(format!("{}-program", self.folder.display()));
+        let _ = fs::remove_dir_all(&program);
+        fs::create_dir(&program).expect("a temporary folder");
+        fs::copy(PROGRAM, program.join("skywimple")).expect("the program");
+        let files = fs::read_dir(&self.folder).expect("a folder");
+        let files = files.map(|file| file.expect("a file").path());
+        for path in files.chain([self.folder.clone()]) {
+            chown(path, Some(OTHER_USER), Some(OTHER_USER)).expect("given away");
+        }
+        self.other = Some((OTHER_USER, program));
     }
 
     /// A folder with a log named `log`.
@@ -88,7 +117,14 @@ impl Place {
 
     /// The program with these words, its working folder here.
     pub fn command<W: AsRef<OsStr>>(&self, words: &[W]) -> Command {
-        let mut command = Command::new(env!("CARGO_BIN_EXE_skywimple"));
+        let mut command = match &self.other {
+            None => Command::new(PROGRAM),
+            Some((user, program)) => {
+                let mut command = Command::new(program.join("skywimple"));
+                command.uid(*user).gid(*user);
+                command
+            }
+        };
         command
             .args(words)
             .current_dir(&self.folder)
@@ -189,6 +225,9 @@ impl Place {
 impl Drop for Place {
     fn drop(&mut self) {
         let _ = fs::remove_dir_all(&self.folder);
+        if let Some((_, program)) = &self.other {
+            let _ = fs::remove_dir_all(program);
+        }
     }
 }
 
