@@ -1,11 +1,11 @@
 //! `doubt`: makes a log that lost its tail fit its mark again, with what is lost "not known".
 
 use std::fs::OpenOptions;
-use std::os::unix::fs::FileExt;
 use std::path::Path;
 use std::time::Duration;
 
 use crate::arguments::Arguments;
+use crate::disk;
 use crate::format::{used, SECTOR};
 use crate::lock;
 use crate::log_file;
@@ -36,16 +36,16 @@ pub fn run(arguments: &Arguments, streams: &mut Streams) -> Result<u8, Failure> 
     let loss = Loss::new(mark, Some(length), used(&bytes));
     if loss.cut() {
         let zeros = vec![0; marked - bytes.len()];
-        file.write_all_at(&zeros, length).map_err(failed)?;
+        disk::write(&file, &zeros, length).map_err(failed)?;
         bytes.resize(marked, 0);
     }
     if used(&bytes) < mark.used {
         let at = (mark.used - 1) * SECTOR;
         let doubt = sectors::unsound(SENTENCE);
-        file.write_all_at(&doubt, at as u64).map_err(failed)?;
+        disk::write(&file, &doubt, at as u64).map_err(failed)?;
     }
     if loss.any() {
-        file.sync_all().map_err(failed)?;
+        disk::sync(&file).map_err(failed)?;
         mark::sync_folder(&mark::path_of(path)).map_err(failed)?;
     }
     streams.answer(answer(path, &loss).as_bytes())?;

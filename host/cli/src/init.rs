@@ -2,12 +2,12 @@
 
 use std::fs::{self, File};
 use std::io;
-use std::os::unix::fs::FileExt;
 use std::path::Path;
 
 use skywimple_archive::Refusal;
 
 use crate::arguments::Arguments;
+use crate::disk;
 use crate::format::{MOST_SECTORS, SECTOR};
 use crate::interrupt::Held;
 use crate::lock;
@@ -40,7 +40,7 @@ pub fn run(arguments: &Arguments, _: &mut Streams) -> Result<u8, Failure> {
         return Err(exists(&mark_path));
     }
     let held = Held::start();
-    let file = File::create_new(path).map_err(|e| match e.kind() {
+    let file = disk::create(path).map_err(|e| match e.kind() {
         io::ErrorKind::AlreadyExists => exists(path),
         _ => Failure::disk("create", path, &e),
     })?;
@@ -64,11 +64,11 @@ fn blank(file: &File, path: &Path, sectors: usize, held: &Held) -> Result<(), Fa
     for start in (0..sectors).step_by(PIECE) {
         held.check()?;
         let piece = &zeros[..PIECE.min(sectors - start) * SECTOR];
-        let written = file.write_all_at(piece, (start * SECTOR) as u64);
+        let written = disk::write(file, piece, (start * SECTOR) as u64);
         written.map_err(failed)?;
     }
     held.check()?;
-    file.sync_all().map_err(failed)?;
+    disk::sync(file).map_err(failed)?;
     mark::sync_folder(path).map_err(failed)
 }
 

@@ -5,9 +5,12 @@ mod blocks;
 mod closed;
 mod command;
 mod demo;
+mod disk;
 mod doubt;
 mod entry;
 mod escape;
+#[cfg(test)]
+mod faults;
 mod format;
 mod get;
 mod handshake;

@@ -6,12 +6,13 @@
 
 use std::ffi::OsString;
 use std::fs::{self, File, Metadata, Permissions};
-use std::io::{self, Read, Write};
+use std::io::{self, Read};
 use std::os::unix::fs::{fchown, MetadataExt, PermissionsExt};
 use std::path::{Path, PathBuf};
 
 use skywimple_archive::crc32;
 
+use crate::disk;
 use crate::format::MOST_SECTORS;
 use crate::hex;
 use crate::status::{Failure, MISSING, UNFIT};
@@ -122,7 +123,7 @@ impl Mark {
     /// mode that the one before has, or else the log. Its caller holds the log's lock.
     pub fn write(&self, path: &Path, log: &File) -> Result<(), Failure> {
         let new = with_suffix(path, &format!(".{}{NEW}", unique::name()));
-        let replaced = File::create_new(&new).and_then(|file| {
+        let replaced = disk::create(&new).and_then(|file| {
             let like = fs::metadata(path).or_else(|_| log.metadata());
             let replaced = like.and_then(|like| self.replace(file, &like, &new, path));
             if replaced.is_err() {
@@ -135,11 +136,11 @@ impl Mark {
     }
 
     /// Writes it to a new file and gives that the mark's name.
-    fn replace(&self, mut file: File, like: &Metadata, new: &Path, path: &Path) -> io::Result<()> {
-        file.write_all(self.text().as_bytes())?;
+    fn replace(&self, file: File, like: &Metadata, new: &Path, path: &Path) -> io::Result<()> {
+        disk::write(&file, self.text().as_bytes(), 0)?;
         keep_access(&file, like)?;
-        file.sync_all()?;
-        fs::rename(new, path)
+        disk::sync(&file)?;
+        disk::rename(new, path)
     }
 }
 
@@ -212,9 +213,9 @@ pub fn not_a_mark(path: &Path) -> Result<(), Failure> {
     Err(Failure::new(MISSING, words))
 }
 
-/// Has the folder's own entries written to disk.
+/// Has the entries of a file's folder on disk.
 pub fn sync_folder(file: &Path) -> io::Result<()> {
-    File::open(folder(file))?.sync_all()
+    disk::sync_folder(folder(file))
 }
 
 fn folder(file: &Path) -> &Path {

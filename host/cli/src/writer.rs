@@ -8,6 +8,7 @@ use std::time::Duration;
 
 use skywimple_archive::Session;
 
+use crate::disk;
 use crate::format::{used, BLANK, SECTOR};
 use crate::held;
 use crate::lock;
@@ -100,9 +101,7 @@ impl Writer {
         if appended > 0 {
             let (start, end) = (self.used * SECTOR, (self.used + appended) * SECTOR);
             self.still_blank(start, end)?;
-            let written = self
-                .file
-                .write_all_at(&self.bytes[start..end], start as u64);
+            let written = disk::write(&self.file, &self.bytes[start..end], start as u64);
             written.map_err(|e| Failure::disk("write", &self.path, &e))?;
             self.used += appended;
             self.renew_mark()?;
@@ -130,9 +129,8 @@ impl Writer {
             used: self.used,
         };
         if self.mark != Some(now) {
-            self.file
-                .sync_data()
-                .map_err(|e| Failure::disk("sync", &self.path, &e))?;
+            let synced = disk::sync_data(&self.file);
+            synced.map_err(|e| Failure::disk("sync", &self.path, &e))?;
             self.in_place()?;
             now.write(&self.mark_path, &self.file)?;
             self.mark = Some(now);
