@@ -254,7 +254,14 @@ mod tests {
         fn new() -> Folder {
             let thread = format!("{:?}", thread::current().id());
             let name = format!("skywimple-fault-{}-{thread}", unique::name());
-            let path = std::env::temp_dir().join(name);
+            // In memory where that is to be had: a disk takes its time to replace what isn't synced.
+            let memory = PathBuf::from("/dev/shm");
+            let base = if memory.is_dir() {
+                memory
+            } else {
+                std::env::temp_dir()
+            };
+            let path = base.join(name);
             fs::create_dir(&path).unwrap();
             Folder(path)
         }
