@@ -18,7 +18,7 @@ const HELP: &str = "\
 bench [--help]
 
 Measures the proved functions beside ordinary Rust, both built for release, by turns on the same
-input, and prints a table. It takes some minutes. Where two results differ it stops before the table.
+input, and prints a table; it takes about 20 seconds. Where two results differ it stops before that.
 ";
 
 fn main() -> ExitCode {
