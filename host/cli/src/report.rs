@@ -20,55 +20,89 @@ use skywimple_archive::report;
 /// The bytes that a report buffer needs.
 const BUFFER: usize = 128;
 
+/// What is asked for besides the lines.
+struct Wanted<'a> {
+    json: bool,
+    map: bool,
+    picture: Option<Picture<'a>>,
+    width: Option<u64>,
+}
+
+enum Picture<'a> {
+    /// On standard output, in place of the lines.
+    Alone,
+    File(&'a OsStr),
+}
+
 pub fn run(arguments: &Arguments, streams: &mut Streams) -> Result<u8, Failure> {
     let path = arguments.path(0);
-    let (json, drawn) = (arguments.flag("--json"), arguments.flag("--map"));
-    let width = arguments.number("--width")?;
-    if width == Some(0) {
-        return Err(Failure::usage("--width is at least 1"));
-    }
-    if json && drawn {
-        return Err(Failure::usage("a map is no JSON: give --json or --map"));
-    }
-    let picture = arguments.value("--svg");
-    let picture_alone = picture.is_some_and(|picture| picture == "-");
-    if picture_alone && (json || drawn) {
-        return Err(Failure::usage(
-            "--svg - has standard output for the picture alone, without --json and --map",
-        ));
-    }
-    if let Some(picture) = picture.filter(|_| !picture_alone) {
-        may_draw(path, picture)?;
-    }
-
+    let wanted = wanted(arguments)?;
     let log = reader::read(path, arguments.flag("--adopt"), streams)?;
     let report = Report::of(&log)?;
-    match json {
-        _ if picture_alone => {}
-        true => streams.answer(report.json().as_bytes())?,
-        false => streams.answer(report.text.as_bytes())?,
+    match wanted {
+        Wanted {
+            picture: Some(Picture::Alone),
+            ..
+        } => {}
+        Wanted { json: true, .. } => streams.answer(report.json().as_bytes())?,
+        _ => streams.answer(report.text.as_bytes())?,
     }
-    if drawn || picture.is_some() {
+    if wanted.map || wanted.picture.is_some() {
         let map = Map::of(&log).map_err(Failure::refused)?;
-        let name = path.file_name().unwrap_or(path.as_os_str());
-        let name = name.to_string_lossy();
-        let width = cells(width, &map, streams.out_terminal);
-        if drawn {
-            let heading = format!("{}: {}", escape::visible(&name), report.verdict());
-            let drawn = map.draw(&heading, width, terminal::colour(streams.out_terminal));
-            streams.answer(drawn.as_bytes())?;
-        }
-        if let Some(picture) = picture {
-            let drawn = svg::draw(&map, width, &name, report.verdict());
-            if picture_alone {
-                streams.answer(drawn.as_bytes())?;
-            } else {
-                let written = fs::write(picture, drawn);
-                written.map_err(|e| Failure::disk("write", Path::new(picture), &e))?;
-            }
-        }
+        draw(&map, path, report.verdict(), &wanted, streams)?;
     }
     Ok(report.status())
+}
+
+fn wanted(arguments: &Arguments) -> Result<Wanted<'_>, Failure> {
+    let wanted = Wanted {
+        json: arguments.flag("--json"),
+        map: arguments.flag("--map"),
+        picture: arguments.value("--svg").map(|picture| match picture {
+            picture if picture == "-" => Picture::Alone,
+            picture => Picture::File(picture),
+        }),
+        width: arguments.number("--width")?,
+    };
+    if wanted.width == Some(0) {
+        return Err(Failure::usage("--width is at least 1"));
+    }
+    if wanted.json && wanted.map {
+        return Err(Failure::usage("a map is no JSON: give --json or --map"));
+    }
+    match wanted.picture {
+        Some(Picture::Alone) if wanted.json || wanted.map => Err(Failure::usage(
+            "--svg - has standard output for the picture alone, without --json and --map",
+        )),
+        Some(Picture::File(picture)) => may_draw(arguments.path(0), picture).map(|()| wanted),
+        _ => Ok(wanted),
+    }
+}
+
+/// Draws the map of a log, as text, as a picture or both.
+fn draw(
+    map: &Map,
+    log: &Path,
+    verdict: &str,
+    wanted: &Wanted,
+    streams: &mut Streams,
+) -> Result<(), Failure> {
+    let name = log.file_name().unwrap_or(log.as_os_str());
+    let name = name.to_string_lossy();
+    let width = cells(wanted.width, map, streams.out_terminal);
+    if wanted.map {
+        let heading = format!("{}: {verdict}", escape::visible(&name));
+        let drawn = map.draw(&heading, width, terminal::colour(streams.out_terminal));
+        streams.answer(drawn.as_bytes())?;
+    }
+    let picture = || svg::draw(map, width, &name, verdict);
+    match wanted.picture {
+        None => Ok(()),
+        Some(Picture::Alone) => streams.answer(picture().as_bytes()),
+        Some(Picture::File(file)) => {
+            fs::write(file, picture()).map_err(|e| Failure::disk("write", Path::new(file), &e))
+        }
+    }
 }
 
 /// The cells in a row: what was asked for, or what there is room for beside the rows' numbers.

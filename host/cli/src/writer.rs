@@ -70,14 +70,19 @@ impl Writer {
             log.renew_mark()?;
         }
         if mark.is_none() {
-            let (sectors, used) = (log.bytes.len() / SECTOR, log.used);
-            streams.tell(&format!(
-                "adopted {} as it is: {sectors} sectors, {used} of them used. \
-                 Whether its tail was lost before, nobody can tell.",
-                path.display()
-            ));
+            streams.tell(&log.adopted());
         }
         Ok(log)
+    }
+
+    /// What is told of a log that had no good mark.
+    fn adopted(&self) -> String {
+        let (sectors, used) = self.sectors();
+        format!(
+            "adopted {} as it is: {sectors} sectors, {used} of them used. \
+             Whether its tail was lost before, nobody can tell.",
+            self.path.display()
+        )
     }
 
     pub fn path(&self) -> &Path {
