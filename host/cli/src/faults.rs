@@ -189,6 +189,7 @@ impl Undo {
     }
 }
 
+#[cfg(test)]
 mod tests {
     use super::*;
     use crate::command;
