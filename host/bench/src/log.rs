@@ -1,8 +1,8 @@
 //! Storing and reading blocks by scan, beside an ordinary Rust log with the same checks and the same bytes.
 
+use boundary::{serve, Refusal, Session};
 use plain::log as ordinary;
 use plain::random::Random;
-use skywimple_archive::{serve, Refusal, Session};
 use std::time::Instant;
 
 const BLOCK: usize = 8192;

@@ -41,8 +41,8 @@ fn measure() {
         "{:8} {:>10} {:>16} {:>7}",
         "name", "ours MB/s", "plain Rust MB/s", "ratio"
     );
-    compare("sha1", skywimple_archive::sha1, plain::sha1::sha1);
-    compare("crc32", skywimple_archive::crc32, plain::crc32::crc32);
+    compare("sha1", boundary::sha1, plain::sha1::sha1);
+    compare("crc32", boundary::crc32, plain::crc32::crc32);
     log::run();
 }
 

@@ -3,7 +3,7 @@
 use std::ffi::{OsStr, OsString};
 use std::path::Path;
 
-use skywimple_archive::Refusal;
+use boundary::Refusal;
 
 use crate::format::Score;
 use crate::hex;

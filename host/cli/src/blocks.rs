@@ -2,7 +2,7 @@
 
 use std::ops::Range;
 
-use skywimple_archive::{sound_at, Refusal};
+use boundary::{sound_at, Refusal};
 
 use crate::format::{self, Score, PAYLOAD, SECTOR};
 

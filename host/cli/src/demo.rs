@@ -7,7 +7,7 @@ use std::io;
 use std::os::unix::fs::FileExt;
 use std::path::{Path, PathBuf};
 
-use skywimple_archive::Refusal;
+use boundary::Refusal;
 
 use crate::format::SECTOR;
 use crate::hex;
@@ -206,7 +206,7 @@ fn refused(answer: &Answer, refusal: Refusal, words: &str) -> bool {
 }
 
 fn never_stored() -> String {
-    hex::encode(&skywimple_archive::sha1(b"donor: Nobody\n"))
+    hex::encode(&boundary::sha1(b"donor: Nobody\n"))
 }
 
 fn indented(text: &str) -> String {

@@ -200,7 +200,7 @@ mod tests {
     use crate::streams::Streams;
     use crate::unique;
     use crate::writer::Writer;
-    use skywimple_archive::{sha1, Refusal};
+    use boundary::{sha1, Refusal};
     use std::ffi::OsString;
     use std::thread;
 

@@ -4,7 +4,7 @@ use std::fs::{self, File};
 use std::io;
 use std::path::Path;
 
-use skywimple_archive::Refusal;
+use boundary::Refusal;
 
 use crate::arguments::Arguments;
 use crate::disk;

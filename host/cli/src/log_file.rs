@@ -5,7 +5,7 @@ use std::io;
 use std::os::unix::fs::FileExt;
 use std::path::Path;
 
-use skywimple_archive::Refusal;
+use boundary::Refusal;
 
 use crate::format::{allowed, used, SECTOR};
 use crate::loss::Loss;

@@ -2,7 +2,7 @@
 
 use std::fmt::Write;
 
-use skywimple_archive::Refusal;
+use boundary::Refusal;
 
 use crate::blocks;
 use crate::format::SECTOR;

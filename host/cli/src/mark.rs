@@ -10,7 +10,7 @@ use std::io::{self, Read};
 use std::os::unix::fs::{fchown, MetadataExt, PermissionsExt};
 use std::path::{Path, PathBuf};
 
-use skywimple_archive::crc32;
+use boundary::crc32;
 
 use crate::disk;
 use crate::format::MOST_SECTORS;

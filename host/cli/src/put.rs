@@ -5,7 +5,7 @@ use std::fs::File;
 use std::io::{self, Read};
 use std::path::Path;
 
-use skywimple_archive::Refusal;
+use boundary::Refusal;
 
 use crate::arguments::Arguments;
 use crate::format::{sectors_of, Score, MOST_DATA};

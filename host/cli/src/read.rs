@@ -4,7 +4,7 @@ use std::fs::File;
 use std::io::{self, Read};
 use std::path::Path;
 
-use skywimple_archive::{locate, sound_at, Refusal, Run};
+use boundary::{locate, sound_at, Refusal, Run};
 
 use crate::arguments::Arguments;
 use crate::entry::{Entry, LENGTH as ENTRY};
@@ -161,7 +161,7 @@ mod tests {
     /// All runs of a file laid end to end, each looked up by itself.
     fn run_by_run(log: &[u8], page: &[u8], entry: &[u8]) -> Vec<u8> {
         let mut bytes = Vec::new();
-        while let Ok(run) = skywimple_archive::read(log, page, entry, bytes.len() as u64) {
+        while let Ok(run) = boundary::read(log, page, entry, bytes.len() as u64) {
             bytes.extend(run);
         }
         bytes

@@ -3,7 +3,7 @@
 use std::fs::File;
 use std::path::{Path, PathBuf};
 
-use skywimple_archive::Session;
+use boundary::Session;
 
 use crate::format::{used, SECTOR};
 use crate::held;
@@ -104,7 +104,7 @@ impl Answers for Reader {
     ) -> Result<Served, Failure> {
         self.follow(streams)?;
         loop {
-            let served = skywimple_archive::serve(session, message, &mut self.bytes, reply);
+            let served = boundary::serve(session, message, &mut self.bytes, reply);
             if served.outcome.is_ok() {
                 let damaged = held::damaged(&mut self.bytes, &self.file, message, reply);
                 if let Some(damaged) = damaged {

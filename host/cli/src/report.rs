@@ -15,7 +15,7 @@ use crate::status::{Failure, DONE, EXISTS, VERDICT_NOT_KNOWN};
 use crate::streams::Streams;
 use crate::svg;
 use crate::terminal;
-use skywimple_archive::report;
+use boundary::report;
 
 /// The bytes that a report buffer needs.
 const BUFFER: usize = 128;

@@ -69,7 +69,7 @@ fn fill(
 mod tests {
     use super::*;
     use crate::session::Client;
-    use skywimple_archive::Refusal;
+    use boundary::Refusal;
     use std::cell::Cell;
 
     /// Loads from a file that gives 300 bytes at a time, is interrupted, and fails in some sectors.

@@ -4,7 +4,7 @@ use std::io::{self, Read};
 use std::path::Path;
 use std::time::Duration;
 
-use skywimple_archive::Session;
+use boundary::Session;
 
 use crate::arguments::Arguments;
 use crate::handshake;

@@ -1,6 +1,6 @@
 //! One greeted session over a log in memory.
 
-use skywimple_archive::{serve, Refusal, Session};
+use boundary::{serve, Refusal, Session};
 
 use crate::format::Score;
 use crate::status::Failure;

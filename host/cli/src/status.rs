@@ -4,7 +4,7 @@ use std::ffi::OsStr;
 use std::io;
 use std::path::Path;
 
-use skywimple_archive::Refusal;
+use boundary::Refusal;
 
 use crate::words;
 

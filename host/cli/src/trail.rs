@@ -3,7 +3,7 @@
 
 use std::collections::HashMap;
 
-use skywimple_archive::{sha1, Refusal, Walked};
+use boundary::{sha1, Refusal, Walked};
 
 use crate::blocks::{self, Piece};
 use crate::entry::{self, Entry};
@@ -221,7 +221,7 @@ mod tests {
     use super::*;
     use crate::format::SECTOR;
     use crate::session::Client;
-    use skywimple_archive::walk;
+    use boundary::walk;
 
     struct Forest {
         log: Vec<u8>,

@@ -6,7 +6,7 @@ use std::sync::mpsc::{self, Receiver, RecvTimeoutError};
 use std::thread;
 use std::time::{Duration, Instant};
 
-use skywimple_archive::{walk, Refusal};
+use boundary::{walk, Refusal};
 
 use crate::arguments::Arguments;
 use crate::format::{kind_name, Score};

@@ -1,6 +1,6 @@
 //! The refusals in words: what each is called, when it is given, what to do.
 
-use skywimple_archive::Refusal;
+use boundary::Refusal;
 
 use crate::format::{kind_name, limit, Score, MOST_SECTORS, SECTOR};
 use crate::hex;

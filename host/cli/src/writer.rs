@@ -6,7 +6,7 @@ use std::os::unix::fs::{FileExt, MetadataExt};
 use std::path::{Path, PathBuf};
 use std::time::Duration;
 
-use skywimple_archive::Session;
+use boundary::Session;
 
 use crate::disk;
 use crate::format::{used, BLANK, SECTOR};
@@ -163,7 +163,7 @@ impl Answers for Writer {
         streams: &mut Streams,
     ) -> Result<Served, Failure> {
         loop {
-            let served = skywimple_archive::serve(session, message, &mut self.bytes, reply);
+            let served = boundary::serve(session, message, &mut self.bytes, reply);
             let appended = self.keep()?;
             if served.outcome.is_ok() && appended == 0 {
                 let damaged = held::damaged(&mut self.bytes, &self.file, message, reply);

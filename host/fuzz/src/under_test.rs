@@ -1,9 +1,9 @@
-//! The archive under test: the proved library, by the crate `skywimple-archive`.
+//! The archive under test: the proved library, by the crate `boundary`.
 
 use crate::archive::Archive;
+use boundary::{self as proved, Refusal};
 use second::tree::{Place, Run};
 use second::{Score, Session};
-use skywimple_archive::{self as proved, Refusal};
 
 pub fn archive() -> Box<dyn Archive> {
     Box::new(Proved)

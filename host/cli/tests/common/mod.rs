@@ -171,7 +171,7 @@ impl Place {
     pub fn put_as(&self, kind: &str, block: &[u8]) -> String {
         let answer = self.feed(&["put", "log", "--type", kind], block).with(0);
         let score = answer.text();
-        assert_eq!(score, hex(&skywimple_archive::sha1(block)));
+        assert_eq!(score, hex(&boundary::sha1(block)));
         score
     }
 
@@ -292,11 +292,11 @@ pub fn write_message(tag: u8, data: &[u8]) -> Vec<u8> {
 }
 
 pub fn write_reply(tag: u8, data: &[u8]) -> Vec<u8> {
-    message(15, tag, &skywimple_archive::sha1(data))
+    message(15, tag, &boundary::sha1(data))
 }
 
 pub fn read_message(tag: u8, data: &[u8]) -> Vec<u8> {
-    let score = skywimple_archive::sha1(data);
+    let score = boundary::sha1(data);
     message(12, tag, &[&score[..], &[13, 0, 0xff, 0xff]].concat())
 }
 
@@ -315,7 +315,7 @@ pub fn hex(bytes: &[u8]) -> String {
 
 /// The score of these bytes.
 pub fn score(block: &[u8]) -> String {
-    hex(&skywimple_archive::sha1(block))
+    hex(&boundary::sha1(block))
 }
 
 /// Different bytes for each seed.
@@ -332,7 +332,7 @@ pub fn block(seed: usize, length: usize) -> Vec<u8> {
 /// The text of a mark.
 pub fn mark(sectors: usize, used: usize) -> String {
     let lines = format!("sectors={sectors:08x}\nused={used:08x}\n");
-    let crc = skywimple_archive::crc32(lines.as_bytes());
+    let crc = boundary::crc32(lines.as_bytes());
     format!("{lines}crc={crc:08x}\n")
 }
 

@@ -1,6 +1,6 @@
 //! Refusal 15: two blocks of one SHA-1, by the public collision of 2017 (the first 320 bytes of its two files).
 
-use skywimple_archive::{serve, sha1, Refusal, Session};
+use boundary::{serve, sha1, Refusal, Session};
 
 /// Hex digits, with blanks between.
 fn bytes(hex: &str) -> Vec<u8> {

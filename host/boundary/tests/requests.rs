@@ -1,7 +1,7 @@
 //! The paper's examples about messages, and each refusal of a request, through the proved call.
 
-use skywimple_archive::Session::{self, Closed, Fresh, Greeted};
-use skywimple_archive::{crc32, serve, sha1, Refusal};
+use boundary::Session::{self, Closed, Fresh, Greeted};
+use boundary::{crc32, serve, sha1, Refusal};
 
 const REPLY: usize = 57_348;
 

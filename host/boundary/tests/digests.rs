@@ -1,7 +1,7 @@
 //! SHA-1 and CRC-32 through the wrapper: published vectors, short buffers, and ordinary Rust.
 
+use boundary::{crc32, sha1, sha1_into, Refusal};
 use plain::random::Random;
-use skywimple_archive::{crc32, sha1, sha1_into, Refusal};
 
 fn hex(bytes: &[u8]) -> String {
     bytes.iter().map(|b| format!("{b:02x}")).collect()
