@@ -1,8 +1,8 @@
 //! Storing and reading blocks by scan, beside an ordinary Rust log with the same checks and the same bytes.
 
+use boundary::{serve, Refusal, Session};
 use plain::log as ordinary;
 use plain::random::Random;
-use skywimple_archive::{serve, Session};
 use std::time::Instant;
 
 const BLOCK: usize = 8192;
@@ -40,7 +40,8 @@ pub fn run() {
         other.fill(0);
         let ours = time(|| {
             for m in &messages {
-                assert_eq!(serve(Session::Greeted, m, &mut log, &mut reply).0, 0);
+                let served = serve(Session::Greeted, m, &mut log, &mut reply);
+                assert_eq!(served.outcome, Ok(()));
             }
         });
         let theirs = time(|| {
@@ -55,7 +56,8 @@ pub fn run() {
         let reads: Vec<Vec<u8>> = scores.iter().map(read_message).collect();
         let ours = time(|| {
             for m in &reads {
-                assert_eq!(serve(Session::Greeted, m, &mut log, &mut reply).0, 0);
+                let served = serve(Session::Greeted, m, &mut log, &mut reply);
+                assert_eq!(served.outcome, Ok(()));
             }
         });
         let theirs = time(|| {
@@ -69,10 +71,8 @@ pub fn run() {
         let absent = read_message(&[7; 20]);
         let ours = time(|| {
             for _ in 0..10 {
-                assert_eq!(
-                    serve(Session::Greeted, &absent, &mut log[..whole], &mut reply).0,
-                    11
-                );
+                let served = serve(Session::Greeted, &absent, &mut log[..whole], &mut reply);
+                assert_eq!(served.outcome, Err(Refusal::NotHeld));
             }
         });
         let theirs = time(|| {

@@ -3,8 +3,10 @@
 use std::ffi::{OsStr, OsString};
 use std::path::Path;
 
+use boundary::Refusal;
+
+use crate::format::Score;
 use crate::hex;
-use crate::session::Score;
 use crate::status::Failure;
 
 /// What a command takes.
@@ -13,8 +15,8 @@ pub struct Syntax {
     pub flags: &'static [&'static str],
     /// Options with one.
     pub values: &'static [&'static str],
-    /// How many other words, at least and at most.
-    pub least: usize,
+    /// The other words that it cannot do without, by their names, and how many it may have.
+    pub words: &'static [&'static str],
     pub most: usize,
 }
 
@@ -44,8 +46,8 @@ impl Arguments {
             found.option(syntax, word, &mut rest)?;
         }
         let count = found.words.len();
-        if !found.help && count < syntax.least {
-            return Err(Failure::usage("words are missing"));
+        if !found.help && count < syntax.words.len() {
+            return Err(missing(&syntax.words[count..]));
         }
         if !found.help && count > syntax.most {
             let extra = found.words[syntax.most].display();
@@ -118,7 +120,7 @@ impl Arguments {
             return Ok(13);
         };
         let kind = value.to_str().and_then(kind);
-        kind.ok_or_else(|| Failure::refused_about(9, value))
+        kind.ok_or_else(|| Failure::refused_about(Refusal::BlockType, value))
     }
 
     /// The score at a place.
@@ -130,6 +132,12 @@ impl Arguments {
             Failure::usage(words)
         })
     }
+}
+
+/// Words that were not given.
+fn missing(names: &[&str]) -> Failure {
+    let are = if names.len() == 1 { "is" } else { "are" };
+    Failure::usage(format!("{} {are} missing", names.join(" and ")))
 }
 
 /// A decimal number; those that are too large are the largest there is.
@@ -162,7 +170,7 @@ mod tests {
     const SYNTAX: Syntax = Syntax {
         flags: &["--adopt"],
         values: &["--type", "--count"],
-        least: 1,
+        words: &["LOG"],
         most: 2,
     };
 
@@ -198,6 +206,13 @@ mod tests {
         for words in bad {
             assert_eq!(parse(words).unwrap_err().status, 64, "{words:?}");
         }
+    }
+
+    #[test]
+    fn what_is_missing_is_named() {
+        assert!(parse(&[]).unwrap_err().words.contains("LOG is missing"));
+        let two = missing(&["LOG", "SCORE"]).words;
+        assert!(two.contains("LOG and SCORE are missing"));
     }
 
     #[test]

@@ -3,9 +3,10 @@
 use std::ffi::OsString;
 
 use crate::arguments::{Arguments, Syntax};
-use crate::status::{Failure, DONE, USAGE};
+use crate::format::MOST_SECTORS;
+use crate::status::{self, Failure, DONE, USAGE};
 use crate::streams::Streams;
-use crate::{demo, doubt, get, help, init, put, read, report, serve, walk};
+use crate::{demo, doubt, get, help, init, list, put, read, report, serve, walk};
 
 pub struct Command {
     pub name: &'static str,
@@ -21,24 +22,24 @@ pub struct Command {
 const fn syntax(
     flags: &'static [&'static str],
     values: &'static [&'static str],
-    least: usize,
+    words: &'static [&'static str],
     most: usize,
 ) -> Syntax {
     Syntax {
         flags,
         values,
-        least,
+        words,
         most,
     }
 }
 
-pub const COMMANDS: [Command; 9] = [
+pub const COMMANDS: [Command; 10] = [
     Command {
         name: "init",
         usage: "LOG --sectors N",
         summary: "make a new log of N blank sectors",
         details: help::INIT,
-        syntax: syntax(&[], &["--sectors"], 1, 1),
+        syntax: syntax(&[], &["--sectors"], &["LOG"], 1),
         run: init::run,
     },
     Command {
@@ -46,7 +47,7 @@ pub const COMMANDS: [Command; 9] = [
         usage: "LOG [FILE...] [--type T] [--adopt]",
         summary: "store each file as a block, print its score",
         details: help::PUT,
-        syntax: syntax(&["--adopt"], &["--type"], 1, usize::MAX),
+        syntax: syntax(&["--adopt"], &["--type"], &["LOG"], usize::MAX),
         run: put::run,
     },
     Command {
@@ -54,15 +55,20 @@ pub const COMMANDS: [Command; 9] = [
         usage: "LOG SCORE [--type T] [--count N] [--adopt]",
         summary: "write a block's bytes to standard output",
         details: help::GET,
-        syntax: syntax(&["--adopt"], &["--type", "--count"], 2, 2),
+        syntax: syntax(&["--adopt"], &["--type", "--count"], &["LOG", "SCORE"], 2),
         run: get::run,
     },
     Command {
         name: "serve",
-        usage: "LOG [--adopt]",
+        usage: "LOG [--read-only | [--wait SECONDS] [--adopt]] [--handshake]",
         summary: "answer Venti messages from standard input",
         details: help::SERVE,
-        syntax: syntax(&["--adopt"], &[], 1, 1),
+        syntax: syntax(
+            &["--adopt", "--read-only", "--handshake"],
+            &["--wait"],
+            &["LOG"],
+            1,
+        ),
         run: serve::run,
     },
     Command {
@@ -70,23 +76,36 @@ pub const COMMANDS: [Command; 9] = [
         usage: "LOG",
         summary: "let what a log has lost at its end be \"not known\"",
         details: help::DOUBT,
-        syntax: syntax(&[], &[], 1, 1),
+        syntax: syntax(&[], &[], &["LOG"], 1),
         run: doubt::run,
     },
     Command {
         name: "report",
-        usage: "LOG [--map] [--svg FILE] [--width N] [--adopt]",
+        usage: "LOG [--json | --map] [--svg FILE] [--width N] [--adopt]",
         summary: "say what a log holds and whether it is sound",
         details: help::REPORT,
-        syntax: syntax(&["--map", "--adopt"], &["--svg", "--width"], 1, 1),
+        syntax: syntax(
+            &["--json", "--map", "--adopt"],
+            &["--svg", "--width"],
+            &["LOG"],
+            1,
+        ),
         run: report::run,
+    },
+    Command {
+        name: "list",
+        usage: "LOG [--json] [--adopt]",
+        summary: "list the sound blocks and the doubtful sectors",
+        details: help::LIST,
+        syntax: syntax(&["--json", "--adopt"], &[], &["LOG"], 1),
+        run: list::run,
     },
     Command {
         name: "read",
         usage: "LOG ENTRY [--adopt]",
         summary: "write a file's bytes, found through its hash tree",
         details: help::READ,
-        syntax: syntax(&["--adopt"], &[], 2, 2),
+        syntax: syntax(&["--adopt"], &[], &["LOG", "ENTRY"], 2),
         run: read::run,
     },
     Command {
@@ -94,7 +113,7 @@ pub const COMMANDS: [Command; 9] = [
         usage: "LOG SCORE [--allowance N] [--adopt]",
         summary: "visit every block below a root",
         details: help::WALK,
-        syntax: syntax(&["--adopt"], &["--allowance"], 2, 2),
+        syntax: syntax(&["--adopt"], &["--allowance"], &["LOG", "SCORE"], 2),
         run: walk::run,
     },
     Command {
@@ -102,8 +121,8 @@ pub const COMMANDS: [Command; 9] = [
         usage: "",
         summary: "show it all in a temporary folder",
         details: help::DEMO,
-        syntax: syntax(&[], &[], 0, 0),
-        run: demo::run,
+        syntax: syntax(&[], &[], &[], 0),
+        run: |_, streams| demo::run(run, streams),
     },
 ];
 
@@ -126,12 +145,12 @@ pub fn end(failure: Failure, streams: &mut Streams) -> u8 {
 fn choose(words: &[OsString], streams: &mut Streams) -> Result<u8, Failure> {
     let Some((first, rest)) = words.split_first() else {
         streams.tell("no command given");
-        streams.tell_plain(&help::overview());
+        streams.tell_plain(&overview());
         return Ok(USAGE);
     };
     match (first.to_str(), rest) {
-        (Some("--help" | "-h" | "help"), []) => print(&help::overview(), streams),
-        (Some("help"), [name]) => print(&help::of(find(name)?), streams),
+        (Some("--help" | "-h" | "help"), []) => print(&overview(), streams),
+        (Some("help"), [name]) => print(&help_of(find(name)?), streams),
         (Some("--version" | "-V"), []) => print(
             concat!("skywimple ", env!("CARGO_PKG_VERSION"), "\n"),
             streams,
@@ -158,7 +177,7 @@ fn find(name: &OsString) -> Result<&'static Command, Failure> {
 fn start(command: &Command, words: &[OsString], streams: &mut Streams) -> Result<u8, Failure> {
     let started = Arguments::parse(&command.syntax, words).and_then(|arguments| {
         if arguments.help {
-            return print(&help::of(command), streams);
+            return print(&help_of(command), streams);
         }
         (command.run)(&arguments, streams)
     });
@@ -175,4 +194,36 @@ fn start(command: &Command, words: &[OsString], streams: &mut Streams) -> Result
 fn print(text: &str, streams: &mut Streams) -> Result<u8, Failure> {
     streams.answer(text.as_bytes())?;
     Ok(DONE)
+}
+
+/// All commands and statuses.
+fn overview() -> String {
+    let mut text = String::from(
+        "skywimple: an archive that says \"not known\" when it does not know.\n\
+         Blocks are stored in one append-only log and named by their SHA-1 score.\n\nCommands:\n",
+    );
+    for command in &COMMANDS {
+        text += &format!("  {:7} {}\n", command.name, command.summary);
+    }
+    text += "\n`skywimple COMMAND --help` says more; `skywimple --version` prints the version.\n";
+    text += "Words after `--` are never options.\n\nExit statuses:\n";
+    for (status, meaning) in &status::TABLE {
+        text += &format!("  {status:8} {meaning}\n");
+    }
+    text
+}
+
+/// One command.
+fn help_of(command: &Command) -> String {
+    let Command {
+        name,
+        usage,
+        summary,
+        details,
+        ..
+    } = command;
+    let usage = format!("{name} {usage}");
+    let usage = usage.trim_end();
+    let details = details.replace("{limit}", &MOST_SECTORS.to_string());
+    format!("skywimple {usage}\n\n{name}: {summary}.\n\n{details}\n`skywimple --help` lists all exit statuses.\n")
 }

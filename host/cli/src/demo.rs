@@ -7,11 +7,11 @@ use std::io;
 use std::os::unix::fs::FileExt;
 use std::path::{Path, PathBuf};
 
-use crate::arguments::Arguments;
-use crate::command;
+use boundary::Refusal;
+
+use crate::format::SECTOR;
 use crate::hex;
-use crate::log_file::SECTOR;
-use crate::status::{Failure, CLAIM_FAILED, DONE, NOT_HELD, NOT_KNOWN, VERDICT_NOT_KNOWN};
+use crate::status::{Failure, CLAIM_FAILED, DONE, VERDICT_NOT_KNOWN};
 use crate::streams::Streams;
 use crate::unique;
 
@@ -24,11 +24,15 @@ const CARDS: [(&str, &str); 3] = [
     ("eve.card", "donor: Eve\nantigen Vel: not tested\n"),
 ];
 
-pub fn run(_: &Arguments, streams: &mut Streams) -> Result<u8, Failure> {
+/// Runs a command, tells what fails and gives the status.
+type Run = fn(&[OsString], &mut Streams) -> u8;
+
+pub fn run(run: Run, streams: &mut Streams) -> Result<u8, Failure> {
     let folder = Folder::new()?;
     let mut demo = Demo {
         folder: &folder.path,
         streams,
+        run,
         claims: 0,
     };
     demo.play()?;
@@ -43,6 +47,7 @@ pub fn run(_: &Arguments, streams: &mut Streams) -> Result<u8, Failure> {
 struct Demo<'a, 'b> {
     folder: &'a Path,
     streams: &'a mut Streams<'b>,
+    run: Run,
     claims: usize,
 }
 
@@ -92,7 +97,10 @@ impl Demo<'_, '_> {
         self.reads(&scores[1], CARDS[1].1)?;
         self.say("A card that nobody stored: the log is sound, so it can say \"not held\".")?;
         let other = self.command(&["get", LOG, &never_stored()])?;
-        self.claim("status 11, not held", refused(&other, NOT_HELD, "not held"))
+        self.claim(
+            "status 11, not held",
+            refused(&other, Refusal::NotHeld, "not held"),
+        )
     }
 
     /// Writes over the sector of the second card.
@@ -112,18 +120,18 @@ impl Demo<'_, '_> {
         let lost = self.command(&["get", LOG, &scores[1]])?;
         self.claim(
             "status 12, not known, and not a byte",
-            refused(&lost, NOT_KNOWN, "not known"),
+            refused(&lost, Refusal::NotKnown, "not known"),
         )?;
         let other = self.command(&["get", LOG, &never_stored()])?;
         self.claim(
             "the card that nobody stored is \"not known\" now as well: it could have been there",
-            refused(&other, NOT_KNOWN, "not known"),
+            refused(&other, Refusal::NotKnown, "not known"),
         )?;
         self.say("The other cards are as they were.")?;
         self.reads(&scores[0], CARDS[0].1)?;
         self.reads(&scores[2], CARDS[2].1)?;
         let report = self.command(&["report", LOG, "--map", "--width", "8"])?;
-        let shown = report.status == VERDICT_NOT_KNOWN && report.out.contains("\n#?#.....\n");
+        let shown = report.status == VERDICT_NOT_KNOWN && report.out.contains("\n0 #?#.....\n");
         self.claim("status 32, one sector is doubtful", shown)
     }
 
@@ -160,8 +168,9 @@ impl Demo<'_, '_> {
             err: &mut err,
             out_terminal: false,
             err_terminal: false,
+            progress: false,
         };
-        let status = command::run(&full, &mut streams);
+        let status = (self.run)(&full, &mut streams);
         let folder = format!("{}/", self.folder.display());
         let text = |bytes: Vec<u8>| String::from_utf8_lossy(&bytes).replace(&folder, "");
         let (out, err) = (text(out), text(err));
@@ -189,14 +198,15 @@ impl Demo<'_, '_> {
     }
 }
 
-/// Whether a command wrote nothing and was refused by this number and in these words.
-fn refused(answer: &Answer, number: u8, words: &str) -> bool {
+/// Whether a command wrote nothing and was refused so and in these words.
+fn refused(answer: &Answer, refusal: Refusal, words: &str) -> bool {
+    let number = refusal.number();
     let expected = format!("skywimple: {words} ({number})");
     answer.status == number && answer.out.is_empty() && answer.err.starts_with(&expected)
 }
 
 fn never_stored() -> String {
-    hex::encode(&skywimple_archive::sha1(b"donor: Nobody\n"))
+    hex::encode(&boundary::sha1(b"donor: Nobody\n"))
 }
 
 fn indented(text: &str) -> String {

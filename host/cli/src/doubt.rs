@@ -1,12 +1,14 @@
 //! `doubt`: makes a log that lost its tail fit its mark again, with what is lost "not known".
 
 use std::fs::OpenOptions;
-use std::os::unix::fs::FileExt;
 use std::path::Path;
+use std::time::Duration;
 
 use crate::arguments::Arguments;
+use crate::disk;
+use crate::format::{used, SECTOR};
 use crate::lock;
-use crate::log_file::{self, SECTOR};
+use crate::log_file;
 use crate::loss::Loss;
 use crate::mark::{self, Mark};
 use crate::sectors;
@@ -19,10 +21,11 @@ const SENTENCE: &[u8] = b"skywimple doubt: the log's tail was lost. \
 
 pub fn run(arguments: &Arguments, streams: &mut Streams) -> Result<u8, Failure> {
     let path = arguments.path(0);
+    mark::not_a_mark(path)?;
     Mark::require(path)?;
     let mut options = OpenOptions::new();
     let options = options.read(true).write(true).create(true).truncate(false);
-    let file = lock::open(options, path)?;
+    let file = lock::open(options, path, Duration::ZERO, streams)?;
     // Again, now that no writer can renew it.
     let mark = Mark::require(path)?;
     let failed = |e| Failure::disk("mend", path, &e);
@@ -30,19 +33,19 @@ pub fn run(arguments: &Arguments, streams: &mut Streams) -> Result<u8, Failure> 
     let mut bytes = log_file::load(&file, path, Some(mark), streams)?.bytes;
     let length = bytes.len() as u64;
     let marked = mark.sectors * SECTOR;
-    let loss = Loss::new(mark, Some(length), log_file::used(&bytes));
+    let loss = Loss::new(mark, Some(length), used(&bytes));
     if loss.cut() {
         let zeros = vec![0; marked - bytes.len()];
-        file.write_all_at(&zeros, length).map_err(failed)?;
+        disk::write(&file, &zeros, length).map_err(failed)?;
         bytes.resize(marked, 0);
     }
-    if log_file::used(&bytes) < mark.used {
+    if used(&bytes) < mark.used {
         let at = (mark.used - 1) * SECTOR;
         let doubt = sectors::unsound(SENTENCE);
-        file.write_all_at(&doubt, at as u64).map_err(failed)?;
+        disk::write(&file, &doubt, at as u64).map_err(failed)?;
     }
     if loss.any() {
-        file.sync_all().map_err(failed)?;
+        disk::sync(&file).map_err(failed)?;
         mark::sync_folder(&mark::path_of(path)).map_err(failed)?;
     }
     streams.answer(answer(path, &loss).as_bytes())?;

@@ -1,8 +1,9 @@
 //! `get`: a block's bytes.
 
 use crate::arguments::Arguments;
-use crate::log_file;
-use crate::session::{Client, MOST_DATA};
+use crate::format::MOST_DATA;
+use crate::reader;
+use crate::session::Client;
 use crate::status::{Failure, DONE};
 use crate::streams::Streams;
 
@@ -11,7 +12,7 @@ pub fn run(arguments: &Arguments, streams: &mut Streams) -> Result<u8, Failure> 
     let kind = arguments.kind()?;
     let count = arguments.number("--count")?.unwrap_or(MOST_DATA as u64);
     let count = u16::try_from(count).map_err(|_| Failure::usage("--count is 0 to 65535"))?;
-    let mut log = log_file::read(arguments.path(0), arguments.flag("--adopt"), streams)?;
+    let mut log = reader::read(arguments.path(0), arguments.flag("--adopt"), streams)?;
     let mut client = Client::greet(&mut log)?;
     let block = client.read(&mut log, kind, &score, count);
     streams.answer(block.map_err(Failure::refused)?)?;

@@ -1,41 +1,7 @@
-//! What `--help` prints.
-
-use crate::command::{Command, COMMANDS};
-use crate::status;
-
-/// All commands and statuses.
-pub fn overview() -> String {
-    let mut text = String::from(
-        "skywimple: an archive that says \"not known\" when it does not know.\n\
-         Blocks are stored in one append-only log and named by their SHA-1 score.\n\nCommands:\n",
-    );
-    for command in &COMMANDS {
-        text += &format!("  {:7} {}\n", command.name, command.summary);
-    }
-    text += "\n`skywimple COMMAND --help` says more; `skywimple --version` prints the version.\n";
-    text += "Words after `--` are never options.\n\nExit statuses:\n";
-    for (status, meaning) in &status::TABLE {
-        text += &format!("  {status:8} {meaning}\n");
-    }
-    text
-}
-
-/// One command.
-pub fn of(command: &Command) -> String {
-    let Command {
-        name,
-        usage,
-        summary,
-        details,
-        ..
-    } = command;
-    let usage = format!("{name} {usage}");
-    let usage = usage.trim_end();
-    format!("skywimple {usage}\n\n{name}: {summary}.\n\n{details}\n`skywimple --help` lists all exit statuses.\n")
-}
+//! What `--help` says of each command.
 
 pub const INIT: &str = "\
-N is 0 to 131072. Writes N sectors of 512 zero bytes to LOG and the mark to LOG.mark, both synced.
+N is 0 to {limit}. Writes N sectors of 512 zero bytes to LOG and the mark to LOG.mark, both synced.
 Never overwrites a file: where LOG or LOG.mark is there, the status is 73. LOG must not end in .mark.
 Keep LOG and LOG.mark together; without the mark nobody can tell whether the log's tail was lost.
 Copy the mark first, then the log. When you restore an older log, keep the newer mark: an older one
@@ -65,9 +31,15 @@ two write nothing to standard output.
 pub const SERVE: &str = "\
 Reads framed messages (size[2] type[1] tag[1] body) from standard input and writes the replies to
 standard output, until a goodbye or the end of input, so that any transport can carry it: a pipe,
-ssh, an inetd. An appended block is on disk before its reply is written. One writer at a time.
-Input that ends inside a message is status 1.
-  --adopt    take a log without a good mark as it is, and mark it
+ssh, an inetd. A write is answered when its block is on disk: also one that is held already is looked
+at there, and stored anew where it was damaged meanwhile. Input that ends inside a message is
+status 1. One writer at a time: while another holds the log, the status is 75.
+  --read-only     many at once, and beside a writer, whose blocks are found as soon as it has answered
+                  for them. Nothing is ever written: a new block is refused with 14 (no room)
+  --wait SECONDS  how long another writer may still hold the log before it is status 75 (default 0)
+  --handshake     begin with the opening lines of the protocol: send `venti-02-skywimple` and wait for
+                  the client's, at most 1,024 bytes and 5 s, before the log is opened; else status 76
+  --adopt         take a log without a good mark as it is, and mark it
 ";
 
 pub const DOUBT: &str = "\
@@ -80,22 +52,40 @@ newer mark: an older one cannot tell what is lost. Copy the mark first, then the
 
 pub const REPORT: &str = "\
 Prints sectors, used, records, doubtful and the verdict: sound (status 0) or notknown (status 32).
-  --map       draws the log: # sound, ? doubtful, . blank; a cell with any doubtful sector is ?
-  --svg FILE  writes the map as a picture; overwrites FILE only if it is a picture
-  --width N   cells in a row (default: COLUMNS, else the terminal's width, else 80)
+  --json      prints the same as one JSON object
+  --map       draws the log: # sound, ? doubtful, . blank; a cell with any doubtful sector is ?, and
+              the number before a row is that of its first sector
+  --svg FILE  writes the map as a picture; overwrites FILE only if it is a picture. With - it goes to
+              standard output, in place of the lines above
+  --width N   cells in a row (default: what COLUMNS, else the terminal, else 80 has room for)
   --adopt     take a log without a good mark as it is, and mark it
+";
+
+pub const LIST: &str = "\
+Prints a line for each sound block, in the log's order: the sector where it starts, its type, its
+size in bytes and its score; and a line for each run of doubtful sectors: the first, and how many.
+The status is 0, or 32 if any sector is doubtful.
+  --json     prints JSON, an object on each line: sector, type, size and score of a block; sector and
+             count of a doubtful run
+  --adopt    take a log without a good mark as it is, and mark it
 ";
 
 pub const READ: &str = "\
 Writes the bytes of the file that ENTRY stands for: 80 hex digits, or the name of a file with the
 40 bytes of an entry. Stops at the first offset that is refused and says which and why; what was
-written before it is right. The status is the refusal's number. A missing block is never zeros.
+written before it is right. The status is the refusal's number. A missing block is never zeros; its
+type and score are told, so that it can be fetched from a copy. At a terminal, progress is shown
+where the file goes elsewhere. Each leaf takes a scan of the log for each level of the tree.
   --adopt    take a log without a good mark as it is, and mark it
 ";
 
 pub const WALK: &str = "\
 Visits every block below the root SCORE (40 hex digits) and prints the visits spent, and `done` if
-all could be read. Otherwise the first refusal is told and its number is the status.
+all could be read. Otherwise the first refusal is told and its number is the status; the type and
+score of that block are printed, and where in the tree it is, so that it can be fetched from a copy:
+entry 2/0, byte 1500 is byte 1500 of the file of entry 0 in the directory of entry 2.
+Each visit looks through the log up to its block, some 10 ns for each sector: a full log of small
+blocks takes a minute or two. At a terminal the time gone by and the time expected are shown.
   --allowance N  the most visits, up to 1000000 (the default)
   --adopt        take a log without a good mark as it is, and mark it
 ";

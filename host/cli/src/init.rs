@@ -2,15 +2,21 @@
 
 use std::fs::{self, File};
 use std::io;
-use std::os::unix::fs::FileExt;
 use std::path::Path;
 
+use boundary::Refusal;
+
 use crate::arguments::Arguments;
+use crate::disk;
+use crate::format::{MOST_SECTORS, SECTOR};
+use crate::interrupt::Held;
 use crate::lock;
-use crate::log_file::SECTOR;
-use crate::mark::{self, Mark, MOST_SECTORS};
+use crate::mark::{self, Mark};
 use crate::status::{Failure, DONE, EXISTS};
 use crate::streams::Streams;
+
+/// Sectors that are written at once.
+const PIECE: usize = 2048;
 
 pub fn run(arguments: &Arguments, _: &mut Streams) -> Result<u8, Failure> {
     let path = arguments.path(0);
@@ -19,7 +25,11 @@ pub fn run(arguments: &Arguments, _: &mut Streams) -> Result<u8, Failure> {
     };
     let sectors = usize::try_from(sectors).unwrap_or(usize::MAX);
     if sectors > MOST_SECTORS {
-        return Err(Failure::refused(3));
+        let mebibytes = MOST_SECTORS * SECTOR / (1024 * 1024);
+        let mut failure = Failure::refused(Refusal::LogLength);
+        let most = format!("--sectors is at most {MOST_SECTORS} ({mebibytes} MiB): ");
+        failure.words.insert_str(0, &most);
+        return Err(failure);
     }
     let name = path.as_os_str().as_encoded_bytes();
     if name.ends_with(mark::SUFFIX.as_bytes()) {
@@ -29,14 +39,16 @@ pub fn run(arguments: &Arguments, _: &mut Streams) -> Result<u8, Failure> {
     if fs::symlink_metadata(&mark_path).is_ok() {
         return Err(exists(&mark_path));
     }
-    let file = File::create_new(path).map_err(|e| match e.kind() {
+    let held = Held::start();
+    let file = disk::create(path).map_err(|e| match e.kind() {
         io::ErrorKind::AlreadyExists => exists(path),
         _ => Failure::disk("create", path, &e),
     })?;
     let mark = Mark { sectors, used: 0 };
     let made = lock::take(&file, path)
-        .and_then(|()| blank(&file, path, sectors))
-        .and_then(|()| mark.write(&mark_path));
+        .and_then(|()| blank(&file, path, sectors, &held))
+        .and_then(|()| mark.write(&mark_path, &file))
+        .and_then(|()| held.check());
     if made.is_err() {
         // Both are this call's own files.
         let _ = fs::remove_file(&mark_path);
@@ -46,14 +58,18 @@ pub fn run(arguments: &Arguments, _: &mut Streams) -> Result<u8, Failure> {
 }
 
 /// Writes real zeros, so that the room is there, and has them on disk.
-fn blank(file: &File, path: &Path, sectors: usize) -> Result<(), Failure> {
-    let zeros = vec![0; sectors * SECTOR];
-    let write = || {
-        file.write_all_at(&zeros, 0)?;
-        file.sync_all()?;
-        mark::sync_folder(path)
-    };
-    write().map_err(|e| Failure::disk("write", path, &e))
+fn blank(file: &File, path: &Path, sectors: usize, held: &Held) -> Result<(), Failure> {
+    let failed = |e| Failure::disk("write", path, &e);
+    let zeros = vec![0; SECTOR * PIECE];
+    for start in (0..sectors).step_by(PIECE) {
+        held.check()?;
+        let piece = &zeros[..PIECE.min(sectors - start) * SECTOR];
+        let written = disk::write(file, piece, (start * SECTOR) as u64);
+        written.map_err(failed)?;
+    }
+    held.check()?;
+    disk::sync(file).map_err(failed)?;
+    mark::sync_folder(path).map_err(failed)
 }
 
 fn exists(path: &Path) -> Failure {

@@ -3,13 +3,39 @@
 use std::fs::{self, File, Metadata, OpenOptions, TryLockError};
 use std::os::unix::fs::MetadataExt;
 use std::path::Path;
+use std::thread;
+use std::time::{Duration, Instant};
 
 use crate::status::{Failure, BUSY, INPUT_OUTPUT};
+use crate::streams::Streams;
 
-/// Opens a log and takes its lock.
-pub fn open(options: &OpenOptions, path: &Path) -> Result<File, Failure> {
+/// How long the lock is left alone after it was found taken.
+const PAUSE: Duration = Duration::from_millis(20);
+
+/// Opens a log and takes its lock. Another writer may hold it for so long.
+pub fn open(
+    options: &OpenOptions,
+    path: &Path,
+    wait: Duration,
+    streams: &mut Streams,
+) -> Result<File, Failure> {
     let file = options.open(path).map_err(|e| Failure::open(path, &e))?;
-    take(&file, path)?;
+    let start = Instant::now();
+    loop {
+        match take(&file, path) {
+            Err(taken) if taken.status == BUSY && start.elapsed() < wait => {}
+            taken => {
+                streams.clear_progress();
+                taken?;
+                break;
+            }
+        }
+        if streams.err_terminal {
+            let (waited, most) = (start.elapsed().as_secs(), wait.as_secs());
+            streams.show_progress(&format!("waiting for another writer: {waited} of {most} s"));
+        }
+        thread::sleep(PAUSE.min(wait));
+    }
     in_place(&file, path)?;
     Ok(file)
 }
@@ -20,8 +46,8 @@ pub fn take(file: &File, path: &Path) -> Result<(), Failure> {
         Ok(()) => Ok(()),
         Err(TryLockError::WouldBlock) => {
             let words = format!(
-                "another writer holds {}. Wait until it has ended; reading (get, report, read, \
-                 walk) goes on meanwhile.",
+                "another writer holds {}. Wait until it has ended (`serve --wait SECONDS` does); \
+                 reading (get, report, read, walk, serve --read-only) goes on meanwhile.",
                 path.display()
             );
             Err(Failure::new(BUSY, words))
@@ -32,14 +58,18 @@ pub fn take(file: &File, path: &Path) -> Result<(), Failure> {
 
 /// Fails unless the path leads to this file: the lock belongs to the file, the mark to the path.
 pub fn in_place(file: &File, path: &Path) -> Result<(), Failure> {
-    let identity = |file: &Metadata| (file.dev(), file.ino());
-    let locked = file.metadata();
-    let locked = locked.map_err(|e| Failure::disk("look at", path, &e))?;
-    let found = fs::metadata(path).ok();
-    if found.as_ref().map(identity) != Some(identity(&locked)) {
-        return Err(replaced(path));
+    match is_at(file, path) {
+        true => Ok(()),
+        false => Err(replaced(path)),
     }
-    Ok(())
+}
+
+/// Whether the path leads to this file.
+pub fn is_at(file: &File, path: &Path) -> bool {
+    let identity = |file: Metadata| (file.dev(), file.ino());
+    let opened = file.metadata().map(identity);
+    let found = fs::metadata(path).map(identity);
+    matches!((opened, found), (Ok(opened), Ok(found)) if opened == found)
 }
 
 pub fn replaced(path: &Path) -> Failure {

@@ -5,47 +5,18 @@ use std::io;
 use std::os::unix::fs::FileExt;
 use std::path::Path;
 
+use boundary::Refusal;
+
+use crate::format::{allowed, used, SECTOR};
 use crate::loss::Loss;
-use crate::mark::{self, Found, Mark, MOST_SECTORS};
+use crate::mark::{self, Found, Mark};
 use crate::sectors::{self, Loaded};
 use crate::status::{Failure, MISSING};
 use crate::streams::Streams;
-use crate::writer::Writer;
-
-/// Bytes in a sector.
-pub const SECTOR: usize = 512;
-
-pub const BLANK: [u8; SECTOR] = [0; SECTOR];
-
-/// The sectors of the used part.
-pub fn used(log: &[u8]) -> usize {
-    let last = log.chunks_exact(SECTOR).rposition(|sector| sector != BLANK);
-    last.map_or(0, |last| last + 1)
-}
-
-/// Reads a log that fits its mark. With `adopt`, a log without a good mark gets one first.
-pub fn read(path: &Path, adopt: bool, streams: &mut Streams) -> Result<Vec<u8>, Failure> {
-    if adopt {
-        return Ok(Writer::open(path, true, streams)?.bytes);
-    }
-    is_file(path)?;
-    // The mark first: then an append that goes on meanwhile never looks like a loss.
-    let mark = Mark::require(path)?;
-    let file = File::open(path).map_err(|e| Failure::open(path, &e))?;
-    let Loaded { bytes, unreadable } = load(&file, path, Some(mark), streams)?;
-    fits(path, mark, &bytes)?;
-    if unreadable == 0 && used(&bytes) > mark.used {
-        // A crash came before the mark: without it, a block that is read now could later be lost
-        // unseen. Where this reader can't write, or a writer is at work, it goes on.
-        if let Ok(log) = Writer::open(path, false, streams) {
-            return Ok(log.bytes);
-        }
-    }
-    Ok(bytes)
-}
 
 /// Whether a log file is there. A mark without one means that it is lost.
 pub fn is_file(path: &Path) -> Result<(), Failure> {
+    mark::not_a_mark(path)?;
     match fs::metadata(path) {
         Ok(found) if found.is_file() => Ok(()),
         Ok(_) => Err(Failure::new(
@@ -96,7 +67,7 @@ pub fn load(
 
 /// Refusal 3. Beside a good mark it is known which length is right.
 fn no_log(path: &Path, length: u64, mark: Option<Mark>) -> Failure {
-    let mut failure = Failure::refused_about(3, path.as_os_str());
+    let mut failure = Failure::refused_about(Refusal::LogLength, path.as_os_str());
     if let Some(Mark { sectors, .. }) = mark {
         let marked = sectors * SECTOR;
         failure.words += &format!(
@@ -107,11 +78,6 @@ fn no_log(path: &Path, length: u64, mark: Option<Mark>) -> Failure {
         );
     }
     failure
-}
-
-/// Test 3.
-fn allowed(length: u64) -> bool {
-    length.is_multiple_of(SECTOR as u64) && length / SECTOR as u64 <= MOST_SECTORS as u64
 }
 
 /// Whether the log has all that its mark says.

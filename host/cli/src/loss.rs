@@ -2,7 +2,7 @@
 
 use std::path::Path;
 
-use crate::log_file::SECTOR;
+use crate::format::SECTOR;
 use crate::mark::Mark;
 use crate::status::{Failure, UNFIT};
 

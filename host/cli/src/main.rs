@@ -1,13 +1,25 @@
 //! Skywimple's command-line program, over the proved archive.
 
 mod arguments;
+mod blocks;
+mod closed;
 mod command;
 mod demo;
+mod disk;
 mod doubt;
+mod entry;
+mod escape;
+#[cfg(test)]
+mod faults;
+mod format;
 mod get;
+mod handshake;
+mod held;
 mod help;
 mod hex;
 mod init;
+mod interrupt;
+mod list;
 mod lock;
 mod log_file;
 mod loss;
@@ -16,6 +28,7 @@ mod mark;
 mod progress;
 mod put;
 mod read;
+mod reader;
 mod report;
 mod sectors;
 mod serve;
@@ -24,6 +37,7 @@ mod status;
 mod streams;
 mod svg;
 mod terminal;
+mod trail;
 mod unique;
 mod walk;
 mod words;
@@ -31,11 +45,12 @@ mod writer;
 
 use std::env;
 use std::fs::File;
-use std::io::{self, BufWriter, IsTerminal};
+use std::io::{self, BufWriter, IsTerminal, Read, Write};
 use std::os::fd::AsFd;
 use std::process::ExitCode;
 
-use status::Failure;
+use closed::Closed;
+use status::{Failure, INPUT_OUTPUT};
 use streams::Streams;
 
 /// More than any reply has.
@@ -43,22 +58,34 @@ const BUFFER: usize = 65_536;
 
 fn main() -> ExitCode {
     let words: Vec<_> = env::args_os().skip(1).collect();
-    let (out_terminal, err_terminal) = (io::stdout().is_terminal(), io::stderr().is_terminal());
-    let mut streams = Streams {
-        input: &mut io::stdin().lock(),
-        out: &mut io::sink(),
-        err: &mut io::stderr(),
-        out_terminal,
-        err_terminal,
+    let mut input: Box<dyn Read> = match closed::input() {
+        true => Box::new(Closed),
+        false => Box::new(io::stdin().lock()),
     };
-    // Not through `Stdout`, which would cut replies at each line's end: a reply is one write.
-    let status = match io::stdout().as_fd().try_clone_to_owned() {
-        Ok(out) => {
-            let mut out = BufWriter::with_capacity(BUFFER, File::from(out));
-            streams.out = &mut out;
-            command::run(&words, &mut streams)
+    let mut out = match output() {
+        Ok(out) => out,
+        Err(e) => {
+            eprintln!("skywimple: {}", Failure::output(e).words);
+            return ExitCode::from(INPUT_OUTPUT);
         }
-        Err(e) => command::end(Failure::output(e), &mut streams),
     };
-    ExitCode::from(status)
+    let mut streams = Streams {
+        input: &mut *input,
+        out: &mut *out,
+        err: &mut io::stderr(),
+        out_terminal: io::stdout().is_terminal(),
+        err_terminal: io::stderr().is_terminal(),
+        progress: false,
+    };
+    ExitCode::from(command::run(&words, &mut streams))
+}
+
+/// Standard output. Not through `Stdout`, which would cut replies at each line's end: a reply is one
+/// write.
+fn output() -> io::Result<Box<dyn Write>> {
+    if closed::output() {
+        return Ok(Box::new(Closed));
+    }
+    let out = File::from(io::stdout().as_fd().try_clone_to_owned()?);
+    Ok(Box::new(BufWriter::with_capacity(BUFFER, out)))
 }

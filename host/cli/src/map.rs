@@ -2,11 +2,11 @@
 
 use std::fmt::Write;
 
-use crate::log_file::{self, SECTOR};
-use skywimple_archive::sound_at;
+use boundary::Refusal;
 
-/// Bytes of payload in a sector.
-const PAYLOAD: usize = 403;
+use crate::blocks;
+use crate::format::SECTOR;
+
 /// The most rows that a map is drawn in.
 const MOST_ROWS: usize = 16;
 
@@ -33,19 +33,15 @@ pub struct Scaled {
 }
 
 impl Map {
-    /// The map of a log, or the refusal's number.
-    pub fn of(log: &[u8]) -> Result<Map, u8> {
-        let used = log_file::used(log);
+    /// The map of a log.
+    pub fn of(log: &[u8]) -> Result<Map, Refusal> {
         let mut sectors = vec![Cell::Blank; log.len() / SECTOR];
-        let mut next = 0;
-        while next < used {
-            let size = sound_at(log, next)?;
-            let (end, cell) = match size {
-                0 => (next + 1, Cell::Doubtful),
-                size => (next + size.div_ceil(PAYLOAD), Cell::Sound),
+        for piece in blocks::pieces(log)? {
+            let cell = match piece.block {
+                Some(_) => Cell::Sound,
+                None => Cell::Doubtful,
             };
-            sectors[next..end].fill(cell);
-            next = end;
+            sectors[piece.sector..piece.sector + piece.count].fill(cell);
         }
         Ok(Map { sectors })
     }
@@ -76,11 +72,18 @@ impl Map {
         )
     }
 
-    /// The map as text, with the legend as its last line.
-    pub fn draw(&self, width: usize, colour: bool) -> String {
+    /// The columns of the number before a row.
+    pub fn label(&self) -> usize {
+        self.sectors.len().to_string().len()
+    }
+
+    /// The map as text: the heading, rows after the number of their first sector, and the legend.
+    pub fn draw(&self, heading: &str, width: usize, colour: bool) -> String {
         let Scaled { cells, group } = self.scaled(width);
-        let mut text = String::new();
-        for row in cells.chunks(width) {
+        let label = self.label();
+        let mut text = format!("{heading}\n");
+        for (at, row) in cells.chunks(width).enumerate() {
+            let _ = write!(text, "{:>label$} ", at * width * group);
             for run in row.chunk_by(|a, b| a == b) {
                 let (sign, paint) = sign(run[0]);
                 let signs = sign.repeat(run.len());
@@ -121,21 +124,21 @@ mod tests {
 
     #[test]
     fn one_sector_a_cell() {
-        let drawn = map("##?#..").draw(4, false);
+        let drawn = map("##?#..").draw("name", 4, false);
         let legend = "# sound 3, ? doubtful 1, . blank 2; 1 sector a cell";
-        assert_eq!(drawn, format!("##?#\n..\n{legend}\n"));
+        assert_eq!(drawn, format!("name\n0 ##?#\n4 ..\n{legend}\n"));
     }
 
     #[test]
     fn a_group_is_the_worst_of_its_sectors() {
         let map = map(&("#".repeat(9) + "?" + "#" + &".".repeat(30)));
-        let drawn = map.draw(1, false);
+        let drawn = map.draw("", 1, false);
         assert_eq!(
             drawn.lines().count(),
-            14 + 1,
+            1 + 14 + 1,
             "3 sectors in each of 14 rows"
         );
-        assert!(drawn.starts_with("#\n#\n#\n?\n.\n"));
+        assert!(drawn.starts_with("\n 0 #\n 3 #\n 6 #\n 9 ?\n12 .\n"));
         assert!(drawn.ends_with("3 sectors a cell\n"));
     }
 
@@ -152,7 +155,8 @@ mod tests {
 
     #[test]
     fn colour_only_when_asked_for() {
-        assert!(!map("#?.").draw(3, false).contains('\x1b'));
-        assert!(map("#?.").draw(3, true).contains("\x1b[1;31m?\x1b[0m"));
+        assert!(!map("#?.").draw("", 3, false).contains('\x1b'));
+        let drawn = map("#?.").draw("", 3, true);
+        assert!(drawn.contains("\x1b[1;31m?\x1b[0m"));
     }
 }

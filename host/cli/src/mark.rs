@@ -5,18 +5,18 @@
 //! CRC-32 of the two before.
 
 use std::ffi::OsString;
-use std::fs::{self, File};
-use std::io::{self, Read, Write};
+use std::fs::{self, File, Metadata, Permissions};
+use std::io::{self, Read};
+use std::os::unix::fs::{fchown, MetadataExt, PermissionsExt};
 use std::path::{Path, PathBuf};
 
-use skywimple_archive::crc32;
+use boundary::crc32;
 
+use crate::disk;
+use crate::format::MOST_SECTORS;
 use crate::hex;
 use crate::status::{Failure, MISSING, UNFIT};
 use crate::unique;
-
-/// The most sectors a log may have.
-pub const MOST_SECTORS: usize = 131_072;
 
 const LENGTH: usize = 16 + 1 + 13 + 1 + 12 + 1;
 
@@ -37,6 +37,8 @@ pub enum Found {
 
 /// What marks' names end in.
 pub const SUFFIX: &str = ".mark";
+/// What a mark's name ends in besides, before it is in place.
+const NEW: &str = ".new";
 
 /// The mark of a log: beside the file itself where the path is a symbolic link.
 pub fn path_of(log: &Path) -> PathBuf {
@@ -117,11 +119,13 @@ impl Mark {
         }
     }
 
-    /// Puts it in place of the one before, all or nothing, and on disk. Its caller holds the log's lock.
-    pub fn write(&self, path: &Path) -> Result<(), Failure> {
-        let new = with_suffix(path, &format!(".{}.new", unique::name()));
-        let replaced = File::create_new(&new).and_then(|file| {
-            let replaced = self.replace(file, &new, path);
+    /// Puts it in place of the one before, all or nothing, and on disk: with the owner, group and
+    /// mode that the one before has, or else the log. Its caller holds the log's lock.
+    pub fn write(&self, path: &Path, log: &File) -> Result<(), Failure> {
+        let new = with_suffix(path, &format!(".{}{NEW}", unique::name()));
+        let replaced = disk::create(&new).and_then(|file| {
+            let like = fs::metadata(path).or_else(|_| log.metadata());
+            let replaced = like.and_then(|like| self.replace(file, &like, &new, path));
             if replaced.is_err() {
                 let _ = fs::remove_file(&new);
             }
@@ -132,11 +136,58 @@ impl Mark {
     }
 
     /// Writes it to a new file and gives that the mark's name.
-    fn replace(&self, mut file: File, new: &Path, path: &Path) -> io::Result<()> {
-        file.write_all(self.text().as_bytes())?;
-        file.sync_all()?;
-        fs::rename(new, path)
+    fn replace(&self, file: File, like: &Metadata, new: &Path, path: &Path) -> io::Result<()> {
+        disk::write(&file, self.text().as_bytes(), 0)?;
+        keep_access(&file, like)?;
+        disk::sync(&file)?;
+        disk::rename(new, path)
     }
+}
+
+/// Gives a new mark the owner, group and mode of another file, as far as this process may.
+fn keep_access(file: &File, like: &Metadata) -> io::Result<()> {
+    let own = file.metadata()?;
+    let mut mode = like.mode() & 0o777;
+    if (own.uid(), own.gid()) != (like.uid(), like.gid()) {
+        // Who is not the superuser cannot give a file away, but can give it to a group of his own.
+        let kept = fchown(file, Some(like.uid()), Some(like.gid()))
+            .or_else(|_| fchown(file, None, Some(like.gid())));
+        if kept.is_err() {
+            mode &= 0o707; // what one group may do is not for another
+        }
+    }
+    if own.mode() & 0o777 != mode {
+        file.set_permissions(Permissions::from_mode(mode))?;
+    }
+    Ok(())
+}
+
+/// Removes what writers that died left of their new marks. Its caller holds the log's lock, so no
+/// living one is at it.
+pub fn remove_left_over(path: &Path) {
+    let (Some(mark), Ok(entries)) = (path.file_name(), fs::read_dir(folder(path))) else {
+        return;
+    };
+    for entry in entries.flatten() {
+        if is_left_over(
+            mark.as_encoded_bytes(),
+            entry.file_name().as_encoded_bytes(),
+        ) {
+            let _ = fs::remove_file(entry.path());
+        }
+    }
+}
+
+/// Whether a file has the name that a mark has before it is in place, `LOG.mark.DIGITS-DIGITS.new`.
+fn is_left_over(mark: &[u8], name: &[u8]) -> bool {
+    let middle = name.strip_prefix(mark).and_then(|n| n.strip_prefix(b"."));
+    let middle = middle.and_then(|n| n.strip_suffix(NEW.as_bytes()));
+    let Some(middle) = middle else {
+        return false;
+    };
+    let parts: Vec<_> = middle.split(|byte| *byte == b'-').collect();
+    let digits = |part: &&[u8]| !part.is_empty() && part.iter().all(u8::is_ascii_digit);
+    parts.len() == 2 && parts.iter().all(digits)
 }
 
 /// As much of a file as a mark can have, and one byte.
@@ -146,9 +197,25 @@ fn read_front(file: File) -> io::Result<Vec<u8>> {
     Ok(text)
 }
 
-/// Has the folder's own entries written to disk.
+/// Fails where what is given as a log is a mark, by its name or by what is in it.
+pub fn not_a_mark(path: &Path) -> Result<(), Failure> {
+    let name = path.as_os_str().as_encoded_bytes();
+    let log = name.strip_suffix(SUFFIX.as_bytes());
+    let holds_one = || matches!(Mark::find(path), Ok(Found::Good(_)));
+    if log.is_none() && !holds_one() {
+        return Ok(());
+    }
+    let log = match log {
+        Some(log) => format!("give the log itself, {}", String::from_utf8_lossy(log)),
+        None => "give the log itself".to_string(),
+    };
+    let words = format!("{} is the mark of a log, not a log: {log}.", path.display());
+    Err(Failure::new(MISSING, words))
+}
+
+/// Has the entries of a file's folder on disk.
 pub fn sync_folder(file: &Path) -> io::Result<()> {
-    File::open(folder(file))?.sync_all()
+    disk::sync_folder(folder(file))
 }
 
 fn folder(file: &Path) -> &Path {
@@ -211,8 +278,33 @@ mod tests {
     }
 
     #[test]
+    fn names_that_are_left_over() {
+        let left_over = |name: &str| is_left_over(b"log.mark", name.as_bytes());
+        assert!(left_over("log.mark.7-7.new"));
+        assert!(left_over(&format!("log.mark.{}.new", unique::name())));
+        let others = [
+            "log",
+            "log.mark",
+            "log.mark.new",
+            "log.mark..new",
+            "log.mark.-.new",
+            "log.mark.7.new",
+            "log.mark.7-.new",
+            "log.mark.7-7-7.new",
+            "log.mark.7-x.new",
+            "log.mark.7-7.new.old",
+            "log.mark7-7.new",
+            "xlog.mark.7-7.new",
+            "log.mark.7-7",
+        ];
+        for other in others {
+            assert!(!left_over(other), "{other}");
+        }
+    }
+
+    #[test]
     fn impossible_numbers_are_damage() {
-        for (sectors, used) in [(4, 5), (131_073, 0)] {
+        for (sectors, used) in [(4, 5), (MOST_SECTORS + 1, 0)] {
             let mark = Mark { sectors, used };
             assert_eq!(Mark::parse(mark.text().as_bytes()), None);
         }

@@ -8,14 +8,12 @@ const EVERY: Duration = Duration::from_millis(100);
 
 pub struct Progress {
     next: Instant,
-    shown: bool,
 }
 
 impl Progress {
     pub fn start() -> Progress {
         Progress {
             next: Instant::now() + EVERY,
-            shown: false,
         }
     }
 
@@ -23,19 +21,8 @@ impl Progress {
     pub fn show(&mut self, streams: &mut Streams, line: impl FnOnce() -> String) {
         let looked_at = streams.err_terminal && !streams.out_terminal;
         if looked_at && Instant::now() >= self.next {
-            let _ = write!(streams.err, "\r\x1b[K{}", line());
-            let _ = streams.err.flush();
+            streams.show_progress(&line());
             self.next = Instant::now() + EVERY;
-            self.shown = true;
-        }
-    }
-
-    /// Takes the line away.
-    pub fn clear(&mut self, streams: &mut Streams) {
-        if self.shown {
-            let _ = write!(streams.err, "\r\x1b[K");
-            let _ = streams.err.flush();
-            self.shown = false;
         }
     }
 }

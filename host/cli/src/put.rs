@@ -5,11 +5,15 @@ use std::fs::File;
 use std::io::{self, Read};
 use std::path::Path;
 
+use boundary::Refusal;
+
 use crate::arguments::Arguments;
+use crate::format::{sectors_of, Score, MOST_DATA};
 use crate::hex;
-use crate::session::{Client, Score, MOST_DATA};
+use crate::session::Client;
 use crate::status::{Failure, DONE};
 use crate::streams::Streams;
+use crate::words;
 use crate::writer::Writer;
 
 pub fn run(arguments: &Arguments, streams: &mut Streams) -> Result<u8, Failure> {
@@ -25,21 +29,21 @@ pub fn run(arguments: &Arguments, streams: &mut Streams) -> Result<u8, Failure> 
         _ => None,
     };
     let mut log = Writer::open(arguments.path(0), arguments.flag("--adopt"), streams)?;
-    let mut client = Client::greet(&mut log.bytes)?;
+    let mut client = Client::greet_on_disk(&mut log, streams)?;
 
     let mut status = DONE;
     for file in files {
         let block = early.take();
         let block = block.unwrap_or_else(|| read_block(file, streams.input));
-        let stored = block.and_then(|block| {
-            let score = client.write(&mut log.bytes, kind, &block);
-            score.map_err(|number| Failure::refused_about(number, shown(file)))
-        });
-        match stored {
-            Ok(score) => {
-                log.keep()?;
-                streams.answer(&line(&score, file, files.len() > 1))?;
+        let stored = match block {
+            Ok(block) => {
+                let stored = client.store(&mut log, kind, &block, streams)?;
+                stored.map_err(|refusal| refused(refusal, file, &block, &log))
             }
+            Err(failure) => Err(failure),
+        };
+        match stored {
+            Ok(score) => streams.answer(&line(&score, file, files.len() > 1))?,
             Err(failure) => {
                 streams.tell(&failure.words);
                 if status == DONE {
@@ -49,6 +53,17 @@ pub fn run(arguments: &Arguments, streams: &mut Streams) -> Result<u8, Failure> 
         }
     }
     Ok(status)
+}
+
+fn refused(refusal: Refusal, file: &OsStr, block: &[u8], log: &Writer) -> Failure {
+    if refusal != Refusal::NoRoom {
+        return Failure::refused_about(refusal, shown(file));
+    }
+    let (sectors, used) = log.sectors();
+    let path = log.path().display().to_string();
+    let words = words::full(&path, sectors, used, sectors_of(block.len()));
+    let words = format!("{}: {words}", shown(file).display());
+    Failure::new(refusal.number(), words)
 }
 
 /// A file as it is called in words.

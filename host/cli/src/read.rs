@@ -4,54 +4,82 @@ use std::fs::File;
 use std::io::{self, Read};
 use std::path::Path;
 
-use skywimple_archive::{locate, sound_at, Run};
+use boundary::{locate, sound_at, Refusal, Run};
 
 use crate::arguments::Arguments;
+use crate::entry::{Entry, LENGTH as ENTRY};
+use crate::format::{kind_name, Score, LABEL, MOST_DATA, PAYLOAD, SECTOR};
 use crate::hex;
-use crate::log_file::{self, SECTOR};
 use crate::progress::Progress;
-use crate::session::MOST_DATA;
+use crate::reader;
+use crate::session::Client;
 use crate::status::{Failure, DONE};
 use crate::streams::Streams;
 use crate::words;
 
-/// Bytes in an entry.
-const ENTRY: usize = 40;
-/// Bytes in a sector's label, and in its payload.
-const LABEL: usize = 96;
-const PAYLOAD: usize = 403;
-/// The number of an offset at or past the file's size.
-const PAST_THE_END: u8 = 17;
-
 pub fn run(arguments: &Arguments, streams: &mut Streams) -> Result<u8, Failure> {
     let entry = entry(arguments.path(1))?;
-    let log = log_file::read(arguments.path(0), arguments.flag("--adopt"), streams)?;
+    let mut log = reader::read(arguments.path(0), arguments.flag("--adopt"), streams)?;
     let mut progress = Progress::start();
     let ended = copy(&log, &entry, &mut progress, streams);
-    progress.clear(streams);
+    streams.clear_progress();
     streams.out.flush().map_err(Failure::output)?;
-    ended
+    let Some((offset, refusal)) = ended? else {
+        return Ok(DONE);
+    };
+    let block = refused_block(&mut log, &entry, offset, refusal);
+    let mut at = format!("reading stopped at offset {offset}");
+    if let Some((kind, score)) = &block {
+        let (kind, score) = (kind_name(*kind), hex::encode(score));
+        at += &format!(", at the {kind} block {score}");
+    }
+    let block = block.as_ref().map(|(kind, score)| (*kind, score));
+    let words = words::refusal_in_tree(refusal, block);
+    Err(Failure::new(refusal.number(), format!("{at}: {words}")))
 }
 
-/// Writes run after run, up to the end or the first refused offset.
+/// The block on the way to an offset that is refused so.
+fn refused_block(
+    log: &mut [u8],
+    entry: &[u8],
+    offset: u64,
+    refusal: Refusal,
+) -> Option<(u8, Score)> {
+    let entry = Entry::parse(entry)?;
+    let mut client = Client::greet(log).ok()?;
+    let mut score = entry.score;
+    for level in (0..=entry.depth).rev() {
+        let (kind, count) = (entry.kind(level), entry.count(level));
+        let block = match client.read(log, kind, &score, count as u16) {
+            Ok(block) => block,
+            Err(refused) => return (refused == refusal).then_some((kind, score)),
+        };
+        if level > 0 && !block.len().is_multiple_of(20) {
+            return (refusal == Refusal::Pointers).then_some((kind, score));
+        }
+        if level > 0 {
+            let start = 20 * entry.pointer(offset, level);
+            score = block.get(start..start + 20)?.try_into().ok()?;
+        }
+    }
+    None
+}
+
+/// Writes run after run, up to the end or the first refused offset, which it gives with the refusal.
 fn copy(
     log: &[u8],
     entry: &[u8],
     progress: &mut Progress,
     streams: &mut Streams,
-) -> Result<u8, Failure> {
+) -> Result<Option<(u64, Refusal)>, Failure> {
     let page = vec![0; MOST_DATA];
     let mut offset = 0;
     loop {
         let runs = match runs(log, &page, entry, offset) {
             Ok(runs) => runs,
             // An offset that is refused so, and no other, is the end: all tests before it passed.
-            Err(PAST_THE_END) => return Ok(DONE),
-            Err(number) => {
-                let words = words::refusal_in_tree(number);
-                let words = format!("reading stopped at offset {offset}: {words}");
-                return Err(Failure::new(number, words));
-            }
+            Err(Refusal::Offset) => return Ok(None),
+            Err(refusal) => return Ok(Some((offset, refusal))),
         };
         for bytes in runs {
             streams.out.write_all(bytes).map_err(Failure::output)?;
@@ -65,7 +93,12 @@ fn copy(
 
 /// The run at an offset and, where it is the front of a stored leaf, the leaf's other runs too: the
 /// block is sound, so its payloads lie in the sectors that follow, and none has to be looked up anew.
-fn runs<'a>(log: &'a [u8], page: &'a [u8], entry: &[u8], offset: u64) -> Result<Vec<&'a [u8]>, u8> {
+fn runs<'a>(
+    log: &'a [u8],
+    page: &'a [u8],
+    entry: &[u8],
+    offset: u64,
+) -> Result<Vec<&'a [u8]>, Refusal> {
     let (at, length) = match locate(log, page, entry, offset)? {
         Run::Log { at, length } => (at, length),
         Run::Page { length } => return Ok(vec![&page[..length]]),
@@ -113,7 +146,6 @@ fn front(file: File) -> io::Result<Vec<u8>> {
 #[cfg(test)]
 mod tests {
     use super::*;
-    use crate::session::Client;
 
     /// A data entry of depth 0 with leaves of 1,000 bytes.
     fn file(size: u64, score: &[u8; 20]) -> Vec<u8> {
@@ -129,7 +161,7 @@ mod tests {
     /// All runs of a file laid end to end, each looked up by itself.
     fn run_by_run(log: &[u8], page: &[u8], entry: &[u8]) -> Vec<u8> {
         let mut bytes = Vec::new();
-        while let Ok(run) = skywimple_archive::read(log, page, entry, bytes.len() as u64) {
+        while let Ok(run) = boundary::read(log, page, entry, bytes.len() as u64) {
             bytes.extend(run);
         }
         bytes

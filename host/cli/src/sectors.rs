@@ -1,8 +1,10 @@
 //! Reads a log, also where some of its sectors cannot be read.
 
+use std::fs::File;
 use std::io::{self, ErrorKind};
+use std::os::unix::fs::FileExt;
 
-use crate::log_file::SECTOR;
+use crate::format::SECTOR;
 
 pub struct Loaded {
     pub bytes: Vec<u8>,
@@ -40,6 +42,11 @@ pub fn load(read_at: impl Fn(&mut [u8], u64) -> io::Result<usize>, length: u64) 
     Loaded { bytes, unreadable }
 }
 
+/// The same from some byte of a file on.
+pub fn load_from(file: &File, start: u64, length: usize) -> Loaded {
+    load(|buffer, at| file.read_at(buffer, start + at), length as u64)
+}
+
 /// Reads until the buffer is full or the file ends, and gives the count of bytes.
 fn fill(
     read_at: &impl Fn(&mut [u8], u64) -> io::Result<usize>,
@@ -62,6 +69,7 @@ fn fill(
 mod tests {
     use super::*;
     use crate::session::Client;
+    use boundary::Refusal;
     use std::cell::Cell;
 
     /// Loads from a file that gives 300 bytes at a time, is interrupted, and fails in some sectors.
@@ -119,17 +127,21 @@ mod tests {
             for i in 0..3 {
                 let read = client.read(&mut loaded.bytes, 13, &scores[i], 60_000);
                 let expected = if i == lost {
-                    Err(12)
+                    Err(Refusal::NotKnown)
                 } else {
                     Ok(&blocks[i][..])
                 };
                 assert_eq!(read, expected);
             }
             let never = client.read(&mut loaded.bytes, 13, &[9; 20], 60_000);
-            assert_eq!(never, Err(12));
+            assert_eq!(never, Err(Refusal::NotKnown));
         }
         let mut loaded = load_with(&log, log.len(), &[7]);
         let never = client.read(&mut loaded.bytes, 13, &[9; 20], 60_000);
-        assert_eq!(never, Err(12), "a blank sector could have been another");
+        assert_eq!(
+            never,
+            Err(Refusal::NotKnown),
+            "a blank sector could have been another"
+        );
     }
 }

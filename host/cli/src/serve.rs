@@ -2,27 +2,72 @@
 
 use std::io::{self, Read};
 use std::path::Path;
+use std::time::Duration;
 
-use skywimple_archive::Session;
+use boundary::Session;
 
 use crate::arguments::Arguments;
+use crate::handshake;
 use crate::progress::Progress;
-use crate::session::{whole_reply, REPLY};
+use crate::reader::Reader;
+use crate::session::{whole_reply, Answers, REPLY};
 use crate::status::{Failure, DONE};
 use crate::streams::Streams;
 use crate::words;
 use crate::writer::Writer;
 
+/// How the log is opened.
+enum Access {
+    ReadOnly,
+    Write { wait: Duration, adopt: bool },
+}
+
 pub fn run(arguments: &Arguments, streams: &mut Streams) -> Result<u8, Failure> {
-    let mut log = Writer::open(arguments.path(0), arguments.flag("--adopt"), streams)?;
+    let access = access(arguments)?;
+    if arguments.flag("--handshake") {
+        // A client that is slow to begin holds up no other.
+        handshake::exchange(streams)?;
+    }
+    let mut log = open(arguments.path(0), access, streams)?;
     let mut progress = Progress::start();
-    let ended = talk(&mut log, &mut progress, streams);
-    progress.clear(streams);
+    let ended = talk(&mut *log, &mut progress, streams);
+    streams.clear_progress();
     ended
 }
 
+fn access(arguments: &Arguments) -> Result<Access, Failure> {
+    let adopt = arguments.flag("--adopt");
+    let wait = arguments.number("--wait")?;
+    if !arguments.flag("--read-only") {
+        let wait = Duration::from_secs(wait.unwrap_or(0));
+        return Ok(Access::Write { wait, adopt });
+    }
+    if adopt {
+        return Err(Failure::usage(
+            "--read-only writes nothing, so --adopt has no place beside it",
+        ));
+    }
+    if wait.is_some() {
+        return Err(Failure::usage(
+            "--read-only takes no lock, so there is nothing to --wait for",
+        ));
+    }
+    Ok(Access::ReadOnly)
+}
+
+fn open(path: &Path, access: Access, streams: &mut Streams) -> Result<Box<dyn Answers>, Failure> {
+    Ok(match access {
+        Access::ReadOnly => Box::new(Reader::open(path, streams)?),
+        Access::Write { wait, adopt } => Box::new(Writer::open_within(wait, path, adopt, streams)?),
+    })
+}
+
 /// Answers requests until goodbye or the end of input.
-fn talk(log: &mut Writer, progress: &mut Progress, streams: &mut Streams) -> Result<u8, Failure> {
+fn talk(
+    log: &mut dyn Answers,
+    progress: &mut Progress,
+    streams: &mut Streams,
+) -> Result<u8, Failure> {
     let mut session = Session::Fresh;
     let mut reply = vec![0; REPLY];
     let (mut requests, mut appended) = (0_u64, 0);
@@ -38,14 +83,14 @@ fn talk(log: &mut Writer, progress: &mut Progress, streams: &mut Streams) -> Res
             }
             Err(e) => return Err(Failure::disk("read", Path::new("standard input"), &e)),
         };
-        let number;
-        (number, session) = skywimple_archive::serve(session, &message, &mut log.bytes, &mut reply);
         // On disk before the reply.
-        appended += log.keep()?;
+        let served = log.serve(session, &message, &mut reply, streams)?;
+        session = served.session;
+        appended += served.appended;
         requests += 1;
-        if (1..=4).contains(&number) {
-            progress.clear(streams);
-            let words = words::refusal(number);
+        let silent = served.outcome.err().filter(|refusal| refusal.number() <= 4);
+        if let Some(refusal) = silent {
+            let words = words::refusal(refusal);
             streams.tell(&format!("message {requests} was not answered: {words}"));
         } else if session != Session::Closed {
             streams.answer(whole_reply(&reply))?;

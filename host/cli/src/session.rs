@@ -1,19 +1,38 @@
 //! One greeted session over a log in memory.
 
-use skywimple_archive::{serve, Session};
+use boundary::{serve, Refusal, Session};
 
+use crate::format::Score;
 use crate::status::Failure;
+use crate::streams::Streams;
 
 /// The bytes that a reply buffer needs.
 pub const REPLY: usize = 57_348;
-/// The most bytes a block may have.
-pub const MOST_DATA: usize = 57_344;
-
-pub type Score = [u8; 20];
 
 const HELLO: [u8; 13] = [0, 11, 4, 0, 0, 2, b'0', b'2', 0, 0, 0, 0, 0];
 const READ: u8 = 12;
 const WRITE: u8 = 14;
+
+/// What came of a request.
+pub struct Served {
+    pub outcome: Result<(), Refusal>,
+    /// The session afterwards.
+    pub session: Session,
+    /// The sectors that were appended.
+    pub appended: usize,
+}
+
+/// A log on disk that answers requests.
+pub trait Answers {
+    /// Answers one request. What is acknowledged is on disk.
+    fn serve(
+        &mut self,
+        session: Session,
+        message: &[u8],
+        reply: &mut [u8],
+        streams: &mut Streams,
+    ) -> Result<Served, Failure>;
+}
 
 pub struct Client {
     session: Session,
@@ -31,34 +50,54 @@ impl Client {
         Ok(client)
     }
 
-    /// Stores a block of at most 65,529 bytes. Gives its score, or the refusal's number.
-    pub fn write(&mut self, log: &mut [u8], kind: u8, data: &[u8]) -> Result<Score, u8> {
-        let body = [&[kind, 0, 0, 0], data].concat();
-        let reply = self.ask(log, &message(WRITE, &body))?;
-        let mut score = [0; 20];
-        score.copy_from_slice(reply);
-        Ok(score)
+    /// A session with a log on disk that said hello.
+    pub fn greet_on_disk(log: &mut dyn Answers, streams: &mut Streams) -> Result<Client, Failure> {
+        let mut reply = vec![0; REPLY];
+        let served = log.serve(Session::Fresh, &HELLO, &mut reply, streams)?;
+        served.outcome.map_err(Failure::refused)?;
+        Ok(Client {
+            session: served.session,
+            reply,
+        })
     }
 
-    /// A block's bytes, or the refusal's number.
+    /// Has a block of at most 65,529 bytes on disk. Gives its score, or the refusal.
+    pub fn store(
+        &mut self,
+        log: &mut dyn Answers,
+        kind: u8,
+        data: &[u8],
+        streams: &mut Streams,
+    ) -> Result<Result<Score, Refusal>, Failure> {
+        let message = write_message(kind, data);
+        let served = log.serve(self.session, &message, &mut self.reply, streams)?;
+        Ok(served.outcome.map(|()| score_in(&self.reply)))
+    }
+
+    /// Stores a block of at most 65,529 bytes in memory. Gives its score.
+    #[cfg(test)]
+    pub fn write(&mut self, log: &mut [u8], kind: u8, data: &[u8]) -> Result<Score, Refusal> {
+        self.ask(log, &write_message(kind, data))?;
+        Ok(score_in(&self.reply))
+    }
+
+    /// A block's bytes.
     pub fn read(
         &mut self,
         log: &mut [u8],
         kind: u8,
         score: &Score,
         count: u16,
-    ) -> Result<&[u8], u8> {
+    ) -> Result<&[u8], Refusal> {
         let body = [&score[..], &[kind, 0], &count.to_be_bytes()].concat();
         self.ask(log, &message(READ, &body))
     }
 
-    /// Asks, and gives the reply's body or the refusal's number.
-    fn ask(&mut self, log: &mut [u8], message: &[u8]) -> Result<&[u8], u8> {
-        let (number, session) = serve(self.session, message, log, &mut self.reply);
-        self.session = session;
-        if number != 0 {
-            return Err(number);
-        }
+    /// Asks, and gives the reply's body.
+    fn ask(&mut self, log: &mut [u8], message: &[u8]) -> Result<&[u8], Refusal> {
+        let served = serve(self.session, message, log, &mut self.reply);
+        self.session = served.session;
+        served.outcome?;
         Ok(&whole_reply(&self.reply)[4..])
     }
 }
@@ -67,6 +106,25 @@ impl Client {
 pub fn whole_reply(buffer: &[u8]) -> &[u8] {
     let size = usize::from(u16::from_be_bytes([buffer[0], buffer[1]]));
     &buffer[..2 + size]
+}
+
+/// The type and score of the block that an accepted request wrote, if it was a write.
+pub fn stored(message: &[u8], reply: &[u8]) -> Option<(u8, Score)> {
+    match message {
+        [_, _, WRITE, _, kind, ..] => Some((*kind, score_in(reply))),
+        _ => None,
+    }
+}
+
+/// The score that the reply to a write gives.
+fn score_in(reply: &[u8]) -> Score {
+    let mut score = [0; 20];
+    score.copy_from_slice(&reply[4..24]);
+    score
+}
+
+fn write_message(kind: u8, data: &[u8]) -> Vec<u8> {
+    message(WRITE, &[&[kind, 0, 0, 0], data].concat())
 }
 
 fn message(kind: u8, body: &[u8]) -> Vec<u8> {

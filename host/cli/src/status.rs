@@ -4,13 +4,13 @@ use std::ffi::OsStr;
 use std::io;
 use std::path::Path;
 
+use boundary::Refusal;
+
 use crate::words;
 
 pub const DONE: u8 = 0;
 /// What the demonstration ends with where a claim of its does not hold.
 pub const CLAIM_FAILED: u8 = 1;
-pub const NOT_HELD: u8 = 11;
-pub const NOT_KNOWN: u8 = 12;
 pub const VERDICT_NOT_KNOWN: u8 = 32;
 pub const USAGE: u8 = 64;
 pub const UNFIT: u8 = 65;
@@ -18,24 +18,37 @@ pub const MISSING: u8 = 66;
 pub const EXISTS: u8 = 73;
 pub const INPUT_OUTPUT: u8 = 74;
 pub const BUSY: u8 = 75;
+pub const PROTOCOL: u8 = 76;
 
 /// All statuses, as the help prints them.
-pub const TABLE: [(&str, &str); 9] = [
+pub const TABLE: [(&str, &str); 12] = [
     ("0", "done"),
     (
         "1 to 23",
         "refused; the status is the refusal's number (11 not held, 12 not known)",
     ),
-    ("32", "report: the verdict is notknown"),
+    (
+        "32",
+        "report, list: part of the log is doubtful, the verdict is notknown",
+    ),
     ("64", "the words given make no command"),
     (
         "65",
         "the log does not fit its mark, the mark is damaged, or the log has a second name",
     ),
     ("66", "no such file, or the log has no mark (see --adopt)"),
+    ("69", "./skywimple: the program could not be built"),
     ("73", "init or --svg would overwrite a file"),
     ("74", "reading or writing failed"),
     ("75", "another writer holds the log"),
+    (
+        "76",
+        "serve --handshake: the client's opening line is late, too long or no such line",
+    ),
+    (
+        "128 + n",
+        "init: interrupted by signal n (130: Ctrl-C); nothing is left",
+    ),
 ];
 
 /// Why a command ends, and with which status. Without words it ends silently.
@@ -58,14 +71,14 @@ impl Failure {
     }
 
     /// A refusal, by its number and in words.
-    pub fn refused(number: u8) -> Failure {
-        Failure::new(number, words::refusal(number))
+    pub fn refused(refusal: Refusal) -> Failure {
+        Failure::new(refusal.number(), words::refusal(refusal))
     }
 
     /// A refusal of something that has a name.
-    pub fn refused_about(number: u8, subject: &OsStr) -> Failure {
-        let words = format!("{}: {}", subject.display(), words::refusal(number));
-        Failure::new(number, words)
+    pub fn refused_about(refusal: Refusal, subject: &OsStr) -> Failure {
+        let words = format!("{}: {}", subject.display(), words::refusal(refusal));
+        Failure::new(refusal.number(), words)
     }
 
     /// A file that cannot be opened: perhaps there is none.

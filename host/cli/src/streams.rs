@@ -2,6 +2,7 @@
 
 use std::io::{Read, Write};
 
+use crate::escape;
 use crate::status::Failure;
 
 pub struct Streams<'a> {
@@ -10,6 +11,8 @@ pub struct Streams<'a> {
     pub err: &'a mut dyn Write,
     pub out_terminal: bool,
     pub err_terminal: bool,
+    /// Whether a line of progress stands on the terminal, to be taken away before anything is told.
+    pub progress: bool,
 }
 
 impl Streams<'_> {
@@ -19,14 +22,31 @@ impl Streams<'_> {
         written.map_err(Failure::output)
     }
 
-    /// Tells something on standard error. Where nobody can be told, the work goes on.
+    /// Tells something on standard error, in one line whatever names are in it. Where nobody can be
+    /// told, the work goes on.
     pub fn tell(&mut self, words: &str) {
-        self.tell_plain(&format!("skywimple: {words}\n"));
+        self.tell_plain(&format!("skywimple: {}\n", escape::visible(words)));
     }
 
     /// The same, without the name in front.
     pub fn tell_plain(&mut self, text: &str) {
+        self.clear_progress();
         let _ = self.err.write_all(text.as_bytes());
         let _ = self.err.flush();
+    }
+
+    /// Shows how far the work has come, in place of what was shown before.
+    pub fn show_progress(&mut self, line: &str) {
+        let _ = write!(self.err, "\r\x1b[K{line}");
+        let _ = self.err.flush();
+        self.progress = true;
+    }
+
+    pub fn clear_progress(&mut self) {
+        if self.progress {
+            let _ = write!(self.err, "\r\x1b[K");
+            let _ = self.err.flush();
+            self.progress = false;
+        }
     }
 }

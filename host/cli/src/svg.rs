@@ -7,18 +7,24 @@ use crate::map::{Cell, Map, Scaled};
 /// The side of a cell, with its gap.
 const STEP: usize = 12;
 const MARGIN: usize = 12;
+const HEADING: usize = 24;
 const LEGEND: usize = 28;
+/// A digit before a row.
+const DIGIT: usize = 7;
 /// Room for the legend's text.
 const LEAST_WIDTH: usize = 560;
 
 /// The picture of a log of this name.
-pub fn draw(map: &Map, width: usize, name: &str) -> String {
+pub fn draw(map: &Map, width: usize, name: &str, verdict: &str) -> String {
     let Scaled { cells, group } = map.scaled(width);
     let columns = cells.len().min(width).max(1);
     let rows = cells.len().div_ceil(columns);
-    let wide = (columns * STEP + 2 * MARGIN).max(LEAST_WIDTH);
-    let high = rows * STEP + 2 * MARGIN + LEGEND;
-    let title = format!("The log {}: {}", escaped(name), map.legend(group));
+    let left = MARGIN + (map.label() + 1) * DIGIT;
+    let top = MARGIN + HEADING;
+    let wide = (left + columns * STEP + MARGIN).max(LEAST_WIDTH);
+    let high = top + rows * STEP + LEGEND + MARGIN;
+    let heading = format!("{}: {verdict}", escaped(name));
+    let title = format!("The log {heading}. {}", map.legend(group));
 
     let mut text = format!(
         "<svg xmlns=\"http://www.w3.org/2000/svg\" width=\"{wide}\" height=\"{high}\" \
@@ -26,12 +32,26 @@ pub fn draw(map: &Map, width: usize, name: &str) -> String {
          <title>{title}</title>\n\
          <rect width=\"{wide}\" height=\"{high}\" fill=\"#ffffff\"/>\n"
     );
-    for (at, cell) in cells.iter().enumerate() {
-        let (x, y) = (at % columns * STEP + MARGIN, at / columns * STEP + MARGIN);
-        shape(&mut text, *cell, x, y);
+    write(&mut text, MARGIN, MARGIN + 12, 15, &heading);
+    for (row, cells) in cells.chunks(columns).enumerate() {
+        let y = top + row * STEP;
+        let first = (row * columns * group).to_string();
+        let x = left - (first.len() + 1) * DIGIT;
+        write(&mut text, x, y + 9, 11, &first);
+        for (at, cell) in cells.iter().enumerate() {
+            shape(&mut text, *cell, left + at * STEP, y);
+        }
     }
     legend(&mut text, map, group, high - MARGIN);
     text + "</svg>\n"
+}
+
+/// Writes words, their left end on the line at this place.
+fn write(text: &mut String, x: usize, y: usize, size: usize, words: &str) {
+    let _ = writeln!(
+        text,
+        "<text x=\"{x}\" y=\"{y}\" font-family=\"sans-serif\" font-size=\"{size}\">{words}</text>"
+    );
 }
 
 /// Sound is a full square, doubtful a cross in a frame, blank an empty frame.
@@ -59,20 +79,14 @@ fn legend(text: &mut String, map: &Map, group: usize, y: usize) {
         (Cell::Doubtful, "doubtful"),
         (Cell::Blank, "blank"),
     ];
-    let mut write = |x: usize, words: String| {
-        let _ = writeln!(
-            text,
-            "<text x=\"{x}\" y=\"{y}\" font-family=\"sans-serif\" font-size=\"12\">{words}</text>"
-        );
-    };
     for (at, (cell, name)) in kinds.iter().enumerate() {
-        let x = MARGIN + 18 + at * 130;
-        write(x, format!("{name} {}", map.count(*cell)));
+        let x = MARGIN + at * 130;
+        shape(text, *cell, x, y - 9);
+        let words = format!("{name} {}", map.count(*cell));
+        write(text, x + 18, y, 12, &words);
     }
-    write(MARGIN + 18 + 390, format!("sectors a cell: {group}"));
-    for (at, (cell, _)) in kinds.iter().enumerate() {
-        shape(text, *cell, MARGIN + at * 130, y - 9);
-    }
+    let words = format!("sectors a cell: {group}");
+    write(text, MARGIN + 18 + 390, y, 12, &words);
 }
 
 /// Text as it may stand in XML; control characters may not.

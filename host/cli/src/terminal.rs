@@ -6,11 +6,9 @@ use std::process::{Command, Stdio};
 
 const USUAL: usize = 80;
 
-/// What was asked for, else COLUMNS, else what the terminal says, else 80.
-pub fn width(asked: Option<u64>, terminal: bool) -> usize {
-    let asked = asked.map(|width| usize::try_from(width).unwrap_or(usize::MAX));
-    let found = asked.or_else(columns);
-    let found = found.or_else(|| terminal.then(stty).flatten());
+/// COLUMNS, else what the terminal says, else 80.
+pub fn width(terminal: bool) -> usize {
+    let found = columns().or_else(|| terminal.then(stty).flatten());
     found.unwrap_or(USUAL)
 }
 

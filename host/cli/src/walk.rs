@@ -1,16 +1,22 @@
 //! `walk`: visits every block below a root.
 
 use std::io::{self, Write};
+use std::sync::atomic::{AtomicU64, Ordering};
 use std::sync::mpsc::{self, Receiver, RecvTimeoutError};
 use std::thread;
 use std::time::{Duration, Instant};
 
+use boundary::{walk, Refusal};
+
 use crate::arguments::Arguments;
-use crate::log_file;
+use crate::format::{kind_name, Score};
+use crate::hex;
+use crate::reader;
+use crate::session::Client;
 use crate::status::{Failure, DONE};
 use crate::streams::Streams;
+use crate::trail::{self, Stop, Trail};
 use crate::words;
-use skywimple_archive::walk;
 
 /// The most visits a walk may be allowed, and the usual allowance.
 const ALLOWANCE: u64 = 1_000_000;
@@ -18,40 +24,88 @@ const ALLOWANCE: u64 = 1_000_000;
 pub fn run(arguments: &Arguments, streams: &mut Streams) -> Result<u8, Failure> {
     let score = arguments.score(1)?;
     let allowance = arguments.number("--allowance")?.unwrap_or(ALLOWANCE);
-    let log = log_file::read(arguments.path(0), arguments.flag("--adopt"), streams)?;
-    let work = || walk(&log, &score, allowance);
-    let (number, visits) = if streams.err_terminal {
-        with_clock(work)
+    let mut log = reader::read(arguments.path(0), arguments.flag("--adopt"), streams)?;
+    let mut trail = None;
+    let walked = if streams.err_terminal {
+        with_clock(|expected| {
+            trail = trail::follow(&log, &score, allowance);
+            if let Some(time) = trail.as_ref().and_then(|trail| estimate(&mut log, trail)) {
+                expected.store(time.as_secs() + 1, Ordering::Relaxed);
+            }
+            walk(&log, &score, allowance)
+        })
     } else {
-        work()
+        walk(&log, &score, allowance)
     };
-    if number != 0 {
-        streams.answer(format!("visits={visits}\n").as_bytes())?;
-        return Err(Failure::new(number, words::refusal_in_tree(number)));
-    }
-    streams.answer(format!("visits={visits}\ndone\n").as_bytes())?;
-    Ok(DONE)
+    let visits = walked.visits;
+    let Err(refusal) = walked.outcome else {
+        streams.answer(format!("visits={visits}\ndone\n").as_bytes())?;
+        return Ok(DONE);
+    };
+    let trail = trail.or_else(|| trail::follow(&log, &score, allowance));
+    let stop = trail.filter(|trail| trail.walked == walked);
+    refused(refusal, visits, stop.map(|trail| trail.at), streams)
 }
 
-/// Does the work while a second thread shows on the terminal how long it takes.
-fn with_clock<R>(work: impl FnOnce() -> R) -> R {
+/// Names the block that was refused, and where it is.
+fn refused(
+    refusal: Refusal,
+    visits: u64,
+    stop: Option<Stop>,
+    streams: &mut Streams,
+) -> Result<u8, Failure> {
+    let mut answer = format!("visits={visits}\n");
+    let mut at = format!("walking stopped at visit {visits}");
+    if let Some(Stop { kind, score, place }) = &stop {
+        let (kind, score) = (kind_name(*kind), hex::encode(score));
+        answer += &format!("type={kind}\nscore={score}\n");
+        at += &format!(", at the {kind} block {score} ({place})");
+    }
+    streams.answer(answer.as_bytes())?;
+    let block = stop.as_ref().map(|stop| (stop.kind, &stop.score));
+    let words = words::refusal_in_tree(refusal, block);
+    Err(Failure::new(refusal.number(), format!("{at}: {words}")))
+}
+
+/// About how long the walk takes. It is the scans that take the time: each visit looks through all
+/// sectors before its block. So the scan for the block that is farthest is measured.
+fn estimate(log: &mut [u8], trail: &Trail) -> Option<Duration> {
+    let (sector, kind, score): (usize, u8, Score) = trail.farthest?;
+    let mut client = Client::greet(log).ok()?;
+    let mut look_up = || {
+        let start = Instant::now();
+        let found = client.read(log, kind, &score, u16::MAX).is_ok();
+        found.then(|| start.elapsed())
+    };
+    let time = look_up()?.min(look_up()?);
+    Some(time.mul_f64(trail.passed as f64 / sector.max(1) as f64))
+}
+
+/// Does the work while a second thread shows on the terminal how long it takes, and how many
+/// seconds are expected once the work has said so.
+fn with_clock<R>(work: impl FnOnce(&AtomicU64) -> R) -> R {
     let (done, ended) = mpsc::channel();
+    let expected = AtomicU64::new(0);
     thread::scope(|scope| {
         // Where no thread is to be had, the work goes on without a clock.
-        let _ = thread::Builder::new().spawn_scoped(scope, || clock(ended));
-        let result = work();
+        let _ = thread::Builder::new().spawn_scoped(scope, || clock(ended, &expected));
+        let result = work(&expected);
         drop(done);
         result
     })
 }
 
-fn clock(ended: Receiver<()>) {
+fn clock(ended: Receiver<()>, expected: &AtomicU64) {
     let start = Instant::now();
     let mut err = io::stderr();
     let mut shown = false;
     while ended.recv_timeout(Duration::from_millis(200)) == Err(RecvTimeoutError::Timeout) {
         let seconds = start.elapsed().as_secs();
-        shown |= write!(err, "\r\x1b[Kwalking for {seconds} s").is_ok();
+        let of = match expected.load(Ordering::Relaxed) {
+            0 => String::new(),
+            expected => format!(" of about {expected}"),
+        };
+        shown |= write!(err, "\r\x1b[Kwalking for {seconds}{of} s").is_ok();
     }
     if shown {
         let _ = write!(err, "\r\x1b[K");

@@ -1,5 +1,10 @@
 //! The refusals in words: what each is called, when it is given, what to do.
 
+use boundary::Refusal;
+
+use crate::format::{kind_name, limit, Score, MOST_SECTORS, SECTOR};
+use crate::hex;
+
 struct Words {
     name: &'static str,
     when: &'static str,
@@ -24,7 +29,7 @@ const REFUSALS: [Words; 23] = [
     ),
     words(
         "not a log",
-        "a log is whole sectors of 512 bytes, 0 to 131,072 of them",
+        "a log is whole sectors of 512 bytes, 0 to {limit} of them",
         "Give a file that `skywimple init` made, and check the number of its sectors.",
     ),
     words(
@@ -83,7 +88,7 @@ const REFUSALS: [Words; 23] = [
         "log full",
         "too few sectors are left after the used part",
         "Nothing was stored. Lengthen the log with zeros while no writer runs \
-         (`truncate -s +1M LOG`) (at most 131,072 sectors in all), or begin another one with `skywimple init`.",
+         (at most {limit} sectors in all), or begin another one with `skywimple init`.",
     ),
     words(
         "clash",
@@ -135,28 +140,68 @@ const REFUSALS: [Words; 23] = [
 ];
 
 /// A refusal in words, on one line.
-pub fn refusal(number: u8) -> String {
-    told(number, None)
+pub fn refusal(refusal: Refusal) -> String {
+    told(refusal, None)
 }
 
-/// A refusal of a block that a tree leads to: no option changes its type or its count.
-pub fn refusal_in_tree(number: u8) -> String {
-    let advice = match number {
-        11 => Some(
-            "Check the score or entry given; if it is right, a block below it is missing: \
-             store the tree again from its source.",
-        ),
-        13 => Some("The tree was written wrongly; store it again from its source."),
-        _ => None,
+/// A refusal of a block that a tree leads to: no option changes its type or its count. What can be
+/// done depends on which block it is.
+pub fn refusal_in_tree(refusal: Refusal, block: Option<(u8, &Score)>) -> String {
+    let fetch = match block {
+        Some((kind, score)) => {
+            let (kind, score) = (kind_name(kind), hex::encode(score));
+            format!(
+                "Fetch it from a copy of the log and store it again: \
+                 `skywimple get COPY {score} --type {kind} > block && \
+                 skywimple put LOG block --type {kind}`."
+            )
+        }
+        None => "Store the tree again from its source.".to_string(),
     };
-    told(number, advice)
+    let advice = match refusal {
+        Refusal::NotHeld => {
+            format!("If the score or entry given is right, a block below it is missing. {fetch}")
+        }
+        Refusal::NotKnown => {
+            format!("{fetch} `skywimple report LOG --map` shows the damage.")
+        }
+        Refusal::OverCount => {
+            "The tree was written wrongly; store it again from its source.".to_string()
+        }
+        _ => return told(refusal, None),
+    };
+    told(refusal, Some(&advice))
 }
 
-fn told(number: u8, advice: Option<&str>) -> String {
+/// Refusal 14 of a log of so many sectors, with so many used, for a block that needs so many.
+pub fn full(log: &str, sectors: usize, used: usize, needed: usize) -> String {
+    let lack = format!("the block takes {needed}, and {} are left", sectors - used);
+    let advice = if used + needed > MOST_SECTORS {
+        format!(
+            "Nothing was stored. No log has more than {{limit}} sectors, so this one cannot be \
+             lengthened for it ({lack}): begin another one with `skywimple init`."
+        )
+    } else {
+        let more = needed.max(A_MEGABYTE).min(MOST_SECTORS - sectors) * SECTOR;
+        format!(
+            "Nothing was stored ({lack}). Lengthen the log with zeros while no writer runs \
+             (`truncate -s +{more} {log}`; at most {{limit}} sectors in all), or begin another one \
+             with `skywimple init`."
+        )
+    };
+    told(Refusal::NoRoom, Some(&advice))
+}
+
+/// The sectors of a megabyte.
+const A_MEGABYTE: usize = 2048;
+
+fn told(refusal: Refusal, advice: Option<&str>) -> String {
+    let number = refusal.number();
     match REFUSALS.get(usize::from(number).wrapping_sub(1)) {
         Some(w) => {
             let advice = advice.unwrap_or(w.advice);
-            format!("{} ({number}): {}. {advice}", w.name, w.when)
+            let words = format!("{} ({number}): {}. {advice}", w.name, w.when);
+            words.replace("{limit}", &limit())
         }
         None => format!("refused ({number})"),
     }
@@ -164,29 +209,64 @@ fn told(number: u8, advice: Option<&str>) -> String {
 
 #[cfg(test)]
 mod tests {
-    use super::{refusal, refusal_in_tree};
+    use super::*;
 
     #[test]
     fn not_held_and_not_known_differ() {
-        assert!(refusal(11).starts_with("not held (11): "));
-        assert!(refusal(12).starts_with("not known (12): "));
-        assert!(!refusal(12).contains("not held"));
+        assert!(refusal(Refusal::NotHeld).starts_with("not held (11): "));
+        assert!(refusal(Refusal::NotKnown).starts_with("not known (12): "));
+        assert!(!refusal(Refusal::NotKnown).contains("not held"));
     }
 
     #[test]
-    fn any_number_has_words() {
-        for number in 0..=255 {
-            let sign = format!("({number})");
-            assert!(refusal(number).contains(&sign));
-            assert!(refusal_in_tree(number).contains(&sign));
+    fn any_refusal_has_words() {
+        for why in Refusal::ALL {
+            let sign = format!(" ({}): ", why.number());
+            assert!(refusal(why).contains(&sign));
+            assert!(refusal_in_tree(why, None).contains(&sign));
+            assert!(refusal_in_tree(why, Some((13, &[7; 20]))).contains(&sign));
         }
     }
 
     #[test]
     fn no_advice_on_options_that_are_not_there() {
-        for (number, option) in [(11, "--type"), (13, "--count")] {
-            assert!(refusal(number).contains(option));
-            assert!(!refusal_in_tree(number).contains(option));
+        let options = [
+            (Refusal::NotHeld, "--type"),
+            (Refusal::OverCount, "--count"),
+        ];
+        for (why, option) in options {
+            assert!(refusal(why).contains(option));
+            assert!(!refusal_in_tree(why, None).contains(option));
         }
+    }
+
+    #[test]
+    fn a_full_log_near_the_limit() {
+        let words = |sectors, used, needed| full("x.log", sectors, used, needed);
+        assert!(words(10, 9, 2).contains("`truncate -s +1048576 x.log`"));
+        assert!(words(10, 9, 2).contains("takes 2, and 1 are left"));
+        let near = MOST_SECTORS - 3;
+        assert!(words(near, near, 3).contains("`truncate -s +1536 x.log`"));
+        for (sectors, used, needed) in [(near, near, 4), (MOST_SECTORS, MOST_SECTORS, 1)] {
+            let words = words(sectors, used, needed);
+            assert!(!words.contains("truncate"), "{words}");
+            assert!(
+                words.contains(&format!("more than {} sectors", limit())),
+                "{words}"
+            );
+        }
+        let past = refusal(Refusal::LogLength);
+        assert!(
+            past.contains(&format!("0 to {} of them", limit())),
+            "{past}"
+        );
+    }
+
+    #[test]
+    fn a_block_to_fetch() {
+        let words = refusal_in_tree(Refusal::NotKnown, Some((3, &[0x0a; 20])));
+        let score = "0a".repeat(20);
+        assert!(words.contains(&format!("get COPY {score} --type ptr1 > block")));
+        assert!(words.contains("DO NOT READ THIS AS ABSENT"));
     }
 }

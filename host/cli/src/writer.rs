@@ -4,11 +4,18 @@ use std::fs::{File, OpenOptions};
 use std::io::ErrorKind;
 use std::os::unix::fs::{FileExt, MetadataExt};
 use std::path::{Path, PathBuf};
+use std::time::Duration;
 
+use boundary::Session;
+
+use crate::disk;
+use crate::format::{used, BLANK, SECTOR};
+use crate::held;
 use crate::lock;
-use crate::log_file::{fits, is_file, load, used, BLANK, SECTOR};
+use crate::log_file::{fits, is_file, load};
 use crate::mark::{self, Found, Mark};
 use crate::sectors::Loaded;
+use crate::session::{Answers, Served};
 use crate::status::{Failure, INPUT_OUTPUT, UNFIT};
 use crate::streams::Streams;
 
@@ -19,16 +26,28 @@ pub struct Writer {
     mark_path: PathBuf,
     mark: Option<Mark>,
     used: usize,
-    pub bytes: Vec<u8>,
+    bytes: Vec<u8>,
 }
 
 impl Writer {
     /// Opens a log that fits its mark. With `adopt`, a log without a good mark gets one.
     pub fn open(path: &Path, adopt: bool, streams: &mut Streams) -> Result<Writer, Failure> {
+        Writer::open_within(Duration::ZERO, path, adopt, streams)
+    }
+
+    /// The same, where another writer may hold the log for so long.
+    pub fn open_within(
+        wait: Duration,
+        path: &Path,
+        adopt: bool,
+        streams: &mut Streams,
+    ) -> Result<Writer, Failure> {
         is_file(path)?;
-        let file = lock::open(OpenOptions::new().read(true).write(true), path)?;
+        let mut options = OpenOptions::new();
+        let file = lock::open(options.read(true).write(true), path, wait, streams)?;
         one_name(&file, path)?;
         let mark_path = mark::path_of(path);
+        mark::remove_left_over(&mark_path);
         let mark = match Mark::find(&mark_path)? {
             Found::Good(mark) => Some(mark),
             Found::Missing | Found::Damaged if adopt => None,
@@ -51,32 +70,47 @@ impl Writer {
             log.renew_mark()?;
         }
         if mark.is_none() {
-            let (sectors, used) = (log.bytes.len() / SECTOR, log.used);
-            streams.tell(&format!(
-                "adopted {} as it is: {sectors} sectors, {used} of them used. \
-                 Whether its tail was lost before, nobody can tell.",
-                path.display()
-            ));
+            streams.tell(&log.adopted());
         }
         Ok(log)
     }
 
+    /// What is told of a log that had no good mark.
+    fn adopted(&self) -> String {
+        let (sectors, used) = self.sectors();
+        format!(
+            "adopted {} as it is: {sectors} sectors, {used} of them used. \
+             Whether its tail was lost before, nobody can tell.",
+            self.path.display()
+        )
+    }
+
+    pub fn path(&self) -> &Path {
+        &self.path
+    }
+
+    /// How many sectors the log has, and how many of them are used.
+    pub fn sectors(&self) -> (usize, usize) {
+        (self.bytes.len() / SECTOR, self.used)
+    }
+
+    /// The log's bytes, as they were read and written since.
+    pub fn bytes(self) -> Vec<u8> {
+        self.bytes
+    }
+
     /// Has what the last request appended on disk, with the mark. Gives the sectors appended.
-    pub fn keep(&mut self) -> Result<usize, Failure> {
+    fn keep(&mut self) -> Result<usize, Failure> {
         let appended = self.bytes[self.used * SECTOR..].chunks_exact(SECTOR);
         let appended = appended.take_while(|sector| *sector != BLANK).count();
         if appended > 0 {
             let (start, end) = (self.used * SECTOR, (self.used + appended) * SECTOR);
             self.still_blank(start, end)?;
-            let written = self
-                .file
-                .write_all_at(&self.bytes[start..end], start as u64);
+            let written = disk::write(&self.file, &self.bytes[start..end], start as u64);
             written.map_err(|e| Failure::disk("write", &self.path, &e))?;
             self.used += appended;
             self.renew_mark()?;
         }
-        // A reply acknowledges, also where nothing was appended.
-        self.in_place()?;
         Ok(appended)
     }
 
@@ -100,11 +134,10 @@ impl Writer {
             used: self.used,
         };
         if self.mark != Some(now) {
-            self.file
-                .sync_data()
-                .map_err(|e| Failure::disk("sync", &self.path, &e))?;
+            let synced = disk::sync_data(&self.file);
+            synced.map_err(|e| Failure::disk("sync", &self.path, &e))?;
             self.in_place()?;
-            now.write(&self.mark_path)?;
+            now.write(&self.mark_path, &self.file)?;
             self.mark = Some(now);
         }
         Ok(())
@@ -116,6 +149,37 @@ impl Writer {
             return Err(lock::replaced(&self.path));
         }
         lock::in_place(&self.file, &self.path)
+    }
+}
+
+impl Answers for Writer {
+    /// When it has answered, what the request appended is on disk, and so is a block that it took
+    /// for held: where that was damaged on disk meanwhile, it is stored anew.
+    fn serve(
+        &mut self,
+        session: Session,
+        message: &[u8],
+        reply: &mut [u8],
+        streams: &mut Streams,
+    ) -> Result<Served, Failure> {
+        loop {
+            let served = boundary::serve(session, message, &mut self.bytes, reply);
+            let appended = self.keep()?;
+            if served.outcome.is_ok() && appended == 0 {
+                let damaged = held::damaged(&mut self.bytes, &self.file, message, reply);
+                if let Some(damaged) = damaged {
+                    streams.tell(&held::words(&damaged, &self.path));
+                    continue;
+                }
+            }
+            // A reply acknowledges, also where nothing was appended.
+            self.in_place()?;
+            return Ok(Served {
+                outcome: served.outcome,
+                session: served.session,
+                appended,
+            });
+        }
     }
 }
 

@@ -99,8 +99,11 @@ fn init_that_fails_leaves_nothing() {
 fn sectors_of_a_log() {
     let place = Place::new();
     let init = |sectors: &str| place.run(&["init", "log", "--sectors", sectors]);
-    for bad in ["131073", "99999999999999999999999999"] {
-        init(bad).fails(3, "not a log (3)");
+    let past = (MOST_SECTORS + 1).to_string();
+    let mebibytes = (MOST_SECTORS * SECTOR) >> 20;
+    let limit = format!("--sectors is at most {MOST_SECTORS} ({mebibytes} MiB): not a log (3)");
+    for bad in [&past, "99999999999999999999999999"] {
+        init(bad).fails(3, &limit);
     }
     for bad in ["", "-1", "x", "1e3"] {
         init(bad).fails(64, "--sectors takes a decimal number");
@@ -120,32 +123,50 @@ fn sectors_of_a_log() {
 /// As many sectors as a log may have, and the last of them used.
 #[test]
 fn the_longest_log() {
-    let place = Place::with_log(131_072);
+    let place = Place::with_log(MOST_SECTORS);
     let first = place.put(b"first");
     place.reads(&first, b"first");
-    place.damage(|log| log[131_070 * SECTOR] = 1);
+    place.damage(|log| log[(MOST_SECTORS - 2) * SECTOR] = 1);
     let last = place.put(b"last");
     place.reads(&last, b"last");
     place.reads(&first, b"first");
     place.not_known(&score(b"never stored"));
     let full = place.feed(&["put", "log"], b"no room");
-    full.fails(14, "log full (14)");
-    assert_eq!(place.file("log.mark"), mark(131_072, 131_072).as_bytes());
+    let full = full.fails(14, "log full (14)");
+    assert!(
+        full.err.contains("this one cannot be lengthened"),
+        "{full:?}"
+    );
+    assert!(full.err.contains("begin another one"), "{full:?}");
+    assert!(!full.err.contains("truncate"), "{full:?}");
+    let marked = mark(MOST_SECTORS, MOST_SECTORS);
+    assert_eq!(place.file("log.mark"), marked.as_bytes());
     let report = place.run(&["report", "log"]).with(32).text();
-    assert!(report.starts_with("sectors=131072\nused=131072\nrecords=2\n"));
+    let numbers = format!("sectors={MOST_SECTORS}\nused={MOST_SECTORS}\nrecords=2\n");
+    assert!(report.starts_with(&numbers), "{report}");
 }
 
 #[test]
 fn a_full_log_may_be_lengthened() {
     let place = Place::with_log(1);
     place.put(b"first");
-    place
-        .feed(&["put", "log"], b"second")
-        .fails(14, "truncate -s +1M LOG`) (at most 131,072 sectors in all)");
-    place.damage(|log| log.resize(2 * SECTOR, 0));
+    let full = place.feed(&["put", "log"], b"second");
+    let full = full.fails(14, "sectors in all");
+    let numbers = full.err.replace(',', "");
+    let limit = format!("at most {MOST_SECTORS} sectors in all");
+    assert!(numbers.contains(&limit), "{numbers}");
+    // The command that it gives is run as it stands.
+    let command = full
+        .err
+        .split('`')
+        .find(|part| part.starts_with("truncate "));
+    let command = command.expect("a command").to_string();
+    let mut shell = std::process::Command::new("sh");
+    let run = shell.args(["-c", &command]).current_dir(&place.folder);
+    assert!(run.status().unwrap().success(), "{command}");
     let second = place.put(b"second");
     place.reads(&second, b"second");
-    assert_eq!(place.file("log.mark"), mark(2, 2).as_bytes());
+    assert_eq!(place.file("log.mark"), mark(1 + 2048, 2).as_bytes());
 }
 
 #[test]

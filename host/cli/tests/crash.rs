@@ -4,6 +4,7 @@ mod common;
 
 use std::io::Write;
 use std::ops::Range;
+use std::process::Command;
 use std::thread;
 use std::time::Duration;
 
@@ -118,8 +119,46 @@ fn a_piece_of_a_new_mark() {
     place.reads(&score(&blocks[1]), &blocks[1]);
     place.put(b"next");
     assert_eq!(place.file("log.mark"), common::mark(16, 8).as_bytes());
-    let files = ["log", "log.mark", "log.mark.7-7.new"];
-    assert!(only(&place.folder, &files), "no other piece is left");
+    assert!(
+        only(&place.folder, &["log", "log.mark"]),
+        "no piece is left"
+    );
+}
+
+/// The next writer removes the pieces that dead ones left, and no other file.
+#[test]
+fn pieces_of_dead_writers() {
+    let place = Place::with_log(8);
+    let pieces = [
+        "log.mark.1-2.new",
+        "log.mark.4194304-1700000000123456789.new",
+    ];
+    let others = [
+        "log",
+        "log.mark",
+        "log.mark.1-2.new.old",
+        "log.mark.new",
+        "log.mark.one-two.new",
+        "other.mark.1-2.new",
+    ];
+    for name in pieces.iter().chain(&others[2..]) {
+        place.write(name, "sectors=0000");
+    }
+    let server = place.greeted(&[]);
+    assert!(only(&place.folder, &others));
+    for name in pieces {
+        place.write(name, "this may be the writer's own");
+    }
+    place
+        .feed(&["put", "log"], b"card")
+        .fails(75, "another writer");
+    place.not_held(&score(b"card"));
+    for name in pieces {
+        assert!(place.path(name).exists(), "only who holds the lock removes");
+    }
+    server.end();
+    place.put(b"card");
+    assert!(only(&place.folder, &others));
 }
 
 /// Kills a server that is busy with writes, again and again on one log. Every block that was
@@ -141,6 +180,7 @@ fn killed_while_appending() {
         check(&place, &known, &blocks[answered..]);
     }
     assert!(cut_short > 0, "no kill came in time");
+    assert!(only(&place.folder, &["log", "log.mark"]));
 }
 
 /// Sends all writes, waits for so many replies, kills the server, and counts the replies it gave.
@@ -215,10 +255,51 @@ fn killed_in_init() {
             assert!(place.file("log") == vec![0; LONG * SECTOR]);
             assert_eq!(place.file("log.mark"), mark(LONG, 0).as_bytes());
         } else {
-            answer.fails(66, "log");
+            let log = place.path("log").exists();
+            let words = if log {
+                "log has no mark"
+            } else {
+                "no such log: log"
+            };
+            answer.fails(66, words);
         }
     }
     assert!(kills > 0, "no kill came in time");
+}
+
+/// Ctrl-C leaves a whole log with its mark, or nothing.
+#[test]
+fn interrupted_in_init() {
+    let sectors = "131072"; // long enough to be in time
+    let mut interrupted = 0;
+    for delay in (0..60).step_by(3) {
+        let place = Place::new();
+        let init = ["init", "log", "--sectors", sectors];
+        let child = place.command(&init).spawn().unwrap();
+        thread::sleep(Duration::from_millis(delay));
+        let signal = ["-INT", &child.id().to_string()];
+        Command::new("kill").args(signal).status().unwrap();
+        let output = child.wait_with_output().unwrap();
+        match output.status.code() {
+            Some(0) => assert!(only(&place.folder, &["log", "log.mark"])),
+            Some(130) => {
+                let told = String::from_utf8(output.stderr).unwrap();
+                assert!(
+                    told.contains("interrupted; nothing is left half made"),
+                    "{told}"
+                );
+                assert!(only(&place.folder, &[]));
+                interrupted += 1;
+            }
+            // The signal came before anything was begun.
+            None => assert!(only(&place.folder, &[])),
+            other => panic!("{other:?}"),
+        }
+        if interrupted == 3 {
+            return;
+        }
+    }
+    assert!(interrupted > 0, "no signal came in time");
 }
 
 /// What was lost is "not known" or the log is not served, and `doubt` can be run again.
@@ -230,8 +311,14 @@ fn killed_in_doubt() {
     for delay in 0..12 {
         place.write("log", b"");
         kills += usize::from(killed(&place, &["doubt", "log"], delay));
-        let status = place.get(&lost).status;
-        assert!([12, 65].contains(&status), "{status}");
+        match place.get(&lost).status {
+            12 => place.not_known(&lost),
+            _ => drop(
+                place
+                    .get(&lost)
+                    .fails(65, "the last 3 used sectors are lost"),
+            ),
+        }
         place.run(&["doubt", "log"]).with(0);
         place.not_known(&lost);
         assert_eq!(place.file("log").len(), LONG * SECTOR);

@@ -22,7 +22,7 @@ fn it_shows_what_it_says() {
         "not held (11)",
         "not known (12)",
         "antigen Vel: not tested",
-        "\n  #?#.....\n",
+        "cards.log: notknown\n  0 #?#.....\n",
         "$ skywimple put cards.log ben.card",
         "antigen Vel: present",
         "claims above were checked",
@@ -43,4 +43,7 @@ fn without_a_temporary_folder() {
     let mut command = place.command(&["demo"]);
     let output = command.env("TMPDIR", place.path("none")).output().unwrap();
     assert_eq!(output.status.code(), Some(74));
+    let told = String::from_utf8(output.stderr).unwrap();
+    assert!(told.contains("cannot make the folder"), "{told}");
+    assert!(output.stdout.is_empty());
 }

@@ -37,19 +37,20 @@ fn a_map_of_any_width() {
         let words = [&["report", "log", "--map"], words].concat();
         place.run(&words).with(32).text() + "\n"
     };
-    assert_eq!(map(&[]), format!("{DAMAGED}##???#....\n{LEGEND}"));
-    let four = format!("{DAMAGED}##??\n?#..\n..\n{LEGEND}");
+    let whole = format!("{DAMAGED}log: notknown\n 0 ##???#....\n{LEGEND}");
+    assert_eq!(map(&[]), whole);
+    let four = format!("{DAMAGED}log: notknown\n 0 ##??\n 4 ?#..\n 8 ..\n{LEGEND}");
     assert_eq!(map(&["--width", "4"]), four);
     assert_eq!(map(&["--width=4"]), four);
     let columns = place
         .command(&["report", "log", "--map"])
-        .env("COLUMNS", "4")
+        .env("COLUMNS", "7")
         .output()
         .unwrap();
     assert_eq!(columns.stdout, four.as_bytes());
     let one = map(&["--width", "1"]);
-    assert_eq!(one.lines().count(), 5 + 10 + 1);
-    map(&["--width", "99999999999999999999999"]);
+    assert_eq!(one.lines().count(), 5 + 1 + 10 + 1);
+    assert_eq!(map(&["--width", "99999999999999999999999"]), whole);
     let zero = ["report", "log", "--map", "--width", "0"];
     place.run(&zero).fails(64, "--width is at least 1");
 }
@@ -65,10 +66,15 @@ fn a_map_of_a_larger_log() {
     place.damage(|log| log[500 * SECTOR] ^= 1);
     let answer = place.run(&["report", "log", "--map", "--width", "10"]);
     let text = answer.with(32).text();
-    let rows: Vec<_> = text.lines().skip(5).collect();
+    let rows: Vec<_> = text.lines().skip(6).collect();
     let group = 1000_usize.div_ceil(160);
     assert_eq!(rows.len(), 1000_usize.div_ceil(group).div_ceil(10) + 1);
-    let cells = rows[..rows.len() - 1].concat();
+    let mut cells = String::new();
+    for (at, row) in rows[..rows.len() - 1].iter().enumerate() {
+        let (number, signs) = row.split_at(5);
+        assert_eq!(number, format!("{:>4} ", at * 10 * group));
+        cells += signs;
+    }
     let sign = |cell: usize| match cell * group..(cell + 1) * group {
         // The damaged block takes the sectors 500 to 599.
         sectors if sectors.start < 600 && sectors.end > 500 => '?',
@@ -89,16 +95,43 @@ fn a_picture() {
     let picture = String::from_utf8(place.file("map.svg")).unwrap();
     assert!(picture.starts_with("<svg xmlns=\"http://www.w3.org/2000/svg\""));
     assert!(picture.ends_with("</svg>\n"));
-    assert!(picture.contains("<title>The log log: # sound 3, ? doubtful 3, . blank 4;"));
+    let title = "<title>The log log: notknown. # sound 3, ? doubtful 3, . blank 4;";
+    assert!(picture.contains(title), "{picture}");
     // A square for each cell and each line of the legend, and the ground.
     assert_eq!(picture.matches("<rect").count(), 10 + 3 + 1);
     assert_eq!(picture.matches("<path").count(), 3 + 1, "crosses");
-    for words in ["sound 3", "doubtful 3", "blank 4"] {
+    for words in ["sound 3", "doubtful 3", "blank 4", "log: notknown", "0"] {
         assert!(picture.contains(&format!(">{words}</text>")), "{words}");
+    }
+    let rows = ["report", "log", "--svg", "rows.svg", "--width", "4"];
+    place.run(&rows).with(32);
+    let rows = String::from_utf8(place.file("rows.svg")).unwrap();
+    for number in ["0", "4", "8"] {
+        assert!(rows.contains(&format!(">{number}</text>")), "{number}");
     }
     draw("map.svg").with(32);
     assert_eq!(place.file("map.svg"), picture.as_bytes(), "overwritten");
-    assert_eq!(draw("no/such/folder.svg").status, 74);
+    let nowhere = draw("no/such/folder.svg").with(74);
+    assert!(
+        nowhere.err.contains("cannot write no/such/folder.svg"),
+        "{nowhere:?}"
+    );
+}
+
+/// With a dash the picture, and nothing else, goes to standard output.
+#[test]
+fn a_picture_on_standard_output() {
+    let place = damaged();
+    let draw = |more: &[&str]| place.run(&[&["report", "log", "--svg", "-"], more].concat());
+    let answer = draw(&[]).with(32);
+    assert!(answer.out.starts_with(b"<svg "), "{answer:?}");
+    assert!(answer.out.ends_with(b"</svg>\n"));
+    place.run(&["report", "log", "--svg", "map.svg"]).with(32);
+    assert_eq!(answer.out, place.file("map.svg"));
+    for more in ["--map", "--json"] {
+        draw(&[more]).fails(64, "--svg - has standard output for the picture alone");
+    }
+    assert!(only(&place.folder, &["log", "log.mark", "map.svg"]));
 }
 
 /// A picture in the place of the log or of its mark would be the very loss.
@@ -145,6 +178,92 @@ fn maps_of_no_sectors() {
     let place = Place::with_log(0);
     let words = ["report", "log", "--map", "--svg", "map.svg"];
     let text = place.run(&words).with(0).text();
-    assert!(text.ends_with("\n# sound 0, ? doubtful 0, . blank 0; 1 sector a cell"));
+    assert!(text.ends_with("\nlog: sound\n# sound 0, ? doubtful 0, . blank 0; 1 sector a cell"));
     assert!(place.file("map.svg").ends_with(b"</svg>\n"));
+}
+
+/// The lines of `list` for the log above: text, then JSON.
+#[test]
+fn a_list() {
+    let place = damaged();
+    let scores = [0, 2].map(|seed| score(&block(seed, [500, 1000, 50][seed])));
+    let answer = place.run(&["list", "log"]).with(32);
+    let lines = [
+        format!("       0  data        500  {}\n", scores[0]),
+        "       2  doubtful      3  sectors\n".to_string(),
+        format!("       5  data         50  {}\n", scores[1]),
+    ];
+    assert_eq!(answer.text() + "\n", lines.concat());
+    assert_eq!(answer.err, "");
+    let answer = place.run(&["list", "log", "--json"]).with(32);
+    let lines = [
+        format!(
+            r#"{{"sector":0,"type":"data","size":500,"score":"{}"}}"#,
+            scores[0]
+        ),
+        r#"{"sector":2,"count":3}"#.to_string(),
+        format!(
+            r#"{{"sector":5,"type":"data","size":50,"score":"{}"}}"#,
+            scores[1]
+        ),
+    ];
+    assert_eq!(answer.text(), lines.join("\n"));
+}
+
+/// Every type by its name; runs of doubtful sectors at the front, side by side and at the end.
+#[test]
+fn a_list_of_all_kinds() {
+    let place = Place::with_log(40);
+    assert_eq!(place.run(&["list", "log"]).with(0).out, b"");
+    let kinds = ["root", "dir", "ptr1", "ptr7", "data"];
+    for kind in kinds {
+        place.put_as(kind, b"typed");
+    }
+    let text = place.run(&["list", "log"]).with(0).text();
+    let typed: Vec<_> = text
+        .lines()
+        .map(|line| line.split_whitespace().nth(1).unwrap())
+        .collect();
+    assert_eq!(typed, kinds);
+    place.put(&block(1, 900));
+    place.damage(|log| {
+        for sector in [0, 2, 3, 6] {
+            log[sector * SECTOR + 1] ^= 1;
+        }
+        log[10 * SECTOR] = 7; // blank ones before it are doubtful too
+    });
+    let text = place.run(&["list", "log", "--json"]).with(32).text();
+    let runs: Vec<_> = text.lines().filter(|line| line.contains("count")).collect();
+    let expected = [(0, 1), (2, 2), (5, 6)];
+    let expected = expected.map(|(at, count)| format!(r#"{{"sector":{at},"count":{count}}}"#));
+    assert_eq!(runs, expected);
+    let report = place.run(&["report", "log"]).with(32).text();
+    assert!(report.contains("records=2\ndoubtful=9\n"), "{report}");
+}
+
+#[test]
+fn a_report_as_json() {
+    let json = |place: &Place| place.run(&["report", "log", "--json"]);
+    let sound = json(&Place::with_log(2)).with(0);
+    let expected = r#"{"sectors":2,"used":0,"records":0,"doubtful":0,"verdict":"sound"}"#;
+    assert_eq!(sound.text(), expected);
+    let place = damaged();
+    let expected = r#"{"sectors":10,"used":6,"records":2,"doubtful":3,"verdict":"notknown"}"#;
+    assert_eq!(json(&place).with(32).text(), expected);
+    place
+        .run(&["report", "log", "--json", "--map"])
+        .fails(64, "give --json or --map");
+}
+
+/// A name cannot write over the map.
+#[test]
+fn a_map_of_an_odd_name() {
+    let place = Place::new();
+    let name = "a\x1b[2J\nb\u{202e}";
+    place.run(&["init", name, "--sectors", "2"]).with(0);
+    let text = place.run(&["report", name, "--map"]).with(0).text();
+    assert!(
+        text.contains("\na\\u{1b}[2J\\nb\\u{202e}: sound\n0 ..\n"),
+        "{text}"
+    );
 }

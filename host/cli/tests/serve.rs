@@ -81,7 +81,8 @@ fn input_that_ends_inside_a_message() {
         assert!(answer.err.contains("ended inside a message"), "{answer:?}");
     }
     place.not_held(&score(b"torn off"));
-    place.feed(&["serve", "log"], b"").with(0);
+    let nothing = place.feed(&["serve", "log"], b"").with(0);
+    assert_eq!((nothing.out, nothing.err), (Vec::new(), String::new()));
 }
 
 #[test]
@@ -165,4 +166,90 @@ fn a_reply_is_one_write() {
         assert!(next() == Some(reply));
     }
     assert_eq!(next(), None);
+}
+
+type Damage = fn(&mut [u8]);
+
+/// A log of 12 sectors with blocks in 0 and 1, 2 to 4 and 5, and a server that has read it.
+fn running() -> (Place, Server, [Vec<u8>; 3]) {
+    let place = Place::with_log(12);
+    let blocks = [block(1, 500), block(2, 1000), block(3, 10)];
+    place.put(&blocks[0]);
+    let mut server = place.serve();
+    assert_eq!(server.ask(&HELLO), HELLO_REPLY);
+    for block in &blocks[1..] {
+        assert_eq!(server.ask(&write_message(1, block)), write_reply(1, block));
+    }
+    (place, server, blocks)
+}
+
+/// Damage that falls on the disk while `serve` runs: a write that is acknowledged heals it there.
+#[test]
+fn a_write_heals_what_was_damaged_meanwhile() {
+    let kinds: [(&str, Damage); 3] = [
+        ("a flipped bit", |sector| sector[300] ^= 0x10),
+        ("a zeroed sector", |sector| sector.fill(0)),
+        ("a sector written over", |sector| sector.fill(0xa5)),
+    ];
+    for (name, damage) in kinds {
+        for (which, sector, end) in [(0, 1, 8), (1, 2, 9), (1, 4, 9), (2, 5, 7)] {
+            let (place, mut server, blocks) = running();
+            let lost = &blocks[which];
+            place.damage(|log| damage(&mut log[sector * SECTOR..][..SECTOR]));
+            let before = place.get(&score(lost)).status;
+            // The last used sector zeroed is a lost tail, which the mark tells.
+            let zeroed_tail = sector == 5 && name == "a zeroed sector";
+            assert_eq!(before, if zeroed_tail { 65 } else { 12 }, "{name}");
+            for tag in [7, 8] {
+                assert_eq!(
+                    server.ask(&write_message(tag, lost)),
+                    write_reply(tag, lost)
+                );
+            }
+            let (status, told) = server.end();
+            assert_eq!(status, 0, "{told}");
+            assert!(told.contains("damaged on disk"), "{told}");
+            for block in &blocks {
+                place.reads(&score(block), block);
+            }
+            place.not_known(&score(b"never stored"));
+            assert_eq!(place.file("log.mark"), mark(12, end).as_bytes(), "{name}");
+        }
+    }
+}
+
+/// Where there is no room to heal it the write is refused, and not acknowledged.
+#[test]
+fn what_was_damaged_meanwhile_and_has_no_room() {
+    let (place, mut server, blocks) = running();
+    let rest = block(9, 6 * 403);
+    assert_eq!(server.ask(&write_message(1, &rest)), write_reply(1, &rest));
+    place.damage(|log| log[SECTOR] ^= 1);
+    assert_eq!(
+        server.ask(&write_message(2, &blocks[0])),
+        error_reply(2, 14)
+    );
+    assert_eq!(server.ask(&read_message(3, &blocks[0])), error_reply(3, 12));
+    server.end();
+    place.not_known(&score(&blocks[0]));
+}
+
+/// A duplicate that is sound on disk is not written again; one in a log that was cut is not answered.
+#[test]
+fn duplicates_on_disk() {
+    let (place, mut server, blocks) = running();
+    let before = place.file("log");
+    for block in &blocks {
+        assert_eq!(server.ask(&write_message(1, block)), write_reply(1, block));
+    }
+    assert_eq!(place.file("log"), before);
+    place.damage(|log| log.truncate(5 * SECTOR + 100));
+    server.send(&write_message(2, &blocks[2]));
+    assert_eq!(server.reply(), None);
+    let (status, told) = server.end();
+    assert_eq!(status, 74, "{told}");
+    assert!(
+        told.contains("log was changed by another program"),
+        "{told}"
+    );
 }

@@ -2,7 +2,9 @@
 
 mod common;
 
-use std::fs;
+use std::fs::{self, Permissions};
+use std::os::unix::fs::{chown, MetadataExt, PermissionsExt};
+use std::os::unix::process::CommandExt;
 
 use common::*;
 
@@ -20,10 +22,12 @@ fn refused(place: &Place, status: i32, words: &str) {
     let before = fs::read(place.path("log")).ok();
     let any = score(b"any");
     let entry = "00".repeat(40);
-    let commands: [&[&str]; 6] = [
+    let commands: [&[&str]; 8] = [
         &["get", "log", &any],
         &["put", "log"],
         &["serve", "log"],
+        &["serve", "log", "--read-only"],
+        &["list", "log"],
         &["report", "log", "--map"],
         &["read", "log", &entry],
         &["walk", "log", &any],
@@ -194,7 +198,7 @@ fn the_sector_of_doubt() {
 
 #[test]
 fn a_log_without_a_mark() {
-    for command in ["put", "serve", "report", "get", "walk", "read"] {
+    for command in ["put", "serve", "report", "list", "get", "walk", "read"] {
         let (place, blocks, scores) = filled();
         fs::remove_file(place.path("log.mark")).unwrap();
         refused(&place, 66, "log has no mark");
@@ -214,6 +218,71 @@ fn a_log_without_a_mark() {
     }
 }
 
+/// Owner, group and mode of a file.
+fn access(place: &Place, name: &str) -> (u32, u32, u32) {
+    let found = fs::metadata(place.path(name)).unwrap();
+    (found.uid(), found.gid(), found.mode() & 0o777)
+}
+
+/// A new mark is as the one before it, whoever writes it; the first is as its log.
+#[test]
+fn the_mark_keeps_its_mode() {
+    let place = Place::with_log(16);
+    for (seed, mode) in [0o600, 0o640, 0o664, 0o666, 0o444].into_iter().enumerate() {
+        let mode_of = Permissions::from_mode(mode);
+        fs::set_permissions(place.path("log.mark"), mode_of).unwrap();
+        place.put(&block(seed, 9));
+        assert_eq!(access(&place, "log.mark").2, mode, "{mode:o}");
+    }
+    fs::set_permissions(place.path("log"), Permissions::from_mode(0o606)).unwrap();
+    fs::remove_file(place.path("log.mark")).unwrap();
+    place.run(&["report", "log", "--adopt"]).with(0);
+    assert_eq!(access(&place, "log.mark").2, 0o606);
+}
+
+#[test]
+fn the_mark_keeps_its_owner() {
+    if !superuser() {
+        return skipped("a mark keeps its owner: only the superuser can give files away");
+    }
+    let place = Place::with_log(16);
+    let owners = [("log.mark", 4711, 4712), ("log", 4713, 4714)];
+    for (name, user, group) in owners {
+        chown(place.path(name), Some(user), Some(group)).unwrap();
+    }
+    fs::set_permissions(place.path("log.mark"), Permissions::from_mode(0o640)).unwrap();
+    place.put(b"card");
+    assert_eq!(access(&place, "log.mark"), (4711, 4712, 0o640));
+    fs::remove_file(place.path("log.mark")).unwrap();
+    place.run(&["report", "log", "--adopt"]).with(0);
+    let (user, group, _) = access(&place, "log.mark");
+    assert_eq!((user, group), (4713, 4714), "the log's");
+}
+
+/// Who cannot give the mark its owner back keeps its group and mode, where the group is his.
+#[test]
+fn the_mark_of_another_owner() {
+    if !superuser() {
+        return skipped("the mark of another owner: only the superuser can give files away");
+    }
+    let mut place = Place::with_log(16);
+    place.plain_user();
+    for (name, mode) in [(".", 0o777), ("log", 0o666), ("log.mark", 0o664)] {
+        chown(place.path(name), Some(4711), Some(4712)).unwrap();
+        fs::set_permissions(place.path(name), Permissions::from_mode(mode)).unwrap();
+    }
+    let put = |group: u32, file: &str| {
+        place.write(file, file);
+        let output = place.command(&["put", "log", file]).gid(group).output();
+        let output = output.unwrap();
+        assert!(output.status.success(), "{output:?}");
+        access(&place, "log.mark")
+    };
+    assert_eq!(put(4712, "one"), (OTHER_USER, 4712, 0o664));
+    let other = (OTHER_USER, 4799, 0o604);
+    assert_eq!(put(4799, "two"), other, "no other group gets its rights");
+}
+
 #[test]
 fn a_damaged_mark() {
     let good = mark(10, 6);
@@ -224,7 +293,7 @@ fn a_damaged_mark() {
         good[..good.len() - 1].to_string(),
         String::new(),
         mark(10, 11),
-        mark(131_073, 6),
+        mark(MOST_SECTORS + 1, 6),
         good.to_uppercase(),
     ];
     for text in bad {
@@ -258,15 +327,31 @@ fn files_that_are_no_logs() {
     place.write("odd", [0; 700]);
     get("odd").fails(3, "odd: not a log (3)");
     let long = fs::File::create(place.path("long")).unwrap();
-    long.set_len(131_073 * SECTOR as u64).unwrap();
+    long.set_len(((MOST_SECTORS + 1) * SECTOR) as u64).unwrap();
     get("long").fails(3, "long: not a log (3)");
     assert!(only(&place.folder, &["long", "odd"]));
+}
+
+/// A mark is no log, and its log is named.
+#[test]
+fn a_mark_given_as_a_log() {
+    let (place, _, scores) = filled();
+    fs::copy(place.path("log.mark"), place.path("copy")).unwrap();
+    let told = "log.mark is the mark of a log, not a log: give the log itself, log.";
+    let get = |name: &str, more: &str| place.run(&["get", name, &scores[0], more]);
+    get("log.mark", "--adopt").fails(66, told);
+    get("log.mark", "--type=data").fails(66, told);
+    get("copy", "--adopt").fails(66, "copy is the mark of a log, not a log");
+    for command in ["put", "serve", "doubt", "report", "list"] {
+        place.run(&[command, "log.mark"]).fails(66, told);
+    }
+    assert!(only(&place.folder, &["copy", "log", "log.mark"]));
 }
 
 /// Beside a good mark the refusal says how to cut a file back, and that is right.
 #[test]
 fn a_log_with_bytes_too_many() {
-    for length in [10 * SECTOR + 1, 131_073 * SECTOR] {
+    for length in [10 * SECTOR + 1, (MOST_SECTORS + 1) * SECTOR] {
         let (place, blocks, scores) = filled();
         let log = fs::OpenOptions::new().write(true).open(place.path("log"));
         let log = log.unwrap();

@@ -59,10 +59,34 @@ fn a_file_with_a_lost_leaf() {
     place.damage(|log| log[3 * SECTOR + 100] ^= 1); // in the second leaf, sectors 2 and 3
     let answer = place.run(&["read", "log", &entry]).with(12);
     assert_eq!(answer.out, bytes[..500]);
-    let told = "reading stopped at offset 500: not known (12)";
-    assert!(answer.err.contains(told), "{answer:?}");
+    let lost = score(&block(2, 500));
+    for told in [
+        format!("reading stopped at offset 500, at the data block {lost}: not known (12)"),
+        format!("skywimple get COPY {lost} --type data"),
+    ] {
+        assert!(answer.err.contains(&told), "{told}: {answer:?}");
+    }
     place.put(&block(2, 500));
     assert_eq!(place.run(&["read", "log", &entry]).with(0).out, bytes);
+}
+
+/// The pointer block that is lost is named, of whatever level.
+#[test]
+fn a_file_with_a_lost_pointer_block() {
+    let names = ["data", "data", "data", "ptr1", "ptr1", "ptr2"];
+    // Where the blocks of the file start, and the offset that each is needed for first.
+    let places = [(0, 0), (2, 500), (4, 1500), (5, 0), (6, 1000), (7, 0)];
+    for (kind, (sector, offset)) in names.iter().zip(places) {
+        let place = Place::with_log(40);
+        let (entry, _) = file(&place);
+        let log = place.file("log");
+        let label = String::from_utf8_lossy(&log[sector * SECTOR..][..96]).into_owned();
+        let lost = label.lines().last().unwrap().replace("score=", "");
+        place.damage(|log| log[sector * SECTOR + 90] ^= 1);
+        let answer = place.run(&["read", "log", &hex(&entry)]).with(12);
+        let told = format!("reading stopped at offset {offset}, at the {kind} block {lost}: ");
+        assert!(answer.err.contains(&told), "{told}: {answer:?}");
+    }
 }
 
 #[test]
@@ -79,12 +103,15 @@ fn entries_that_cannot_be_read() {
         place.run(&["read", "log", "entry"]).fails(16, told);
     }
     let odd = place.put_as("ptr1", &[7; 39]);
-    read(&entry(1, 1, 500, 700, &odd)).fails(18, "(18)");
-    let never = read(&entry(1, 0, 500, 500, &score(b"never stored")));
-    let never = never.fails(11, "offset 0: not held (11)");
-    assert!(!never.err.contains("--type"), "{never:?}");
+    let told = format!("at the ptr1 block {odd}: ill-formed pointer block (18)");
+    read(&entry(1, 1, 500, 700, &odd)).fails(18, &told);
+    let never = score(b"never stored");
+    let told = format!("offset 0, at the data block {never}: not held (11)");
+    read(&entry(1, 0, 500, 500, &never)).fails(11, &told);
     let long = place.put(&block(9, 501));
-    read(&entry(1, 0, 500, 500, &long)).fails(13, "(13)");
+    let told = format!("at the data block {long}: block longer than asked for (13)");
+    let answer = read(&entry(1, 0, 500, 500, &long)).fails(13, &told);
+    assert!(!answer.err.contains("--count"), "{answer:?}");
     assert!(read(&entry(1, 0, 500, 0, &long)).with(0).out.is_empty());
 }
 
@@ -117,11 +144,13 @@ fn a_walk() {
     let walk = |words: &[&str]| place.run(&[&["walk", "log", &root], words].concat());
     // The root, its directory, 3 pointer blocks, 4 leaves (one the zero score), the directory below.
     let all = "visits=10\ndone";
-    assert_eq!(walk(&[]).with(0).text(), all);
+    let answer = walk(&[]).with(0);
+    assert_eq!((answer.text().as_str(), answer.err.as_str()), (all, ""));
     assert_eq!(walk(&["--allowance", "10"]).with(0).text(), all);
     for allowance in 0..10 {
         let answer = walk(&["--allowance", &allowance.to_string()]).with(21);
-        assert_eq!(answer.text(), format!("visits={allowance}"));
+        let visits = format!("visits={allowance}\ntype=");
+        assert!(answer.text().starts_with(&visits), "{answer:?}");
         assert!(answer.err.contains("allowance used up (21)"), "{answer:?}");
     }
     for large in ["1000001", "99999999999999999999999"] {
@@ -136,14 +165,59 @@ fn a_walk_that_is_refused() {
     let place = Place::with_log(40);
     let root = root(&place);
     let walk = |score: &str| place.run(&["walk", "log", score]);
-    let answer = walk(&score(b"never stored")).with(11);
-    assert_eq!(answer.text(), "visits=1");
-    assert!(answer.err.contains("not held (11)"), "{answer:?}");
-    assert!(!answer.err.contains("--type"), "{answer:?}");
+    let refused = |root: &str, visits, number, kind: &str, score: &str, place: &str| {
+        let answer = walk(root).with(number);
+        let lines = format!("visits={visits}\ntype={kind}\nscore={score}");
+        assert_eq!(answer.text(), lines);
+        let told =
+            format!("walking stopped at visit {visits}, at the {kind} block {score} ({place}): ");
+        assert!(answer.err.contains(&told), "{told}: {answer:?}");
+        answer.err
+    };
+    let never = score(b"never stored");
+    let told = refused(&never, 1, 11, "root", &never, "the root");
+    assert!(told.contains("not held (11)"), "{told}");
+    let lost = score(&block(1, 500));
     place.damage(|log| log[100] ^= 1); // in the first leaf
-    let answer = walk(&root).with(12);
-    assert_eq!(answer.text(), "visits=5");
-    assert!(answer.err.contains("not known (12)"), "{answer:?}");
+    let told = refused(&root, 5, 12, "data", &lost, "entry 0, byte 0");
+    assert!(told.contains("not known (12)"), "{told}");
+    let fetch = format!("skywimple get COPY {lost} --type data > block");
+    assert!(told.contains(&fetch), "{told}");
     place.put(&block(1, 500));
     assert_eq!(walk(&root).with(0).text(), "visits=10\ndone");
+
+    let lost = score(&block(3, 100));
+    place.damage(|log| log[4 * SECTOR + 100] ^= 1); // in the last
+    refused(&root, 9, 12, "data", &lost, "entry 0, byte 1500");
+    place.put(&block(3, 100));
+    let below = score(&[0; 40]);
+    place.damage(|log| log[8 * SECTOR + 100] ^= 1); // in the directory below
+    refused(&root, 10, 12, "dir", &below, "entry 2, byte 0");
+}
+
+/// Long work at a terminal shows how far it has come, and about how long it takes.
+#[test]
+fn progress() {
+    let place = Place::with_log(41_000);
+    place.damage(|log| log[40_000 * SECTOR] = 1); // what is stored next is far away
+    let leaf = place.put(&block(1, 300));
+    let pointers = place.put_as("ptr1", &unhex(&leaf).repeat(1500));
+    let mut far = entry(1, 1, 300, 1500 * 300, &pointers);
+    far[4..6].copy_from_slice(&30_000_u16.to_be_bytes());
+    let top = place.put_as("dir", &far);
+    let mut root = vec![0; 300];
+    root[1] = 2;
+    root[258..278].copy_from_slice(&unhex(&top));
+    let root = place.put_as("root", &root);
+    let show = |words: &[&str]| terminal::at_terminal(place.command(words));
+    let (status, shown) = show(&["walk", "log", &root]);
+    assert_eq!(status, 0, "{shown}");
+    for words in ["\r\x1b[Kwalking for ", " of about "] {
+        assert!(shown.contains(words), "{shown}");
+    }
+    assert!(shown.ends_with("\r\x1b[K"), "{shown}");
+    let (status, shown) = show(&["read", "log", &hex(&far)]);
+    assert_eq!(status, 0, "{shown}");
+    assert!(shown.contains(" of 450000 bytes read"), "{shown}");
+    assert!(shown.ends_with("\r\x1b[K"), "{shown}");
 }

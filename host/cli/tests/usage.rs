@@ -5,13 +5,13 @@ mod common;
 use std::ffi::{OsStr, OsString};
 use std::fs::{self, OpenOptions};
 use std::os::unix::ffi::OsStrExt;
-use std::os::unix::fs::{MetadataExt, PermissionsExt};
-use std::process::Stdio;
+use std::os::unix::fs::PermissionsExt;
+use std::process::{Command, Stdio};
 
 use common::*;
 
-const COMMANDS: [&str; 9] = [
-    "init", "put", "get", "serve", "doubt", "report", "read", "walk", "demo",
+const COMMANDS: [&str; 10] = [
+    "init", "put", "get", "serve", "doubt", "report", "list", "read", "walk", "demo",
 ];
 
 #[test]
@@ -20,7 +20,14 @@ fn help_and_version() {
     let overview = place.run(&["--help"]).with(0);
     assert_eq!(place.run(&["help"]).with(0).out, overview.out);
     let overview = overview.text();
-    for (status, words) in [("32", "notknown"), ("65", "mark"), ("75", "another writer")] {
+    for (status, words) in [
+        ("32", "notknown"),
+        ("65", "mark"),
+        ("69", "could not be built"),
+        ("75", "another writer"),
+        ("76", "opening line"),
+        ("128 + n", "130: Ctrl-C"),
+    ] {
         let line = overview
             .lines()
             .find(|line| line.trim().starts_with(status));
@@ -47,30 +54,156 @@ fn help_and_version() {
 fn words_that_make_no_command() {
     let place = Place::with_log(2);
     let never = score(b"never");
-    let bad: [&[&str]; 19] = [
-        &[],
-        &[""],
-        &["fetch"],
-        &["--put"],
-        &["help", "fetch"],
-        &["help", "get", "extra"],
-        &["--help", "extra"],
-        &["--version", "extra"],
-        &["init"],
-        &["init", "a", "b", "--sectors", "1"],
-        &["put"],
-        &["get", "log"],
-        &["get", "log", "abc"],
-        &["get", "log", &never, "--type"],
-        &["get", "log", &never, "--counts", "1"],
-        &["get", "log", &never, "more"],
-        &["walk", "log", &never, "--allowance", "many"],
-        &["serve", "log", "--type", "data"],
-        &["demo", "now"],
+    let bad: [(&[&str], &str); 19] = [
+        (&[], "no command given\nskywimple: an archive"),
+        (&[""], "no such command: . `skywimple --help`"),
+        (&["fetch"], "no such command: fetch. `skywimple --help`"),
+        (&["--put"], "no such command: --put. `skywimple --help`"),
+        (&["help", "fetch"], "no such command: fetch."),
+        (&["help", "get", "extra"], "one word too many: extra"),
+        (&["--help", "extra"], "one word too many: extra"),
+        (&["--version", "extra"], "one word too many: extra"),
+        (
+            &["init"],
+            "LOG is missing. Usage: skywimple init LOG --sectors N",
+        ),
+        (
+            &["init", "a", "b", "--sectors", "1"],
+            "one word too many: b. Usage:",
+        ),
+        (&["put"], "LOG is missing. Usage: skywimple put LOG"),
+        (
+            &["get", "log"],
+            "SCORE is missing. Usage: skywimple get LOG SCORE",
+        ),
+        (
+            &["get", "log", "abc"],
+            "a score is 40 hex digits, not abc. Usage:",
+        ),
+        (
+            &["get", "log", &never, "--type"],
+            "--type takes a value. Usage:",
+        ),
+        (
+            &["get", "log", &never, "--counts", "1"],
+            "no such option here: --counts",
+        ),
+        (
+            &["get", "log", &never, "more"],
+            "one word too many: more. Usage:",
+        ),
+        (
+            &["walk", "log", &never, "--allowance", "many"],
+            "a decimal number, not many",
+        ),
+        (
+            &["serve", "log", "--type", "data"],
+            "no such option here: --type",
+        ),
+        (
+            &["demo", "now"],
+            "one word too many: now. Usage: skywimple demo",
+        ),
     ];
-    for words in bad {
-        place.run(words).fails(64, "");
+    for (words, told) in bad {
+        place.run(words).fails(64, told);
     }
+}
+
+/// The words that are missing are named.
+#[test]
+fn missing_words() {
+    let place = Place::with_log(2);
+    let cases: [(&[&str], &str); 8] = [
+        (&["init"], "LOG is missing"),
+        (&["init", "new"], "--sectors is missing"),
+        (&["get"], "LOG and SCORE are missing"),
+        (&["get", "log"], "SCORE is missing"),
+        (&["read", "log"], "ENTRY is missing"),
+        (&["walk", "log"], "SCORE is missing"),
+        (&["serve"], "LOG is missing"),
+        (&["list", "--json"], "LOG is missing"),
+    ];
+    for (words, told) in cases {
+        place.run(words).fails(64, told);
+    }
+}
+
+/// Runs it by a shell that closes streams.
+fn with_closed(place: &Place, words: &str, closed: &str) -> Answer {
+    let mut shell = Command::new("sh");
+    let line = format!("exec \"$0\" {words} {closed}");
+    shell.args(["-c", &line, PROGRAM]);
+    shell.current_dir(&place.folder).stdin(Stdio::null());
+    let output = shell.output().unwrap();
+    Answer {
+        status: output.status.code().unwrap(),
+        out: output.stdout,
+        err: String::from_utf8(output.stderr).unwrap(),
+    }
+}
+
+/// No input and closed input are two things, and so are an answer that nobody reads and one that
+/// nobody can get.
+#[test]
+fn closed_streams() {
+    let place = Place::with_log(8);
+    let card = place.put(b"card");
+    for words in ["put log", "put log -", "serve log", "serve log --handshake"] {
+        let answer = with_closed(&place, words, "<&-").with(74);
+        assert!(
+            answer.err.contains("cannot read standard input"),
+            "{answer:?}"
+        );
+        let answer = with_closed(&place, words, "<&- >&-").with(74);
+        assert!(answer.err.starts_with("skywimple: cannot "), "{answer:?}");
+    }
+    let get = format!("get log {card}");
+    for words in [
+        "put log",
+        &get,
+        "report log",
+        "list log",
+        "--help",
+        "--version",
+    ] {
+        let answer = with_closed(&place, words, ">&-").with(74);
+        let told = "cannot write standard output: Bad file descriptor";
+        assert!(answer.err.contains(told), "{answer:?}");
+    }
+    // Who has nothing to read or to say is not concerned; and /dev/null is no closed stream.
+    with_closed(&place, "init new --sectors 1", "<&- >&- 2>&-").with(0);
+    assert_eq!(with_closed(&place, &get, "<&-").with(0).out, b"card");
+    assert_eq!(
+        with_closed(&place, "put log", "</dev/null").with(0).text(),
+        score(b"")
+    );
+    with_closed(&place, &get, ">/dev/null").with(0);
+    with_closed(&place, &get, "<>/dev/null 1<>/dev/null").with(0);
+}
+
+/// A name cannot move the cursor, nor look like another line.
+#[test]
+fn names_with_control_characters() {
+    let place = Place::new();
+    let name = "odd\x1b[2J\nskywimple: all is well\r\u{202e}";
+    let shown = "odd\\u{1b}[2J\\nskywimple: all is well\\r\\u{202e}";
+    let words: [&[&str]; 4] = [
+        &["get", name, &score(b"")],
+        &["report", name],
+        &[name],
+        &["put", "log", name, name],
+    ];
+    for words in words {
+        let answer = place.run(words);
+        assert!(answer.status >= 64, "{answer:?}");
+        assert_eq!(answer.err.matches('\n').count(), 1, "{answer:?}");
+        let visible = |sign: char| sign == '\n' || !sign.is_control() && sign != '\u{202e}';
+        assert!(answer.err.chars().all(visible), "{answer:?}");
+    }
+    place.run(&["report", name]).fails(66, shown);
+    place.run(&["init", "log", "--sectors", "2"]).with(0);
+    place.run(&["put", "log", name]).fails(66, shown);
 }
 
 /// Odd words in every place of every command.
@@ -90,15 +223,22 @@ fn odd_words_never_bring_it_down() {
         OsStr::from_bytes(b"--\xff"),
         OsStr::from_bytes(b"--type=\xff"),
     ];
-    for command in &COMMANDS[..8] {
+    for command in &COMMANDS[..9] {
         for first in odd.iter().chain([&OsStr::new("log")]) {
             for second in odd {
                 let words = [OsStr::new(command), first, second];
                 let words: Vec<OsString> = words.iter().map(OsString::from).collect();
                 let answer = place.run(&words);
-                assert!(answer.status != 101, "{words:?}");
-                let silent = answer.out.is_empty();
-                assert!(silent || answer.status == 0, "{words:?}: {answer:?}");
+                if answer.status == 0 {
+                    assert_eq!(answer.err, "", "{words:?}");
+                    continue;
+                }
+                let known = [3, 9, 11, 14, 16, 32, 64, 65, 66, 73, 74];
+                assert!(known.contains(&answer.status), "{words:?}: {answer:?}");
+                assert!(answer.out.is_empty(), "{words:?}: {answer:?}");
+                let told = answer.err.starts_with("skywimple: ") && answer.err.ends_with('\n');
+                assert!(told, "{words:?}: {answer:?}");
+                assert_eq!(answer.err.lines().count(), 1, "{words:?}: {answer:?}");
             }
         }
     }
@@ -110,13 +250,11 @@ fn a_reader_that_goes_away() {
     let long = block(1, 57_344);
     let score = place.put(&long);
     for words in [&["get", "log", &score][..], &["--help"], &["demo"]] {
-        let mut child = place.command(words).spawn().unwrap();
-        drop(child.stdout.take());
-        let output = child.wait_with_output().unwrap();
-        let status = output.status.code().unwrap();
-        // What was written before the pipe closed may have been all.
-        assert!(status == 74 || status == 0, "{words:?}: {output:?}");
-        assert!(output.stderr.is_empty(), "{output:?}");
+        let (reader, writer) = std::io::pipe().unwrap();
+        drop(reader);
+        let output = place.command(words).stdout(writer).output().unwrap();
+        assert_eq!(output.status.code(), Some(74), "{words:?}: {output:?}");
+        assert!(output.stderr.is_empty(), "that is no news: {output:?}");
     }
 }
 
@@ -153,13 +291,12 @@ fn output_that_fails() {
     );
 }
 
-/// Files and folders that may not be read or written. The superuser may always.
+/// Files and folders that may not be read or written. The superuser may always, so that one becomes
+/// another.
 #[test]
 fn missing_permissions() {
-    let place = Place::with_log(8);
-    if fs::metadata("/proc/self").unwrap().uid() == 0 {
-        return;
-    }
+    let mut place = Place::with_log(8);
+    place.plain_user();
     let card = place.put(b"card");
     let allow = |name: &str, mode| {
         fs::set_permissions(place.path(name), fs::Permissions::from_mode(mode)).unwrap();
@@ -185,6 +322,13 @@ fn missing_permissions() {
     allow("log", 0o400);
     place.reads(&score(b"other"), b"other");
     assert_eq!(place.file("log.mark"), mark(8, 1).as_bytes());
+    let mut server = place.greeted(&["--read-only"]);
+    assert_eq!(
+        server.ask(&read_message(1, b"other")),
+        message(13, 1, b"other")
+    );
+    assert_eq!(server.ask(&write_message(2, b"new")), error_reply(2, 14));
+    assert_eq!(server.end(), (0, String::new()));
     allow(".", 0o700);
     allow("log", 0o600);
     put().with(0);

@@ -1,15 +1,8 @@
 //! Compares an archive with the second program and with the ledger, on random histories, hostile
 //! logs, trees and calls.
 //!
-//! ```text
-//! fuzz [--seed S] [--cases N] [--seconds T] [--case I] [--only PART]
-//!      [--plain | --sham NAME | --shams]
-//! ```
-//!
-//! A case is a history with damage, and a hostile log, a tree and some calls besides. A case that
-//! fails is printed step by step, with the words that repeat it. `--plain` tries the ordinary log
-//! of the speed comparison instead, `--sham` an archive with a broken rule, and `--shams` shows
-//! that each of those is caught.
+//! `fuzz --help` says what it takes. A case is a history with damage, and a hostile log, a tree and
+//! some calls besides.
 
 mod archive;
 mod calls;
@@ -45,6 +38,23 @@ use progress::Progress;
 use random::Random;
 use shams::{Broken, Sham};
 
+const HELP: &str = "\
+fuzz [--seed S] [--cases N] [--seconds T] [--case I] [--only PART] [--plain | --sham NAME | --shams]
+
+Compares an archive with the second program and with the ledger: random histories with damage,
+hostile logs, trees and calls. A case that fails is printed step by step, with the words that repeat
+it, and the status is 1.
+  --seed S     the random numbers' seed (default 1)
+  --cases N    how many cases (default 20000)
+  --seconds T  no case is begun after so many seconds
+  --case I     this case alone
+  --only PART  this part of each case alone: PARTS
+  --plain      the ordinary log of the speed comparison in place of the proved archive
+  --sham NAME  an archive with a broken rule in its place
+  --shams      shows that each of those is caught
+  --help       prints this
+";
+
 /// A part of a case.
 type Part = fn(&mut dyn Archive, &mut Compare, &mut Random, &mut Trace) -> Result<(), String>;
 
@@ -67,6 +77,7 @@ struct Options {
     plain: bool,
     sham: Option<Broken>,
     shams: bool,
+    help: bool,
 }
 
 fn options() -> Result<Options, String> {
@@ -79,6 +90,7 @@ fn options() -> Result<Options, String> {
         plain: false,
         sham: None,
         shams: false,
+        help: false,
     };
     let mut words = std::env::args().skip(1);
     while let Some(word) = words.next() {
@@ -104,6 +116,7 @@ fn options() -> Result<Options, String> {
                 options.sham = Some(*sham.ok_or(format!("no sham is called {name}"))?);
             }
             "--shams" => options.shams = true,
+            "--help" | "-h" => options.help = true,
             _ => return Err(format!("{word} isn't known")),
         }
     }
@@ -254,10 +267,15 @@ fn main() -> ExitCode {
     let options = match options() {
         Ok(options) => options,
         Err(message) => {
-            eprintln!("fuzz: {message}");
+            eprintln!("fuzz: {message}. `fuzz --help` says what it takes.");
             return ExitCode::from(2);
         }
     };
+    if options.help {
+        let parts = PARTS.map(|part| part.0).join(", ");
+        print!("{}", HELP.replace("PARTS", &parts));
+        return ExitCode::SUCCESS;
+    }
     let good = if options.shams {
         shams(&options)
     } else {
@@ -284,6 +302,7 @@ mod tests {
             plain: false,
             sham: None,
             shams: false,
+            help: false,
         }
     }
 

@@ -1,15 +1,20 @@
-//! The archive under test: the proved library, by the crate `skywimple-archive`.
+//! The archive under test: the proved library, by the crate `boundary`.
 
 use crate::archive::Archive;
+use boundary::{self as proved, Refusal};
 use second::tree::{Place, Run};
 use second::{Score, Session};
-use skywimple_archive as proved;
 
 pub fn archive() -> Box<dyn Archive> {
     Box::new(Proved)
 }
 
 struct Proved;
+
+/// The number of a refusal, 0 for none.
+fn number(outcome: Result<(), Refusal>) -> u8 {
+    outcome.map_or_else(Refusal::number, |()| 0)
+}
 
 impl Archive for Proved {
     fn serve(
@@ -24,29 +29,30 @@ impl Archive for Proved {
             Session::Ready => proved::Session::Greeted,
             Session::Closed => proved::Session::Closed,
         };
-        let (number, after) = proved::serve(before, message, log, reply);
-        let after = match after {
+        let served = proved::serve(before, message, log, reply);
+        let after = match served.session {
             proved::Session::Fresh => Session::Fresh,
             proved::Session::Greeted => Session::Ready,
             proved::Session::Closed => Session::Closed,
         };
-        (number, after)
+        (number(served.outcome), after)
     }
 
     fn report(&mut self, log: &[u8], buffer: &mut [u8]) -> Result<usize, u8> {
-        proved::report(log, buffer)
+        proved::report(log, buffer).map_err(Refusal::number)
     }
 
     fn cut(&mut self, kind: u8, block: &[u8]) -> Result<usize, u8> {
-        proved::cut(kind, block)
+        proved::cut(kind, block).map_err(Refusal::number)
     }
 
     fn pad(&mut self, kind: u8, buffer: &mut [u8], block_len: usize, target: usize) -> u8 {
-        proved::pad(kind, buffer, block_len, target)
+        number(proved::pad(kind, buffer, block_len, target))
     }
 
     fn locate(&mut self, log: &[u8], page: &[u8], entry: &[u8], offset: u64) -> Result<Run, u8> {
-        Ok(match proved::locate(log, page, entry, offset)? {
+        let run = proved::locate(log, page, entry, offset).map_err(Refusal::number)?;
+        Ok(match run {
             proved::Run::Log { at, length } => Run {
                 place: Place::Log,
                 start: at,
@@ -61,15 +67,16 @@ impl Archive for Proved {
     }
 
     fn walk(&mut self, log: &[u8], score: &Score, allowance: u64) -> (u8, u64) {
-        proved::walk(log, score, allowance)
+        let walked = proved::walk(log, score, allowance);
+        (number(walked.outcome), walked.visits)
     }
 
     fn wire_type(&mut self, number: u64) -> Result<u8, u8> {
-        proved::block_type(number)
+        proved::block_type(number).map_err(Refusal::number)
     }
 
     fn sound_at(&mut self, log: &[u8], sector: usize) -> Result<usize, u8> {
-        proved::sound_at(log, sector)
+        proved::sound_at(log, sector).map_err(Refusal::number)
     }
 
     fn sha1(&mut self, bytes: &[u8]) -> Score {

@@ -2,14 +2,24 @@
 
 #![allow(dead_code)] // each test file uses a part of it
 
+pub mod terminal;
+
 use std::ffi::OsStr;
 use std::fs;
 use std::io::{Read, Write};
+use std::os::unix::fs::{chown, MetadataExt};
+use std::os::unix::process::CommandExt;
 use std::path::{Path, PathBuf};
 use std::process::{Child, ChildStdin, ChildStdout, Command, Stdio};
 use std::sync::atomic::{AtomicUsize, Ordering};
 
+pub const PROGRAM: &str = env!("CARGO_BIN_EXE_skywimple");
+/// A user that is nobody here.
+pub const OTHER_USER: u32 = 4700;
+
 pub const SECTOR: usize = 512;
+/// The most sectors a log may have.
+pub const MOST_SECTORS: usize = 131_072;
 
 /// What the program answered.
 #[derive(Debug)]
@@ -47,6 +57,9 @@ impl Answer {
 /// A temporary folder, removed at the end.
 pub struct Place {
     pub folder: PathBuf,
+    /// The user that the program is run by, where it is not the one who runs the tests, and the
+    /// folder that its copy of the program is in.
+    other: Option<(u32, PathBuf)>,
 }
 
 static PLACES: AtomicUsize = AtomicUsize::new(0);
@@ -58,7 +71,28 @@ impl Place {
         let folder = std::env::temp_dir().join(name);
         let _ = fs::remove_dir_all(&folder);
         fs::create_dir(&folder).expect("a temporary folder");
-        Place { folder }
+        Place {
+            folder,
+            other: None,
+        }
+    }
+
+    /// From here on the program is run by someone who may not do everything: where that is not so
+    /// already, by another user, who gets the folder and what is in it.
+    pub fn plain_user(&mut self) {
+        if !superuser() {
+            return;
+        }
+        let program = PathBuf::from(format!("{}-program", self.folder.display()));
+        let _ = fs::remove_dir_all(&program);
+        fs::create_dir(&program).expect("a temporary folder");
+        fs::copy(PROGRAM, program.join("skywimple")).expect("the program");
+        let files = fs::read_dir(&self.folder).expect("a folder");
+        let files = files.map(|file| file.expect("a file").path());
+        for path in files.chain([self.folder.clone()]) {
+            chown(path, Some(OTHER_USER), Some(OTHER_USER)).expect("given away");
+        }
+        self.other = Some((OTHER_USER, program));
     }
 
     /// A folder with a log named `log`.
@@ -83,7 +117,14 @@ impl Place {
 
     /// The program with these words, its working folder here.
     pub fn command<W: AsRef<OsStr>>(&self, words: &[W]) -> Command {
-        let mut command = Command::new(env!("CARGO_BIN_EXE_skywimple"));
+        let mut command = match &self.other {
+            None => Command::new(PROGRAM),
+            Some((user, program)) => {
+                let mut command = Command::new(program.join("skywimple"));
+                command.uid(*user).gid(*user);
+                command
+            }
+        };
         command
             .args(words)
             .current_dir(&self.folder)
@@ -130,7 +171,7 @@ impl Place {
     pub fn put_as(&self, kind: &str, block: &[u8]) -> String {
         let answer = self.feed(&["put", "log", "--type", kind], block).with(0);
         let score = answer.text();
-        assert_eq!(score, hex(&skywimple_archive::sha1(block)));
+        assert_eq!(score, hex(&boundary::sha1(block)));
         score
     }
 
@@ -165,13 +206,28 @@ impl Place {
 
     /// `serve` over `log`, with pipes.
     pub fn serve(&self) -> Server {
-        Server::start(self.command(&["serve", "log"]))
+        self.serve_with(&[])
+    }
+
+    pub fn serve_with(&self, options: &[&str]) -> Server {
+        Server::start(self.command(&[&["serve", "log"], options].concat()))
+    }
+
+    /// The same, greeted.
+    #[track_caller]
+    pub fn greeted(&self, options: &[&str]) -> Server {
+        let mut server = self.serve_with(options);
+        assert_eq!(server.ask(&HELLO), HELLO_REPLY);
+        server
     }
 }
 
 impl Drop for Place {
     fn drop(&mut self) {
         let _ = fs::remove_dir_all(&self.folder);
+        if let Some((_, program)) = &self.other {
+            let _ = fs::remove_dir_all(program);
+        }
     }
 }
 
@@ -236,11 +292,11 @@ pub fn write_message(tag: u8, data: &[u8]) -> Vec<u8> {
 }
 
 pub fn write_reply(tag: u8, data: &[u8]) -> Vec<u8> {
-    message(15, tag, &skywimple_archive::sha1(data))
+    message(15, tag, &boundary::sha1(data))
 }
 
 pub fn read_message(tag: u8, data: &[u8]) -> Vec<u8> {
-    let score = skywimple_archive::sha1(data);
+    let score = boundary::sha1(data);
     message(12, tag, &[&score[..], &[13, 0, 0xff, 0xff]].concat())
 }
 
@@ -259,7 +315,7 @@ pub fn hex(bytes: &[u8]) -> String {
 
 /// The score of these bytes.
 pub fn score(block: &[u8]) -> String {
-    hex(&skywimple_archive::sha1(block))
+    hex(&boundary::sha1(block))
 }
 
 /// Different bytes for each seed.
@@ -276,8 +332,19 @@ pub fn block(seed: usize, length: usize) -> Vec<u8> {
 /// The text of a mark.
 pub fn mark(sectors: usize, used: usize) -> String {
     let lines = format!("sectors={sectors:08x}\nused={used:08x}\n");
-    let crc = skywimple_archive::crc32(lines.as_bytes());
+    let crc = boundary::crc32(lines.as_bytes());
     format!("{lines}crc={crc:08x}\n")
+}
+
+/// Whether the tests are run by the superuser, who may do everything.
+pub fn superuser() -> bool {
+    fs::metadata("/proc/self").expect("a process").uid() == 0
+}
+
+/// Says that a part of a test was not run, also where the test passes.
+pub fn skipped(what: &str) {
+    // Not by a macro: their output is kept from view.
+    let _ = writeln!(std::io::stderr(), "SKIPPED: {what}");
 }
 
 /// Whether a folder has only these files.

@@ -1,6 +1,6 @@
 //! One request.
 
-use crate::boundary;
+use crate::{boundary, Refusal};
 
 /// A session: open with no hello yet, greeted, or closed.
 #[derive(Clone, Copy, Debug, PartialEq, Eq)]
@@ -10,9 +10,17 @@ pub enum Session {
     Closed,
 }
 
-/// Answers one request: the number of the refusal, 0 for none, and the session afterwards.
-/// The reply stands at the front of `reply`, its length in the first two bytes; an appended block in `log`.
-pub fn serve(session: Session, message: &[u8], log: &mut [u8], reply: &mut [u8]) -> (u8, Session) {
+/// What came of a request.
+#[derive(Clone, Copy, Debug, PartialEq, Eq)]
+pub struct Served {
+    pub outcome: Result<(), Refusal>,
+    /// The session afterwards.
+    pub session: Session,
+}
+
+/// Answers one request. The reply stands at the front of `reply`, its length in the first two bytes;
+/// an appended block in `log`.
+pub fn serve(session: Session, message: &[u8], log: &mut [u8], reply: &mut [u8]) -> Served {
     let number = match session {
         Session::Fresh => 0,
         Session::Greeted => 1,
@@ -31,10 +39,12 @@ pub fn serve(session: Session, message: &[u8], log: &mut [u8], reply: &mut [u8])
             reply.len(),
         )
     };
-    let after = match result / 256 {
-        0 => Session::Fresh,
-        1 => Session::Greeted,
-        _ => Session::Closed,
-    };
-    ((result % 256) as u8, after)
+    Served {
+        outcome: Refusal::of((result % 256) as u8),
+        session: match result / 256 {
+            0 => Session::Fresh,
+            1 => Session::Greeted,
+            _ => Session::Closed,
+        },
+    }
 }

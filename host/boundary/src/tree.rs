@@ -1,6 +1,6 @@
 //! Files and directories: reading a file at an offset, and walking from a root.
 
-use crate::{answer, boundary};
+use crate::{answer, boundary, Refusal};
 
 /// Where a run of a file's bytes lies: in the log from a byte on, or at the front of the page of zeros.
 #[derive(Clone, Copy, Debug, PartialEq, Eq)]
@@ -9,8 +9,8 @@ pub enum Run {
     Page { length: usize },
 }
 
-/// Where the bytes of a file at an offset lie, as one run; or the number of the refusal.
-pub fn locate(log: &[u8], page: &[u8], entry: &[u8], offset: u64) -> Result<Run, u8> {
+/// Where the bytes of a file at an offset lie, as one run.
+pub fn locate(log: &[u8], page: &[u8], entry: &[u8], offset: u64) -> Result<Run, Refusal> {
     // SAFETY: the pointers and lengths are those of slices that outlive the call and are only read.
     let result = unsafe {
         boundary::skywimple_locate(
@@ -23,10 +23,7 @@ pub fn locate(log: &[u8], page: &[u8], entry: &[u8], offset: u64) -> Result<Run,
             offset,
         )
     };
-    let number = (result % 256) as u8;
-    if number != 0 {
-        return Err(number);
-    }
+    Refusal::of((result % 256) as u8)?;
     let length = (result / 512 % 65_536) as usize;
     Ok(match result / 256 % 2 {
         0 => Run::Log {
@@ -37,23 +34,39 @@ pub fn locate(log: &[u8], page: &[u8], entry: &[u8], offset: u64) -> Result<Run,
     })
 }
 
-/// The bytes of a file at an offset, as one run out of the log or the page; or the number of the refusal.
-pub fn read<'a>(log: &'a [u8], page: &'a [u8], entry: &[u8], offset: u64) -> Result<&'a [u8], u8> {
+/// The bytes of a file at an offset, as one run out of the log or the page.
+pub fn read<'a>(
+    log: &'a [u8],
+    page: &'a [u8],
+    entry: &[u8],
+    offset: u64,
+) -> Result<&'a [u8], Refusal> {
     Ok(match locate(log, page, entry, offset)? {
         Run::Log { at, length } => &log[at..at + length],
         Run::Page { length } => &page[..length],
     })
 }
 
-/// Walks from a root's score: the number of the refusal, 0 for none, and the visits spent.
-pub fn walk(log: &[u8], score: &[u8; 20], allowance: u64) -> (u8, u64) {
-    // SAFETY: as above; `score` is a reference to 20 bytes.
-    let result = unsafe { boundary::skywimple_walk(log.as_ptr(), log.len(), score, allowance) };
-    ((result % 256) as u8, result / 256)
+/// How a walk ended.
+#[derive(Clone, Copy, Debug, PartialEq, Eq)]
+pub struct Walked {
+    pub outcome: Result<(), Refusal>,
+    /// The visits spent.
+    pub visits: u64,
 }
 
-/// The block type of a number of the enumeration, or the number of the refusal.
-pub fn block_type(number: u64) -> Result<u8, u8> {
+/// Walks from a root's score.
+pub fn walk(log: &[u8], score: &[u8; 20], allowance: u64) -> Walked {
+    // SAFETY: as above; `score` is a reference to 20 bytes.
+    let result = unsafe { boundary::skywimple_walk(log.as_ptr(), log.len(), score, allowance) };
+    Walked {
+        outcome: Refusal::of((result % 256) as u8),
+        visits: result / 256,
+    }
+}
+
+/// The block type of a number of the enumeration.
+pub fn block_type(number: u64) -> Result<u8, Refusal> {
     // SAFETY: it takes a number.
     answer(unsafe { boundary::skywimple_block_type(number) }).map(|kind| kind as u8)
 }

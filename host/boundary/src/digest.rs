@@ -1,6 +1,6 @@
 //! SHA-1 and CRC-32.
 
-use crate::boundary;
+use crate::{boundary, Refusal};
 
 /// The CRC-32 of `s`.
 pub fn crc32(s: &[u8]) -> u32 {
@@ -8,17 +8,17 @@ pub fn crc32(s: &[u8]) -> u32 {
     unsafe { boundary::skywimple_crc32(s.as_ptr(), s.len()) }
 }
 
-/// Writes the SHA-1 of `s` to the first 20 bytes of `out` and answers 0.
-/// Where `out` is shorter, writes nothing and answers 2.
-pub fn sha1_into(s: &[u8], out: &mut [u8]) -> u32 {
+/// Writes the SHA-1 of `s` to the first 20 bytes of `out`. Where `out` is shorter, writes nothing.
+pub fn sha1_into(s: &[u8], out: &mut [u8]) -> Result<(), Refusal> {
     // SAFETY: as above, and `out` is borrowed alone, so it does not overlap `s`.
-    unsafe { boundary::skywimple_sha1(s.as_ptr(), s.len(), out.as_mut_ptr(), out.len()) }
+    let number =
+        unsafe { boundary::skywimple_sha1(s.as_ptr(), s.len(), out.as_mut_ptr(), out.len()) };
+    Refusal::of(number as u8)
 }
 
 /// The SHA-1 of `s`.
 pub fn sha1(s: &[u8]) -> [u8; 20] {
     let mut digest = [0; 20];
-    let number = sha1_into(s, &mut digest);
-    assert_eq!(number, 0, "a digest has 20 bytes");
+    sha1_into(s, &mut digest).expect("a digest has 20 bytes");
     digest
 }

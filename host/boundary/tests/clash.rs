@@ -1,6 +1,6 @@
 //! Refusal 15: two blocks of one SHA-1, by the public collision of 2017 (the first 320 bytes of its two files).
 
-use skywimple_archive::{serve, sha1, Session};
+use boundary::{serve, sha1, Refusal, Session};
 
 /// Hex digits, with blanks between.
 fn bytes(hex: &str) -> Vec<u8> {
@@ -36,13 +36,14 @@ fn a_block_of_the_same_score_with_other_bytes_is_refused() {
     let mut write = |kind: u8, data: &[u8]| {
         let size = (data.len() + 6) as u16;
         let message = [&size.to_be_bytes()[..], &[14, 7, kind, 0, 0, 0], data].concat();
-        let (number, session) = serve(Session::Greeted, &message, &mut log, &mut reply);
-        assert_eq!(session, Session::Greeted);
-        (number, log.clone())
+        let served = serve(Session::Greeted, &message, &mut log, &mut reply);
+        assert_eq!(served.session, Session::Greeted);
+        (served.outcome, log.clone())
     };
-    let (number, stored) = write(13, &first);
-    assert_eq!(number, 0);
-    assert_eq!(write(13, &second), (15, stored.clone()), "nothing changed");
-    assert_eq!(write(13, &first), (0, stored), "a duplicate");
-    assert_eq!(write(2, &second).0, 0, "another type");
+    let (outcome, stored) = write(13, &first);
+    assert_eq!(outcome, Ok(()));
+    let clash = (Err(Refusal::Clash), stored.clone());
+    assert_eq!(write(13, &second), clash, "nothing changed");
+    assert_eq!(write(13, &first), (Ok(()), stored), "a duplicate");
+    assert_eq!(write(2, &second).0, Ok(()), "another type");
 }

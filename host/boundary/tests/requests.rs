@@ -1,7 +1,7 @@
 //! The paper's examples about messages, and each refusal of a request, through the proved call.
 
-use skywimple_archive::Session::{self, Closed, Fresh, Greeted};
-use skywimple_archive::{crc32, serve, sha1};
+use boundary::Session::{self, Closed, Fresh, Greeted};
+use boundary::{crc32, serve, sha1, Refusal};
 
 const REPLY: usize = 57_348;
 
@@ -30,9 +30,9 @@ impl Archive {
     /// The number of the answer. The reply buffer is filled anew before.
     fn ask(&mut self, message: &[u8]) -> u8 {
         self.reply.fill(0xee);
-        let (number, session) = serve(self.session, message, &mut self.log, &mut self.reply);
-        self.session = session;
-        number
+        let served = serve(self.session, message, &mut self.log, &mut self.reply);
+        self.session = served.session;
+        served.outcome.map_or_else(Refusal::number, |()| 0)
     }
 
     /// The reply, by its size; nothing past it was written.

@@ -1,0 +1,149 @@
+//! Why the archive said no.
+
+use std::error::Error;
+use std::fmt;
+
+/// A refusal, by the names that `crates/refusal` has for them. One that is to say more than its number
+/// says it in a field of its own; `number` and `of` are all that knows the numbers.
+#[derive(Clone, Copy, Debug, PartialEq, Eq, Hash)]
+pub enum Refusal {
+    /// Fewer than 4 bytes, or a size that isn't the count of bytes after it.
+    Frame,
+    /// A lent buffer that is too short.
+    Buffer,
+    /// A log that isn't whole sectors, or too long.
+    LogLength,
+    /// The session is closed.
+    Closed,
+    /// A message type that no request has.
+    MessageType,
+    /// An ill-formed body.
+    Body,
+    /// A request before a hello was accepted.
+    NoHello,
+    /// A second hello, or another version.
+    Hello,
+    /// A block type that isn't of the ten.
+    BlockType,
+    /// More data than a block may have.
+    DataLength,
+    /// The block is not held.
+    NotHeld,
+    /// Whether the block is held is not known.
+    NotKnown,
+    /// The block is longer than the count.
+    OverCount,
+    /// Too few sectors are left after the used part.
+    NoRoom,
+    /// A block of that score and type has other bytes.
+    Clash,
+    /// An ill-formed entry or root.
+    Entry,
+    /// An offset at or past the file's size.
+    Offset,
+    /// A pointer block whose length isn't a multiple of 20.
+    Pointers,
+    /// A blank page that is empty or not all zeros.
+    Page,
+    /// Directories nested too deep.
+    Nest,
+    /// The allowance is used up.
+    Spent,
+    /// A pad target out of range, or a pointer length that isn't a multiple of 20.
+    Pad,
+    /// An allowance over the limit.
+    Allowance,
+}
+
+impl Refusal {
+    /// All of them, in the order of their numbers, from 1 on.
+    pub const ALL: [Refusal; 23] = [
+        Refusal::Frame,
+        Refusal::Buffer,
+        Refusal::LogLength,
+        Refusal::Closed,
+        Refusal::MessageType,
+        Refusal::Body,
+        Refusal::NoHello,
+        Refusal::Hello,
+        Refusal::BlockType,
+        Refusal::DataLength,
+        Refusal::NotHeld,
+        Refusal::NotKnown,
+        Refusal::OverCount,
+        Refusal::NoRoom,
+        Refusal::Clash,
+        Refusal::Entry,
+        Refusal::Offset,
+        Refusal::Pointers,
+        Refusal::Page,
+        Refusal::Nest,
+        Refusal::Spent,
+        Refusal::Pad,
+        Refusal::Allowance,
+    ];
+
+    /// Its number.
+    pub fn number(self) -> u8 {
+        match self {
+            Refusal::Frame => 1,
+            Refusal::Buffer => 2,
+            Refusal::LogLength => 3,
+            Refusal::Closed => 4,
+            Refusal::MessageType => 5,
+            Refusal::Body => 6,
+            Refusal::NoHello => 7,
+            Refusal::Hello => 8,
+            Refusal::BlockType => 9,
+            Refusal::DataLength => 10,
+            Refusal::NotHeld => 11,
+            Refusal::NotKnown => 12,
+            Refusal::OverCount => 13,
+            Refusal::NoRoom => 14,
+            Refusal::Clash => 15,
+            Refusal::Entry => 16,
+            Refusal::Offset => 17,
+            Refusal::Pointers => 18,
+            Refusal::Page => 19,
+            Refusal::Nest => 20,
+            Refusal::Spent => 21,
+            Refusal::Pad => 22,
+            Refusal::Allowance => 23,
+        }
+    }
+
+    /// What a number of the library says: done for 0, else a refusal.
+    pub(crate) fn of(number: u8) -> Result<(), Refusal> {
+        match number {
+            0 => Ok(()),
+            _ => match Refusal::ALL.get(usize::from(number) - 1) {
+                Some(refusal) => Err(*refusal),
+                None => panic!("the library says {number}, which is no refusal's number"),
+            },
+        }
+    }
+}
+
+impl fmt::Display for Refusal {
+    fn fmt(&self, f: &mut fmt::Formatter) -> fmt::Result {
+        write!(f, "refused with {}", self.number())
+    }
+}
+
+impl Error for Refusal {}
+
+#[cfg(test)]
+mod tests {
+    use super::Refusal;
+
+    #[test]
+    fn numbers_and_back() {
+        assert_eq!(Refusal::of(0), Ok(()));
+        for number in 1..=23 {
+            assert_eq!(Refusal::of(number).unwrap_err().number(), number);
+        }
+        let named = [Refusal::NotHeld, Refusal::NotKnown, Refusal::Allowance];
+        assert_eq!(named.map(Refusal::number), [11, 12, 23]);
+        assert_eq!(Refusal::Clash.to_string(), "refused with 15");
+    }
+}

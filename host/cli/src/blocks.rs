@@ -1,0 +1,122 @@
+//! The sound blocks of a log, and the doubtful sectors between them.
+
+use std::ops::Range;
+
+use boundary::{sound_at, Refusal};
+
+use crate::format::{self, Score, PAYLOAD, SECTOR};
+
+/// A sound block.
+#[derive(Clone, Copy, Debug, PartialEq, Eq)]
+pub struct Block {
+    pub kind: u8,
+    pub size: usize,
+    pub score: Score,
+}
+
+/// A part of the used part: a sound block, or doubtful sectors as many as follow each other.
+#[derive(Clone, Copy, Debug, PartialEq, Eq)]
+pub struct Piece {
+    /// Its first sector.
+    pub sector: usize,
+    /// How many it has.
+    pub count: usize,
+    /// None where they are doubtful.
+    pub block: Option<Block>,
+}
+
+/// The used part from its front to its end.
+pub fn pieces(log: &[u8]) -> Result<Vec<Piece>, Refusal> {
+    let used = format::used(log);
+    let mut pieces: Vec<Piece> = Vec::new();
+    let mut next = 0;
+    while next < used {
+        let size = sound_at(log, next)?;
+        let label = format::label(&log[next * SECTOR..(next + 1) * SECTOR]);
+        match (size, label, pieces.last_mut()) {
+            (1.., Some((kind, score)), _) => {
+                let block = Some(Block { kind, size, score });
+                let count = format::sectors_of(size);
+                pieces.push(piece(next, count, block));
+                next += count;
+            }
+            (_, _, Some(before)) if before.block.is_none() => {
+                before.count += 1;
+                next += 1;
+            }
+            _ => {
+                pieces.push(piece(next, 1, None));
+                next += 1;
+            }
+        }
+    }
+    Ok(pieces)
+}
+
+fn piece(sector: usize, count: usize, block: Option<Block>) -> Piece {
+    Piece {
+        sector,
+        count,
+        block,
+    }
+}
+
+/// The sectors of the first sound block of a type and score: the one that look-up finds.
+pub fn find(log: &[u8], kind: u8, score: &Score) -> Option<Range<usize>> {
+    let wanted = format::digits(kind, score);
+    let mut sectors = log.chunks_exact(SECTOR).enumerate();
+    sectors.find_map(|(at, sector)| {
+        if format::named(sector) != (wanted.0.as_bytes(), wanted.1.as_bytes()) {
+            return None;
+        }
+        let size = sound_at(log, at).ok().filter(|size| *size > 0)?;
+        Some(at..at + format::sectors_of(size))
+    })
+}
+
+/// The bytes of the sound block of so many bytes that starts at a sector.
+pub fn data(log: &[u8], sector: usize, size: usize) -> Vec<u8> {
+    let sectors = log[sector * SECTOR..].chunks_exact(SECTOR);
+    let payloads = sectors.flat_map(|sector| &sector[format::LABEL..format::LABEL + PAYLOAD]);
+    payloads.take(size).copied().collect()
+}
+
+#[cfg(test)]
+mod tests {
+    use super::*;
+    use crate::session::Client;
+
+    #[test]
+    fn the_first_sound_one() {
+        let mut log = vec![0; 20 * SECTOR];
+        let mut client = Client::greet(&mut log).unwrap();
+        let mut put =
+            |log: &mut Vec<u8>, kind, length| client.write(log, kind, &vec![7; length]).unwrap();
+        let long = put(&mut log, 13, 1000);
+        let short = put(&mut log, 13, 5);
+        assert_eq!(put(&mut log, 2, 1000), long);
+        assert_eq!(find(&log, 13, &long), Some(0..3));
+        assert_eq!(find(&log, 13, &short), Some(3..4));
+        assert_eq!(find(&log, 2, &long), Some(4..7));
+        assert_eq!(find(&log, 1, &long), None);
+        assert_eq!(data(&log, 4, 1000), [7; 1000]);
+        let block = |kind, size, score| Some(Block { kind, size, score });
+        let first = piece(0, 3, block(13, 1000, long));
+        let rest = [
+            piece(3, 1, block(13, 5, short)),
+            piece(4, 3, block(2, 1000, long)),
+        ];
+        assert_eq!(pieces(&log).unwrap(), [&[first][..], &rest].concat());
+        log[2 * SECTOR + 200] ^= 1;
+        assert_eq!(find(&log, 13, &long), None);
+        assert_eq!(put(&mut log, 13, 1000), long);
+        assert_eq!(find(&log, 13, &long), Some(7..10));
+        let again = piece(7, 3, block(13, 1000, long));
+        let doubtful = piece(0, 3, None);
+        assert_eq!(
+            pieces(&log).unwrap(),
+            [&[doubtful][..], &rest, &[again]].concat()
+        );
+        assert_eq!(pieces(&log[..700]), Err(Refusal::LogLength));
+    }
+}

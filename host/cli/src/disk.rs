@@ -1,0 +1,62 @@
+//! What the program does to its files on disk. All of it goes through here, so that tests can have
+//! each step fail, and can take away again what was not synced.
+
+use std::fs::{self, File};
+use std::io;
+use std::os::unix::fs::FileExt;
+use std::path::Path;
+
+#[cfg(test)]
+use crate::faults;
+
+/// A new file. Fails where there is one already.
+pub fn create(path: &Path) -> io::Result<File> {
+    #[cfg(test)]
+    faults::create()?;
+    File::create_new(path)
+}
+
+/// Writes all these bytes at a place of a file.
+pub fn write(file: &File, bytes: &[u8], at: u64) -> io::Result<()> {
+    #[cfg(test)]
+    if let Some(written) = faults::write(file, bytes, at) {
+        return written;
+    }
+    file.write_all_at(bytes, at)
+}
+
+/// Has the bytes of a file on disk.
+pub fn sync_data(file: &File) -> io::Result<()> {
+    #[cfg(test)]
+    if let Some(synced) = faults::sync(file) {
+        return synced;
+    }
+    file.sync_data()
+}
+
+/// Has a file with its length, owner and mode on disk.
+pub fn sync(file: &File) -> io::Result<()> {
+    #[cfg(test)]
+    if let Some(synced) = faults::sync(file) {
+        return synced;
+    }
+    file.sync_all()
+}
+
+/// Gives a file the name of another, which it replaces.
+pub fn rename(from: &Path, to: &Path) -> io::Result<()> {
+    #[cfg(test)]
+    if let Some(renamed) = faults::rename(from, to) {
+        return renamed;
+    }
+    fs::rename(from, to)
+}
+
+/// Has a folder's own entries on disk.
+pub fn sync_folder(folder: &Path) -> io::Result<()> {
+    #[cfg(test)]
+    if let Some(synced) = faults::sync_folder() {
+        return synced;
+    }
+    File::open(folder)?.sync_all()
+}

@@ -1,0 +1,67 @@
+//! The layout of a log: its sizes, its used part, and what a sector's label says.
+
+use crate::hex;
+
+/// Bytes in a sector, in its label and in its payload.
+pub const SECTOR: usize = 512;
+pub const LABEL: usize = 96;
+pub const PAYLOAD: usize = 403;
+/// The most sectors a log may have.
+pub const MOST_SECTORS: usize = 131_072;
+/// The most bytes a block may have.
+pub const MOST_DATA: usize = 57_344;
+
+pub const BLANK: [u8; SECTOR] = [0; SECTOR];
+
+pub type Score = [u8; 20];
+
+/// That limit as one reads it, with a comma after each thousand.
+pub fn limit() -> String {
+    let digits = MOST_SECTORS.to_string();
+    let groups: Vec<_> = digits.as_bytes().rchunks(3).rev().collect();
+    String::from_utf8_lossy(&groups.join(&b',')).into_owned()
+}
+
+/// The sectors of the used part.
+pub fn used(log: &[u8]) -> usize {
+    let last = log.chunks_exact(SECTOR).rposition(|sector| sector != BLANK);
+    last.map_or(0, |last| last + 1)
+}
+
+/// The sectors that a block of so many bytes takes.
+pub fn sectors_of(size: usize) -> usize {
+    size.div_ceil(PAYLOAD)
+}
+
+/// A block type as `--type` takes it.
+pub fn kind_name(kind: u8) -> String {
+    match kind {
+        1 => "root".to_string(),
+        2 => "dir".to_string(),
+        3..=9 => format!("ptr{}", kind - 2),
+        13 => "data".to_string(),
+        other => other.to_string(),
+    }
+}
+
+/// Test 3, of a length in bytes.
+pub fn allowed(length: u64) -> bool {
+    length.is_multiple_of(SECTOR as u64) && length / SECTOR as u64 <= MOST_SECTORS as u64
+}
+
+/// What the label of a block's sector says of the block: its type's digits and its score's.
+pub fn named(sector: &[u8]) -> (&[u8], &[u8]) {
+    (&sector[36..38], &sector[55..95])
+}
+
+/// The type and score that the label of a sound block says.
+pub fn label(sector: &[u8]) -> Option<(u8, Score)> {
+    let (kind, score) = named(sector);
+    let kind: [u8; 1] = hex::decode(str::from_utf8(kind).ok()?)?;
+    Some((kind[0], hex::decode(str::from_utf8(score).ok()?)?))
+}
+
+/// The digits that a label has for a type and a score.
+pub fn digits(kind: u8, score: &Score) -> (String, String) {
+    (hex::encode(&[kind]), hex::encode(score))
+}

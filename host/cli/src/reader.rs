@@ -1,0 +1,122 @@
+//! Logs that are read: once, or by a server that only reads, as many as like and beside a writer.
+
+use std::fs::File;
+use std::path::{Path, PathBuf};
+
+use boundary::Session;
+
+use crate::format::{used, SECTOR};
+use crate::held;
+use crate::lock;
+use crate::log_file::{fits, is_file, load};
+use crate::mark::Mark;
+use crate::sectors::{self, Loaded};
+use crate::session::{Answers, Served};
+use crate::status::Failure;
+use crate::streams::Streams;
+use crate::writer::Writer;
+
+/// Reads a log that fits its mark. With `adopt`, a log without a good mark gets one first.
+pub fn read(path: &Path, adopt: bool, streams: &mut Streams) -> Result<Vec<u8>, Failure> {
+    if adopt {
+        return Ok(Writer::open(path, true, streams)?.bytes());
+    }
+    is_file(path)?;
+    // The mark first: then an append that goes on meanwhile never looks like a loss.
+    let mark = Mark::require(path)?;
+    let file = File::open(path).map_err(|e| Failure::open(path, &e))?;
+    let Loaded { bytes, unreadable } = load(&file, path, Some(mark), streams)?;
+    fits(path, mark, &bytes)?;
+    if unreadable == 0 && used(&bytes) > mark.used {
+        // A crash came before the mark: without it, a block that is read now could later be lost
+        // unseen. Where this reader can't write, or a writer is at work, it goes on.
+        if let Ok(log) = Writer::open(path, false, streams) {
+            return Ok(log.bytes());
+        }
+    }
+    Ok(bytes)
+}
+
+/// A log of which nothing is ever written, nor its mark. It is lent without room behind its used
+/// part, so the proved call itself refuses a new block, with 14.
+pub struct Reader {
+    file: File,
+    path: PathBuf,
+    mark: Mark,
+    bytes: Vec<u8>,
+}
+
+impl Reader {
+    pub fn open(path: &Path, streams: &mut Streams) -> Result<Reader, Failure> {
+        is_file(path)?;
+        // The mark first: then an append that goes on meanwhile never looks like a loss.
+        let mark = Mark::require(path)?;
+        let file = File::open(path).map_err(|e| Failure::open(path, &e))?;
+        let Loaded { mut bytes, .. } = load(&file, path, Some(mark), streams)?;
+        fits(path, mark, &bytes)?;
+        bytes.truncate(used(&bytes) * SECTOR);
+        Ok(Reader {
+            file,
+            path: path.to_path_buf(),
+            mark,
+            bytes,
+        })
+    }
+
+    /// Takes what was marked as stored since: what a writer has acknowledged is never "not held".
+    fn follow(&mut self, streams: &mut Streams) -> Result<(), Failure> {
+        let mark = Mark::require(&self.path)?;
+        let same = lock::is_at(&self.file, &self.path);
+        if same && mark == self.mark {
+            return Ok(());
+        }
+        if !(same && self.extend(mark)) {
+            *self = Reader::open(&self.path, streams)?;
+        }
+        Ok(())
+    }
+
+    /// Reads the sectors between the two marks. Whether they are all there and the rest stands.
+    fn extend(&mut self, mark: Mark) -> bool {
+        if mark.used < self.mark.used || mark.sectors < self.mark.sectors {
+            return false;
+        }
+        let (start, end) = (self.mark.used * SECTOR, mark.used * SECTOR);
+        let Loaded { bytes, unreadable } =
+            sectors::load_from(&self.file, start as u64, end - start);
+        if bytes.len() < end - start || unreadable > 0 {
+            return false;
+        }
+        self.bytes.resize(self.bytes.len().max(end), 0);
+        self.bytes[start..end].copy_from_slice(&bytes);
+        self.mark = mark;
+        used(&self.bytes) * SECTOR == self.bytes.len()
+    }
+}
+
+impl Answers for Reader {
+    fn serve(
+        &mut self,
+        session: Session,
+        message: &[u8],
+        reply: &mut [u8],
+        streams: &mut Streams,
+    ) -> Result<Served, Failure> {
+        self.follow(streams)?;
+        loop {
+            let served = boundary::serve(session, message, &mut self.bytes, reply);
+            if served.outcome.is_ok() {
+                let damaged = held::damaged(&mut self.bytes, &self.file, message, reply);
+                if let Some(damaged) = damaged {
+                    streams.tell(&held::words(&damaged, &self.path));
+                    continue;
+                }
+            }
+            return Ok(Served {
+                outcome: served.outcome,
+                session: served.session,
+                appended: 0,
+            });
+        }
+    }
+}
