@@ -107,17 +107,17 @@ pub fn run() {
     }
 }
 
-fn write_message(data: &[u8]) -> Vec<u8> {
+pub fn write_message(data: &[u8]) -> Vec<u8> {
     let size = (data.len() + 6) as u16;
     [&size.to_be_bytes()[..], &[14, 1, DATA, 0, 0, 0], data].concat()
 }
 
-fn read_message(score: &[u8; 20]) -> Vec<u8> {
+pub fn read_message(score: &[u8; 20]) -> Vec<u8> {
     let count = (BLOCK as u16).to_be_bytes();
     [&[0, 26, 12, 1][..], score, &[DATA, 0], &count].concat()
 }
 
-fn time(work: impl FnOnce()) -> f64 {
+pub fn time(work: impl FnOnce()) -> f64 {
     let start = Instant::now();
     work();
     start.elapsed().as_secs_f64()

@@ -1,6 +1,7 @@
 //! The speed of the proved functions beside ordinary Rust: same machine, same input, both built for
 //! release. Prints a table, and stops before it where two results differ.
 
+mod blank;
 mod log;
 
 use plain::random::Random;
@@ -44,6 +45,7 @@ fn measure() {
     compare("sha1", boundary::sha1, plain::sha1::sha1);
     compare("crc32", boundary::crc32, plain::crc32::crc32);
     log::run();
+    blank::run(&[4_096, 131_072]);
 }
 
 /// Compares the results on random inputs, then the speed.

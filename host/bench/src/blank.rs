@@ -1,0 +1,61 @@
+//! What a request costs in a log that is mostly blank: 100 blocks at its front, nothing after them.
+
+use plain::random::Random;
+use skywimple_archive::{serve, Session};
+
+use crate::log::{read_message, time, write_message};
+
+const BLOCK: usize = 8192;
+const BLOCKS: usize = 100;
+const ROUNDS: usize = 5;
+
+/// Prints a line for each of these lengths, in sectors.
+pub fn run(lengths: &[usize]) {
+    println!("\nmilliseconds a request, {BLOCKS} blocks of {BLOCK} bytes at the front of a log that is blank from there on");
+    println!(
+        "{:>9} {:>9} {:>9} {:>9} {:>9} {:>9}",
+        "sectors", "ping", "read", "absent", "write", "again"
+    );
+    for &sectors in lengths {
+        let mut random = Random::new(3);
+        // written once: pages that were only read would all be one page of zeros
+        let mut log = vec![1; sectors * 512];
+        log.fill(0);
+        let mut reply = vec![0; 57_348];
+        let mut ask = |message: &[u8], number: u8| {
+            let mut answer = 0;
+            let spent = time(|| {
+                answer = serve(Session::Greeted, message, &mut log, &mut reply).0;
+            });
+            assert_eq!(answer, number);
+            1e3 * spent
+        };
+        let mut rounds = vec![];
+        for round in 0..ROUNDS {
+            let count = if round == 0 { BLOCKS } else { 1 };
+            let mut last = vec![];
+            let mut write = 0.0;
+            for _ in 0..count {
+                last = random.bytes(BLOCK);
+                write = ask(&write_message(&last), 0);
+            }
+            let score = plain::sha1::sha1(&last);
+            rounds.push([
+                ask(&[0, 2, 2, 7], 0),
+                ask(&read_message(&score), 0),
+                ask(&read_message(&[7; 20]), 11),
+                write,
+                ask(&write_message(&last), 0),
+            ]);
+        }
+        let cost = |k: usize| crate::median(rounds.iter().map(|round| round[k]));
+        println!(
+            "{sectors:>9} {:>9.3} {:>9.2} {:>9.2} {:>9.2} {:>9.2}",
+            cost(0),
+            cost(1),
+            cost(2),
+            cost(3),
+            cost(4)
+        );
+    }
+}
