@@ -11,7 +11,7 @@ use Rattle.buffer.specs.Bytes.{Bytes, zeros}
 use Rattle.buffer.proofs.Bytes.{and-true}
 use Rattle.refusal.specs.declared.Refusal.{Refusal}
 use Rattle.refusal.specs.declared.Refusal.the-variants as why
-use Rattle.log.specs.LookUp.{logAllowed}
+use Rattle.log.specs.LookUp.{mostSectors, logAllowed}
 use Rattle.lookup.proofs.Laws.{allowed-sectors}
 use Rattle.entry.specs.declared.Entry.{Entry}
 use Rattle.entry.specs.Entry.{entryOf, wellFormed, scoreOf}
@@ -61,7 +61,7 @@ depth-few : (b : Bytes) → (entryOf b) .depth < 8
 unfolding entryOf
 depth-few b = omega arith
 
-bounds : (m : ℕ) (e : Entry) (offset : ℕ) → wellFormed e ≡ true → e .depth < 8 → m / 512 ≤ 131072 → offset < e .size → Open m e offset
+bounds : (m : ℕ) (e : Entry) (offset : ℕ) → wellFormed e ≡ true → e .depth < 8 → m / 512 ≤ mostSectors → offset < e .size → Open m e offset
 unfolding wellFormed
 bounds m e offset w d a o =
     let p = and-true (leb 40 (e .psize) && leb (e .psize) 57344) _ w in

@@ -68,10 +68,11 @@ absence log = cond (eqb (doubtful log) 0) NotHeld NotKnown
 unfoldable pub lookUp : Bytes → ℕ → Bytes → Look
 lookUp log t s = on (held log t s) (Refused (absence log)) (λ r. Found (record { 0 = r .first }) (length (r .bytes)))
 
--- "log not whole sectors, or over 131,072 of them (none is allowed)": refusal 3 is the contrary
+-- "The limit of 131,072 sectors becomes 1,048,576, with refusal 3 beyond it"
 abbrev pub mostSectors : ℕ
-mostSectors = 131072
+mostSectors = 1048576
 
+-- "log not whole sectors, or over [mostSectors] of them (none is allowed)": refusal 3 is the contrary
 unfoldable pub logAllowed : ℕ → Bool
 logAllowed m = cond (eqb (m % 512) 0) (leb (m / 512) mostSectors) false
 

@@ -27,7 +27,7 @@ use Rattle.refusal.specs.declared.Refusal.the-variants.{LogLength, BlockType}
 use Rattle.sector.specs.declared.SectorNumber.{SectorNumber}
 use Rattle.log.specs.declared.Look.{Look}
 use Rattle.log.specs.declared.Look.the-variants.{Found, Refused}
-use Rattle.log.specs.LookUp.{on, blocks, blocksFrom, firstOf, outside, firstDoubtful, logAllowed, held, absence, lookUp, lookUpAsked}
+use Rattle.log.specs.LookUp.{on, blocks, blocksFrom, firstOf, outside, firstDoubtful, mostSectors, logAllowed, held, absence, lookUp, lookUpAsked}
 use Rattle.log.proofs.First.{first-none, first-some}
 use Rattle.log.proofs.Doubt.{Walked, walked-some, doubtful-at, doubt-some}
 use Rattle.log.proofs.FirstDoubt.{first-at, first-end}
@@ -40,7 +40,7 @@ pub ragged : (m : ℕ) → (m % 512 ≡ 0 → ⊥) → false ≡ logAllowed m
 unfolding logAllowed
 ragged m h = rw (ne-eqb (m % 512) 0 h)
 
-pub whole : (m : ℕ) → m % 512 ≡ 0 → leb (m / 512) 131072 ≡ logAllowed m
+pub whole : (m : ℕ) → m % 512 ≡ 0 → leb (m / 512) mostSectors ≡ logAllowed m
 unfolding logAllowed
 whole m h = rw (eq-eqb (m % 512) 0 h)
 
@@ -182,10 +182,10 @@ pub ask-look : (log : Bytes) (t : ℕ) (s : Bytes) (r : Look) (a b : Bool) → a
 unfolding lookUpAsked
 ask-look log t s r a b p q u v e = rw (sym p ∙ q, sym u ∙ v) e
 
-pub allowed-sectors : (m : ℕ) (a : Bool) → a ≡ logAllowed m → a ≡ true → m / 512 ≤ 131072
+pub allowed-sectors : (m : ℕ) (a : Bool) → a ≡ logAllowed m → a ≡ true → m / 512 ≤ mostSectors
 unfolding logAllowed
 allowed-sectors m a p q = go (eqb (m % 512) 0) refl
   where
-    go : (b : Bool) → eqb (m % 512) 0 ≡ b → m / 512 ≤ 131072
-    go true e = leb-true (m / 512) 131072 (rw e at (sym p ∙ q))
+    go : (b : Bool) → eqb (m % 512) 0 ≡ b → m / 512 ≤ mostSectors
+    go true e = leb-true (m / 512) mostSectors (rw e at (sym p ∙ q))
     go false e = absurd (true≢false (sym (rw e at (sym p ∙ q))))

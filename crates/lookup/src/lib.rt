@@ -12,6 +12,9 @@ ghost use Rattle.block.specs.Log.{sectors, used};
 ghost use Rattle.log.specs.LookUp.{blocks, firstOf, held, absence, lookUp, lookUpAsked, firstDoubtful, logAllowed};
 ghost use Rattle.lookup.specs.Place.{placeOf};
 
+// The most sectors of a log.
+pub const MOST_SECTORS: usize = 1048576;
+
 // Where a block stands, if it does.
 pub enum Place {
     At { first: SectorNumber, size: usize },
@@ -25,7 +28,7 @@ pub fn is_allowed(length: usize) -> bool
     if length % SECTOR != 0 {
         return false;
     }
-    length / SECTOR <= 131072
+    length / SECTOR <= MOST_SECTORS
 }
 
 // The first sound block of a type and score. Only a block whose label has the score is looked at.

@@ -1,21 +1,30 @@
 -- The report of a blank log of two sectors, and numbers in decimal, as the definitions have them.
-use mathlib.Core.Path.{_≡_, refl}
-use mathlib.Core.List.{[], _∷_}
+use mathlib.Core.Path.{_≡_, refl, ap, _∙_}
+use mathlib.Core.List.{[], _∷_, _++_}
+use native.Mathlib.Omega.{arith}
 use lib.ListN.{replicate}
+use Rattle.buffer.specs.Bytes.{Bytes}
 use Rattle.sector.specs.Sector.{blank}
 use Rattle.word.specs.Hex.{charDigit, readBytes}
 use Rattle.word.specs.Number.{valueFrom}
 use Rattle.block.specs.Log.{at, usedOf, used, soundAs, sound}
-use Rattle.log.specs.LookUp.{blocksFrom, blocks, outside, doubtful}
+use Rattle.log.specs.LookUp.{mostSectors, blocksFrom, blocks, outside, doubtful}
 use Rattle.report.specs.Report.{digits, decimal, verdict, textOf, reportText}
+use Rattle.report.proofs.Decimal.{decimal-more}
 
 zero-digit : decimal 0 ≡ 48 ∷ []
 unfolding decimal digits
 zero-digit = refl
 
-most-sectors : decimal 131072 ≡ 49 ∷ 51 ∷ 49 ∷ 48 ∷ 55 ∷ 50 ∷ []
+thousands : decimal 1048 ≡ 49 ∷ 48 ∷ 52 ∷ 56 ∷ []
 unfolding decimal digits
-most-sectors = refl
+thousands = refl
+
+-- 1,048, and three digits more
+most-sectors : decimal mostSectors ≡ 49 ∷ 48 ∷ 52 ∷ 56 ∷ 53 ∷ 55 ∷ 54 ∷ []
+most-sectors =
+    decimal-more mostSectors (omega arith)
+    ∙ ap (λ (x : Bytes). x ++ (54 ∷ [])) (decimal-more 104857 (omega arith) ∙ ap (λ (x : Bytes). x ++ (55 ∷ [])) (decimal-more 10485 (omega arith) ∙ ap (λ (x : Bytes). x ++ (53 ∷ [])) thousands))
 
 blank-report : reportText (replicate 1024 0)
     ≡ 115 ∷ 101 ∷ 99 ∷ 116 ∷ 111 ∷ 114 ∷ 115 ∷ 61 ∷ 50 ∷ 10

@@ -18,7 +18,7 @@ use Rattle.block.specs.Log.{sectors, used, sound}
 use Rattle.block.proofs.Apart.{sound-used}
 use Rattle.block.proofs.Used.{used-le-sectors}
 use Rattle.reader.specs.Reader.{sizeOf}
-use Rattle.log.specs.LookUp.{on, blocksFrom, blocks, inBlock, outside, doubtful, logAllowed}
+use Rattle.log.specs.LookUp.{on, blocksFrom, blocks, inBlock, outside, doubtful, mostSectors, logAllowed}
 use Rattle.log.proofs.Doubt.{Walked, walked-zero, walked-none, walked-some, doubt-none, doubt-some}
 use Rattle.log.proofs.Records.{records-none, records-some, records-used}
 use Rattle.lookup.proofs.Laws.{sized, none-sound, allowed-sectors}
@@ -105,18 +105,19 @@ five d d₁ d₂ d₃ d₄ d₅ x₁ x₂ x₃ x₄ x₅ a b c e r h w₁ w₂ w
     let j : x₁ ++ x₂ ++ x₃ ++ x₄ ++ x₅ ≡ lines (x₁ ∷ x₂ ∷ x₃ ∷ x₄ ∷ x₅ ∷ []) = simp (append-assoc, append-nil) in
     rw (← j) v₅
 
-pub line-short : (name : Bytes) (n : ℕ) → n < 10 ^ 6 → length (line name (decimal n)) ≤ length name + 7
-line-short name n h = omega (arith, line-length name (decimal n), decimal-short 5 n h)
+-- the numbers have at most seven digits
+pub line-short : (name : Bytes) (n : ℕ) → n ≤ mostSectors → length (line name (decimal n)) ≤ length name + 8
+line-short name n h = omega (arith, line-length name (decimal n), decimal-short 6 n (omega arith))
 
 -- room for a line, and the place after it
-pub line-room : (name : Bytes) (at n m : ℕ) → n < 10 ^ 6 → at + (length name + 7) ≤ m → at + (length name + (length (decimal n) + 1)) ≤ m
-line-room name at n m h k = omega (arith, decimal-short 5 n h)
+pub line-room : (name : Bytes) (at n m : ℕ) → n ≤ mostSectors → at + (length name + 8) ≤ m → at + (length name + (length (decimal n) + 1)) ≤ m
+line-room name at n m h k = omega (arith, decimal-short 6 n (omega arith))
 
-pub place : (name : Bytes) (at r n : ℕ) → n < 10 ^ 6 → r ≡ at + length (line name (decimal n)) → r ≤ at + (length name + 7)
+pub place : (name : Bytes) (at r n : ℕ) → n ≤ mostSectors → r ≡ at + length (line name (decimal n)) → r ≤ at + (length name + 8)
 place name at r n h e = omega (arith, line-short name n h)
 
 pub text-written : (d d₁ d₂ d₃ d₄ d₅ : Bytes) (count end : ℕ) (s : Survey) (a b c e r : ℕ)
-    → (128 ≤ length d) × (count < 10 ^ 6) × (end < 10 ^ 6) × (s .records < 10 ^ 6) × (s .doubtful < 10 ^ 6)
+    → (128 ≤ length d) × (count ≤ mostSectors) × (end ≤ mostSectors) × (s .records ≤ mostSectors) × (s .doubtful ≤ mostSectors)
     → Wrote d d₁ 0 (line sectorsName (decimal count)) a → Wrote d₁ d₂ a (line usedName (decimal end)) b
     → Wrote d₂ d₃ b (line recordsName (decimal (s .records))) c → Wrote d₃ d₄ c (line doubtfulName (decimal (s .doubtful))) e
     → Wrote d₄ d₅ e (line verdictName (verdict (s .doubtful))) r
@@ -212,9 +213,9 @@ module _ (log b : Bytes) where
     unfolding reportOf
     report-log q = rw (le-ltb (length b) 128 h, sym p ∙ q)
 
-    -- the numbers have at most six digits
+    -- no number is over the most sectors
     pub report-room : (end : ℕ) (s : Survey) → a ≡ true → end ≡ used log → s ≡ surveyOf log
-        → (128 ≤ length b) × (length log / 512 < 10 ^ 6) × (end < 10 ^ 6) × (s .records < 10 ^ 6) × (s .doubtful < 10 ^ 6)
+        → (128 ≤ length b) × (length log / 512 ≤ mostSectors) × (end ≤ mostSectors) × (s .records ≤ mostSectors) × (s .doubtful ≤ mostSectors)
     unfolding blocks doubtful
     report-room end s q e f =
         let k = allowed-sectors (length log) a p q in

@@ -8,6 +8,7 @@ ghost use lib.ListN.{length};
 ghost use Rattle.buffer.specs.Bytes.{put};
 ghost use Rattle.sector.specs.Sector.{line};
 ghost use Rattle.block.specs.Log.{sectors, used};
+ghost use Rattle.log.specs.LookUp.{mostSectors};
 ghost use Rattle.report.specs.Report.{decimal, verdictName, verdict, surveyOf, textOf, reportText, outcome, reportOf};
 
 // The sound blocks of a log and its doubtful sectors, counted.
@@ -84,7 +85,7 @@ fn write_verdict(d: &mut [u8], at: usize, doubtful: usize) -> usize
 
 // Writes the five lines to the front of d; how many bytes they are.
 fn write_text(d: &mut [u8], count: usize, end: usize, s: Survey) -> usize
-    requires { ⌜ (128 ≤ length (now d)) × (count < 10 ^ 6) × (end < 10 ^ 6) × (s .records < 10 ^ 6) × (s .doubtful < 10 ^ 6) ⌝ }
+    requires { ⌜ (128 ≤ length (now d)) × (count ≤ mostSectors) × (end ≤ mostSectors) × (s .records ≤ mostSectors) × (s .doubtful ≤ mostSectors) ⌝ }
     ensures { λ r. ⌜ (now (d .exit) ≡ put (now (d .entry)) 0 (textOf count end s)) × (r ≡ length (textOf count end s)) ⌝ }
 {
     let a = write_line(d, 0, b"sectors=", count);

@@ -1,6 +1,6 @@
--- What locating a file's bytes gives is small: a start below 2^26, a length of at most 57,344.
+-- What locating a file's bytes gives is small: a start within the longest log, a length of at most 57,344.
 use mathlib.Core.Path.{_≡_, refl, sym, ap, _∙_}
-use Prim.Native.Nat.{ℕ, _+_, _-_, _*_, _/_, _%_, _^_, _≤_, _<_, min}
+use Prim.Native.Nat.{ℕ, _+_, _-_, _*_, _/_, _%_, _≤_, _<_, min}
 use native.Mathlib.Nat.{min-le-left, min-le-right}
 use native.Mathlib.Omega.{arith}
 use lib.Dec.{ltb}
@@ -10,7 +10,7 @@ use Rattle.buffer.specs.Bytes.{Bytes}
 use Rattle.block.specs.Block.{Row, partsOf}
 use Rattle.block.specs.Log.{sectors}
 use Rattle.block.proofs.Cases.{cond-ind}
-use Rattle.log.specs.LookUp.{logAllowed}
+use Rattle.log.specs.LookUp.{mostSectors, logAllowed}
 use Rattle.lookup.proofs.Held.{Stands}
 use Rattle.lookup.proofs.Laws.{allowed-sectors}
 use Rattle.entry.specs.declared.Entry.{Entry}
@@ -23,14 +23,14 @@ use Rattle.file.proofs.Places.{parts-over}
 use Rattle.file.proofs.Tests.{opened}
 
 abbrev pub Small : Located → Type 0
-Small (Stored at n) = (at < 2 ^ 26) × (n ≤ 57344)
+Small (Stored at n) = (at < 512 * mostSectors) × (n ≤ 57344)
 Small (Zeros n) = n ≤ 57344
 Small (Refused w) = Unit {0}
 
-place-small : (l n size k : ℕ) → sectors l ≤ 131072 → n + partsOf size ≤ sectors l → k < size → placeIn n k < 2 ^ 26
+place-small : (l n size k : ℕ) → sectors l ≤ mostSectors → n + partsOf size ≤ sectors l → k < size → placeIn n k < 512 * mostSectors
 place-small l n size k h r g = omega (arith, parts-over size k g)
 
-module _ (log : Bytes) (page : ℕ) (e : Entry) (offset : ℕ) (h : sectors (length log) ≤ 131072) (d : e .dsize ≤ 57344) where
+module _ (log : Bytes) (page : ℕ) (e : Entry) (offset : ℕ) (h : sectors (length log) ≤ mostSectors) (d : e .dsize ≤ 57344) where
   zero-small : Small (zeroRun page e offset)
   zero-small =
       let b = e .dsize - offset % e .dsize in
@@ -69,7 +69,7 @@ located-small log page b offset =
 
 -- of the code's answer
 module _ (log page b : Bytes) (offset : ℕ) (w : Located) (e : w ≡ located log page b offset) where
-  pub stored-within : (at n : ℕ) → w ≡ Stored at n → (at < 2 ^ 26) × (n ≤ 57344)
+  pub stored-within : (at n : ℕ) → w ≡ Stored at n → (at < 512 * mostSectors) × (n ≤ 57344)
   stored-within at n q = rw (sym e ∙ q) at (located-small log page b offset)
 
   pub zeros-within : (n : ℕ) → w ≡ Zeros n → n ≤ 57344

@@ -1,7 +1,7 @@
 //! What a request costs in a log that is mostly blank: 100 blocks at its front, nothing after them.
 
 use plain::random::Random;
-use skywimple_archive::{serve, Session};
+use boundary::{serve, Session};
 
 use crate::log::{read_message, time, write_message};
 

@@ -45,7 +45,7 @@ fn measure() {
     compare("sha1", boundary::sha1, plain::sha1::sha1);
     compare("crc32", boundary::crc32, plain::crc32::crc32);
     log::run();
-    blank::run(&[4_096, 131_072]);
+    blank::run(&[4_096, 131_072, 1_048_576]);
 }
 
 /// Compares the results on random inputs, then the speed.

@@ -16,6 +16,9 @@ pub use request::{serve, Served, Session};
 pub use tree::{block_type, locate, read, walk, Run, Walked};
 pub use zeros::{cut, pad};
 
+/// The most sectors of a log: one more is refused with 3.
+pub const MOST_SECTORS: usize = 1_048_576;
+
 /// A result that is a refusal's number, or 0 and 256 times the answer.
 fn answer(result: u32) -> Result<usize, Refusal> {
     Refusal::of((result % 256) as u8)?;

@@ -1,7 +1,7 @@
 //! The paper's examples about messages, and each refusal of a request, through the proved call.
 
 use boundary::Session::{self, Closed, Fresh, Greeted};
-use boundary::{crc32, serve, sha1, Refusal};
+use boundary::{crc32, serve, sha1, Refusal, MOST_SECTORS};
 
 const REPLY: usize = 57_348;
 
@@ -126,8 +126,10 @@ fn refusals_without_a_reply() {
     assert!(a.untouched() && a.session == Greeted);
     a.session = Closed;
     assert_eq!(a.ask(&[0, 2, 2, 7]), 3, "3 before 4");
-    a.log = vec![0; 512 * 131_073];
+    a.log = vec![0; 512 * (MOST_SECTORS + 1)];
     assert_eq!(a.ask(&[0, 2, 2, 7]), 3, "over the limit");
+    a.log.truncate(512 * MOST_SECTORS);
+    assert_eq!(a.ask(&[0, 2, 2, 7]), 4, "as many as there may be");
     a.log.truncate(512);
     assert_eq!(a.ask(&[0, 2, 99, 7]), 4, "4 before 5");
     assert!(a.untouched() && a.session == Closed);

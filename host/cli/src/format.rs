@@ -6,8 +6,7 @@ use crate::hex;
 pub const SECTOR: usize = 512;
 pub const LABEL: usize = 96;
 pub const PAYLOAD: usize = 403;
-/// The most sectors a log may have.
-pub const MOST_SECTORS: usize = 131_072;
+pub use boundary::MOST_SECTORS;
 /// The most bytes a block may have.
 pub const MOST_DATA: usize = 57_344;
 

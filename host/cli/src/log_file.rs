@@ -10,6 +10,7 @@ use boundary::Refusal;
 use crate::format::{allowed, used, SECTOR};
 use crate::loss::Loss;
 use crate::mark::{self, Found, Mark};
+use crate::progress::Progress;
 use crate::sectors::{self, Loaded};
 use crate::status::{Failure, MISSING};
 use crate::streams::Streams;
@@ -53,7 +54,19 @@ pub fn load(
     if !short && !allowed(length) {
         return Err(no_log(path, length, mark));
     }
-    let loaded = sectors::load(|buffer, at| file.read_at(buffer, at), length);
+    let mut progress = Progress::start();
+    let read_at = |buffer: &mut [u8], at: u64| file.read_at(buffer, at);
+    let loaded = sectors::load(read_at, length, |end| {
+        progress.show_before(streams, || {
+            format!(
+                "reading {}: {} of {} MiB",
+                path.display(),
+                end >> 20,
+                length >> 20
+            )
+        });
+    });
+    streams.clear_progress();
     if loaded.unreadable > 0 {
         streams.tell(&format!(
             "sectors of {} that cannot be read: {}. They count as damaged; what was in them is \

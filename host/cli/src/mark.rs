@@ -249,14 +249,14 @@ mod tests {
     use super::*;
 
     const MARK: Mark = Mark {
-        sectors: 131_072,
+        sectors: MOST_SECTORS,
         used: 0x1_0abc,
     };
 
     #[test]
     fn text_and_back() {
         let text = MARK.text();
-        assert!(text.starts_with("sectors=00020000\nused=00010abc\ncrc="));
+        assert!(text.starts_with("sectors=00100000\nused=00010abc\ncrc="));
         assert_eq!(text.len(), LENGTH);
         assert_eq!(Mark::parse(text.as_bytes()), Some(MARK));
     }

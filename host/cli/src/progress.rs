@@ -19,8 +19,14 @@ impl Progress {
 
     /// Shows the line, at most ten times a second, only to a person, and never amid an answer.
     pub fn show(&mut self, streams: &mut Streams, line: impl FnOnce() -> String) {
-        let looked_at = streams.err_terminal && !streams.out_terminal;
-        if looked_at && Instant::now() >= self.next {
+        if !streams.out_terminal {
+            self.show_before(streams, line);
+        }
+    }
+
+    /// The same before any answer, which may go to the same terminal.
+    pub fn show_before(&mut self, streams: &mut Streams, line: impl FnOnce() -> String) {
+        if streams.err_terminal && Instant::now() >= self.next {
             streams.show_progress(&line());
             self.next = Instant::now() + EVERY;
         }

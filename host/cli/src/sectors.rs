@@ -19,32 +19,59 @@ pub fn unsound(sentence: &[u8]) -> [u8; SECTOR] {
     sector
 }
 
-/// The first `length` bytes, or as many as there are: at once, or else sector by sector.
-pub fn load(read_at: impl Fn(&mut [u8], u64) -> io::Result<usize>, length: u64) -> Loaded {
+/// Bytes that are read at once: some sectors.
+const PIECE: usize = 8192 * SECTOR;
+
+/// The first `length` bytes, or as many as there are, piece by piece; a piece that cannot be read
+/// at once, sector by sector. Tells after each piece how far it is.
+pub fn load(
+    read_at: impl Fn(&mut [u8], u64) -> io::Result<usize>,
+    length: u64,
+    mut tell: impl FnMut(u64),
+) -> Loaded {
     let mut bytes = vec![0; length as usize];
     let (mut end, mut unreadable) = (0, 0);
-    if let Ok(count) = fill(&read_at, &mut bytes, 0) {
-        end = count;
-    } else {
-        for sector in bytes.chunks_mut(SECTOR) {
-            let count = fill(&read_at, sector, end as u64).unwrap_or_else(|_| {
-                sector.copy_from_slice(&unsound(b"unreadable")[..sector.len()]);
-                unreadable += 1;
-                sector.len()
-            });
-            end += count;
-            if count < sector.len() {
-                break;
-            }
+    for piece in bytes.chunks_mut(PIECE) {
+        let count = fill(&read_at, piece, end).unwrap_or_else(|_| {
+            let (count, bad) = by_sectors(&read_at, piece, end);
+            unreadable += bad;
+            count
+        });
+        end += count as u64;
+        tell(end);
+        if count < piece.len() {
+            break;
         }
     }
-    bytes.truncate(end);
+    bytes.truncate(end as usize);
     Loaded { bytes, unreadable }
 }
 
 /// The same from some byte of a file on.
 pub fn load_from(file: &File, start: u64, length: usize) -> Loaded {
-    load(|buffer, at| file.read_at(buffer, start + at), length as u64)
+    load(|buffer, at| file.read_at(buffer, start + at), length as u64, |_| {})
+}
+
+/// Reads sector by sector until the buffer is full or the file ends. Gives the count of bytes, and
+/// how many sectors could not be read.
+fn by_sectors(
+    read_at: &impl Fn(&mut [u8], u64) -> io::Result<usize>,
+    buffer: &mut [u8],
+    start: u64,
+) -> (usize, usize) {
+    let (mut end, mut unreadable) = (0, 0);
+    for sector in buffer.chunks_mut(SECTOR) {
+        let count = fill(read_at, sector, start + end as u64).unwrap_or_else(|_| {
+            sector.copy_from_slice(&unsound(b"unreadable")[..sector.len()]);
+            unreadable += 1;
+            sector.len()
+        });
+        end += count;
+        if count < sector.len() {
+            break;
+        }
+    }
+    (end, unreadable)
 }
 
 /// Reads until the buffer is full or the file ends, and gives the count of bytes.
@@ -91,7 +118,7 @@ mod tests {
             buffer[..end - start].copy_from_slice(&file[start..end]);
             Ok(end - start)
         };
-        load(read_at, length as u64)
+        load(read_at, length as u64, |_| {})
     }
 
     #[test]
@@ -112,6 +139,29 @@ mod tests {
         let loaded = load_with(&file, 1500, &[2]);
         assert_eq!((loaded.bytes.len(), loaded.unreadable), (1500, 1));
         assert_eq!(loaded.bytes[..1024], file[..1024]);
+    }
+
+    /// The file is read piece by piece, and a bad sector costs no more than its own.
+    #[test]
+    fn several_pieces() {
+        let file: Vec<u8> = (0..2 * PIECE + 700).map(|i| (i % 251) as u8).collect();
+        let read_at = |buffer: &mut [u8], at: u64| {
+            let start = (at as usize).min(file.len());
+            let end = file.len().min(start + buffer.len());
+            if (start..end).contains(&(PIECE + 5 * SECTOR)) {
+                return Err(io::Error::other("bad sector"));
+            }
+            buffer[..end - start].copy_from_slice(&file[start..end]);
+            Ok(end - start)
+        };
+        let mut told = Vec::new();
+        let Loaded { bytes, unreadable } = load(read_at, 4 * PIECE as u64, |end| told.push(end));
+        let length = file.len() as u64;
+        assert_eq!(told, [PIECE as u64, 2 * PIECE as u64, length]);
+        assert_eq!((bytes.len(), unreadable), (file.len(), 1));
+        let bad = PIECE + 5 * SECTOR..PIECE + 6 * SECTOR;
+        assert_eq!(bytes[bad.clone()], unsound(b"unreadable"));
+        assert!(bytes[..bad.start] == file[..bad.start] && bytes[bad.end..] == file[bad.end..]);
     }
 
     /// A block with an unreadable sector is not known, and so is any that isn't found; others read.

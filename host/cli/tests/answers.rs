@@ -2,6 +2,9 @@
 
 mod common;
 
+use std::fs;
+use std::os::unix::fs::FileExt;
+
 use common::*;
 
 #[test]
@@ -126,7 +129,11 @@ fn the_longest_log() {
     let place = Place::with_log(MOST_SECTORS);
     let first = place.put(b"first");
     place.reads(&first, b"first");
-    place.damage(|log| log[(MOST_SECTORS - 2) * SECTOR] = 1);
+    let log = fs::OpenOptions::new().write(true).open(place.path("log"));
+    let last_but_one = (MOST_SECTORS - 2) * SECTOR;
+    log.unwrap()
+        .write_all_at(&[1], last_but_one as u64)
+        .unwrap();
     let last = place.put(b"last");
     place.reads(&last, b"last");
     place.reads(&first, b"first");

@@ -9,7 +9,7 @@ const SECTOR: usize = 512;
 const LABEL: usize = 96;
 const PAYLOAD: usize = 403;
 const CHECK: usize = LABEL + PAYLOAD;
-const MOST_SECTORS: usize = 131_072;
+const MOST_SECTORS: usize = 1_048_576;
 const MOST_DATA: usize = 57_344;
 
 /// The SHA-1 of no bytes.

@@ -5,7 +5,7 @@ use crate::sector::{blank, encode, fits, label, sectors_for, Label, LABEL, PAYLO
 use crate::sha1::{sha1, Score, ZERO_SCORE};
 
 /// The most sectors a log may have.
-pub const MOST_SECTORS: usize = 131_072;
+pub const MOST_SECTORS: usize = 1_048_576;
 /// The most bytes a block may have.
 pub const MOST_DATA: usize = 57_344;
 

@@ -19,7 +19,7 @@ pub const OTHER_USER: u32 = 4700;
 
 pub const SECTOR: usize = 512;
 /// The most sectors a log may have.
-pub const MOST_SECTORS: usize = 131_072;
+pub use boundary::MOST_SECTORS;
 
 /// What the program answered.
 #[derive(Debug)]
