@@ -1,7 +1,7 @@
 //! What a request costs in a log that is mostly blank: 100 blocks at its front, nothing after them.
 
+use boundary::{serve, Refusal, Session};
 use plain::random::Random;
-use boundary::{serve, Session};
 
 use crate::log::{read_message, time, write_message};
 
@@ -22,12 +22,12 @@ pub fn run(lengths: &[usize]) {
         let mut log = vec![1; sectors * 512];
         log.fill(0);
         let mut reply = vec![0; 57_348];
-        let mut ask = |message: &[u8], number: u8| {
-            let mut answer = 0;
+        let mut ask = |message: &[u8], expected: Result<(), Refusal>| {
+            let mut answer = Ok(());
             let spent = time(|| {
-                answer = serve(Session::Greeted, message, &mut log, &mut reply).0;
+                answer = serve(Session::Greeted, message, &mut log, &mut reply).outcome;
             });
-            assert_eq!(answer, number);
+            assert_eq!(answer, expected);
             1e3 * spent
         };
         let mut rounds = vec![];
@@ -37,15 +37,15 @@ pub fn run(lengths: &[usize]) {
             let mut write = 0.0;
             for _ in 0..count {
                 last = random.bytes(BLOCK);
-                write = ask(&write_message(&last), 0);
+                write = ask(&write_message(&last), Ok(()));
             }
             let score = plain::sha1::sha1(&last);
             rounds.push([
-                ask(&[0, 2, 2, 7], 0),
-                ask(&read_message(&score), 0),
-                ask(&read_message(&[7; 20]), 11),
+                ask(&[0, 2, 2, 7], Ok(())),
+                ask(&read_message(&score), Ok(())),
+                ask(&read_message(&[7; 20]), Err(Refusal::NotHeld)),
                 write,
-                ask(&write_message(&last), 0),
+                ask(&write_message(&last), Ok(())),
             ]);
         }
         let cost = |k: usize| crate::median(rounds.iter().map(|round| round[k]));

@@ -49,7 +49,11 @@ pub fn load(
 
 /// The same from some byte of a file on.
 pub fn load_from(file: &File, start: u64, length: usize) -> Loaded {
-    load(|buffer, at| file.read_at(buffer, start + at), length as u64, |_| {})
+    load(
+        |buffer, at| file.read_at(buffer, start + at),
+        length as u64,
+        |_| {},
+    )
 }
 
 /// Reads sector by sector until the buffer is full or the file ends. Gives the count of bytes, and

@@ -19,7 +19,7 @@ pub const OTHER_USER: u32 = 4700;
 
 pub const SECTOR: usize = 512;
 /// The most sectors a log may have.
-pub use boundary::MOST_SECTORS;
+pub const MOST_SECTORS: usize = boundary::MOST_SECTORS;
 
 /// What the program answered.
 #[derive(Debug)]
