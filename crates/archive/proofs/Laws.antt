@@ -2,7 +2,7 @@
 use mathlib.Core.Path.{_≡_, refl, sym, ap, _∙_}
 use mathlib.Core.Bool.{Bool, true, false}
 use mathlib.Core.List.{[], _∷_, _++_, append-nil}
-use mathlib.Core.Logic.{inl, inr}
+use mathlib.Core.Logic.{inl, inr, ⊎-elim}
 use Prim.Native.Nat.{ℕ, _-_, _≤_, _<_}
 use native.Mathlib.Nat.{zero-add}
 use native.Mathlib.Omega.{arith}
@@ -14,7 +14,7 @@ use lib.ListN.{length, take, drop, length-drop, drop-of-length-le}
 use lib.Seq.{take-length, drop-drop}
 use Rattle.buffer.specs.Bytes.{Bytes, same, put}
 use Rattle.refusal.specs.declared.Refusal.{Refusal}
-use Rattle.refusal.specs.declared.Refusal.the-variants.{Frame, Buffer, LogLength, Hello as BadHello, BlockType, DataLength, OverCount}
+use Rattle.refusal.specs.declared.Refusal.the-variants.{Frame, Buffer, LogLength, Hello as BadHello, BlockType, DataLength}
 use Rattle.sector.specs.declared.SectorNumber.{SectorNumber}
 use Rattle.kind.specs.Kind.{lawful, longest}
 use Rattle.log.specs.declared.Look.{Look}
@@ -22,7 +22,8 @@ use Rattle.log.specs.declared.Look.the-variants.{Found, Refused}
 use Rattle.log.specs.declared.Stored.{Stored}
 use Rattle.log.specs.declared.Stored.the-variants.{New, Duplicate, Refused as StoreRefused}
 use Rattle.log.specs.declared.Receipt.{Receipt}
-use Rattle.log.specs.LookUp.{logAllowed, lookUp}
+use Rattle.log.specs.LookUp.{logAllowed, lookUp, counted}
+use Rattle.log.proofs.Counted.{Over, counted-found, counted-refused}
 use Rattle.log.specs.Store.{After, after, store}
 use Rattle.log.proofs.Stored.{the-type}
 use Rattle.reader.specs.Reader.{bytesAt}
@@ -70,13 +71,6 @@ head-block buffer x y log tag first size p q =
     ∙ ap (λ (k : ℕ). put (put buffer 0 (head 13 tag k)) 4 s) (sym (length-bytes log first size))
     ∙ head-body buffer 13 tag s
 
--- the reason that a look-up gives
-pub one-reason : (l : Look) (w v : Refusal) → l ≡ Refused w → l ≡ Refused v → w ≡ v
-one-reason l w v p q = cc
-
-pub not-refused : (l : Look) (f : SectorNumber) (n : ℕ) (v : Refusal) → l ≡ Found f n → l ≡ Refused v → ⊥
-not-refused l f n v p q = let y : _≡_ {A = ℕ} 0 1 = cc in omega arith
-
 -- ---- a hello in a fresh session
 
 module _ (m log buffer : Bytes) (tag : ℕ) (b : Bool) (e : b ≡ same (versionOf m) version) where
@@ -95,27 +89,31 @@ module _ (kind count tag : ℕ) (score log buffer : Bytes) (b : Bool) (e : b ≡
   unfolding read
   read-kind q = rw (sym e ∙ q)
 
-  module _ (q : b ≡ true) (l : Look) (g : l ≡ lookUp log kind score) where
-    pub read-absent : (w : Refusal) → l ≡ Refused w → refused w tag Greeted log buffer ≡ read kind count tag score log buffer
+  module _ (q : b ≡ true) where
+    read-absent : (w : Refusal) → lookUp log kind score ≡ Refused w → refused w tag Greeted log buffer ≡ read kind count tag score log buffer
     unfolding read
     read-absent w d =
-        let a = look-absent log kind score w (sym g ∙ d) in
+        let a = look-absent log kind score w d in
         rw (sym e ∙ q, a .0, a .1)
 
-    module _ (f : SectorNumber) (n : ℕ) (d : l ≡ Found f n) where
-      pub read-over : count < n → refused OverCount tag Greeted log buffer ≡ read kind count tag score log buffer
-      unfolding read
-      read-over h =
-          let s = look-found log kind score f n (sym g ∙ d) in
-          let z : ltb count (length (s .row .bytes)) ≡ true = rw (← s .size) (lt-ltb count n h) in
-          rw (sym e ∙ q, s .is-held, z)
+    read-over : (w : Refusal) → Over count (lookUp log kind score) w → refused w tag Greeted log buffer ≡ read kind count tag score log buffer
+    unfolding read
+    read-over w o =
+        let s = look-found log kind score (o .first) (o .size) (o .found) in
+        let z : ltb count (length (s .row .bytes)) ≡ true = rw (← s .size) (lt-ltb count (o .size) (o .long)) in
+        ap (λ (x : Refusal). refused x tag Greeted log buffer) (o .why) ∙ rw (sym e ∙ q, s .is-held, z)
 
-      pub read-found : n ≤ count → granted (readReply tag (bytesAt log (f .0) n)) Greeted log buffer ≡ read kind count tag score log buffer
+    module _ (l : Look) (g : l ≡ counted count (lookUp log kind score)) where
+      pub read-refused : (w : Refusal) → l ≡ Refused w → refused w tag Greeted log buffer ≡ read kind count tag score log buffer
+      read-refused w d = ⊎-elim (read-absent w) (read-over w) (counted-refused count (lookUp log kind score) w (sym g ∙ d))
+
+      pub read-found : (f : SectorNumber) (n : ℕ) → l ≡ Found f n → granted (readReply tag (bytesAt log (f .0) n)) Greeted log buffer ≡ read kind count tag score log buffer
       unfolding read
-      read-found h =
-          let s = look-found log kind score f n (sym g ∙ d) in
-          let z : ltb count (length (s .row .bytes)) ≡ false = rw (← s .size) (le-ltb count n h) in
-          rw (sym e ∙ q, s .is-held, z) (ap (λ (x : Bytes). granted (readReply tag x) Greeted log buffer) (sym (found-bytes log kind score f n (sym g ∙ d))))
+      read-found f n d =
+          let c = counted-found count (lookUp log kind score) f n (sym g ∙ d) in
+          let s = look-found log kind score f n (c .0) in
+          let z : ltb count (length (s .row .bytes)) ≡ false = rw (← s .size) (le-ltb count n (c .1)) in
+          rw (sym e ∙ q, s .is-held, z) (ap (λ (x : Bytes). granted (readReply tag x) Greeted log buffer) (sym (found-bytes log kind score f n (c .0))))
 
 -- ---- a write
 

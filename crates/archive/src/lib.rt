@@ -5,6 +5,7 @@ use log::Receipt;
 use log::Stored;
 use message::Request;
 use refusal::Refusal;
+use sector::SECTOR;
 use sector::SectorNumber;
 ghost use mathlib.Core.Path.{_≡_};
 ghost use mathlib.Core.Bool.{true};
@@ -12,8 +13,6 @@ ghost use mathlib.Core.List.{[]};
 ghost use Prim.Native.Nat.{_+_, _≤_};
 ghost use lib.ListN.{length};
 ghost use Rattle.buffer.specs.Bytes.{Bytes};
-ghost use Rattle.refusal.specs.declared.Refusal.{Refusal as Why};
-ghost use Rattle.log.specs.declared.Look.the-variants.{Refused};
 ghost use Rattle.log.specs.LookUp.{logAllowed};
 ghost use Rattle.block.specs.Block.{partsOf};
 ghost use Rattle.block.specs.Log.{sectors};
@@ -57,22 +56,6 @@ fn refuse(why: Refusal, tag: u8, session: Session, reply: &mut [u8]) -> Answer
     Answer {
         number: refusal::number(why),
         session: session,
-    }
-}
-
-// The refusal of a look-up that found nothing.
-fn refuse_look(look: Look, tag: u8, reply: &mut [u8]) -> Answer
-    requires { ⌜ 57348 ≤ length (now reply) ⌝ }
-    ensures { λ r. ⌜ ((why : Why) (log : Bytes) → look ≡ Refused why → whole r log (now (reply .exit)) ≡ refused why tag Greeted log (now (reply .entry))) ⌝ }
-{
-    match look {
-        Look::Refused(why) => refuse(why, tag, Session::Greeted, reply),
-        Look::Found { first: _, size: _ } => refuse(
-            Refusal::NotKnown,
-            tag,
-            Session::Greeted,
-            reply,
-        ),
     }
 }
 
@@ -140,7 +123,9 @@ fn answer_read(log: &[u8], first: SectorNumber, size: usize, tag: u8, reply: &mu
     ensures { λ r. ⌜ whole r (now (log .entry)) (now (reply .exit)) ≡ granted (readReply tag (bytesAt (now (log .entry)) (first .0) size)) Greeted (now (log .entry)) (now (reply .entry)) ⌝ }
 {
     message::write_head(reply, 13, tag, size);
-    reader::copy_out(log, first, size, &mut reply[4..]);
+    let none = [0u8; 0];
+    let end = SectorNumber(log.len() / SECTOR);
+    reader::copy_out(log, end, &none, first, size, &mut reply[4..]);
     Answer {
         number: 0,
         session: Session::Greeted,
@@ -156,14 +141,12 @@ fn serve_read(message: &[u8], log: &[u8], reply: &mut [u8], kind: u8, count: usi
     if !kind::is_lawful(kind) {
         return refuse(Refusal::BlockType, tag, Session::Greeted, reply);
     }
-    let look = lookup::look_up(log, kind, &message[4..24]);
-    let Look::Found { first, size } = look else {
-        return refuse_look(look, tag, reply);
-    };
-    if count < size {
-        return refuse(Refusal::OverCount, tag, Session::Greeted, reply);
+    let none = [0u8; 0];
+    let look = lookup::fetch(log, &none, kind, &message[4..24], count);
+    match look {
+        Look::Found { first, size } => answer_read(log, first, size, tag, reply),
+        Look::Refused(why) => refuse(why, tag, Session::Greeted, reply),
     }
-    answer_read(log, first, size, tag, reply)
 }
 
 // The reply to a write, by what the store did.

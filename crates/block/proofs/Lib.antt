@@ -2,6 +2,7 @@
 pub mod Cases
 pub mod At
 pub mod Used
+pub mod Joined
 pub mod Facts
 pub mod Image
 pub mod Written
@@ -10,4 +11,5 @@ pub mod Passed
 pub mod Stands
 pub mod Sound
 pub mod Apart
+pub mod Alike
 pub mod Counts

@@ -6,11 +6,13 @@ use Prim.Native.Nat.{ℕ, zero, suc, _≤_, _<_}
 use native.Mathlib.Omega.{arith}
 use lib.Dec.{ltb, leb}
 use borrow.Author.Tests.{ltb-true, ltb-false, leb-true, leb-false}
-use lib.ListN.{length}
+use lib.ListN.{length, replicate}
 use Rattle.buffer.specs.Bytes.{Bytes, zeros}
+use Rattle.buffer.proofs.Bytes.{zeros-replicated}
+use Rattle.sector.specs.Sector.{blank}
 use Rattle.block.specs.Log.{sectors, at, usedOf, used}
 use Rattle.block.proofs.Cases.{cond-ind}
-use Rattle.block.proofs.At.{at-past, blank-is}
+use Rattle.block.proofs.At.{at-past, blank-is, length-at}
 
 below-used : (log : Bytes) (k n : ℕ) → n < k → zeros (at log n) ≡ false → n < usedOf log k
 unfolding usedOf
@@ -65,3 +67,7 @@ blank-past log n h = go (zeros (at log n)) refl
     go : (b : Bool) → zeros (at log n) ≡ b → zeros (at log n) ≡ true
     go true q = q
     go false q = absurd (omega (arith, lt-used log n q))
+
+pub at-beyond : (log : Bytes) (n : ℕ) → used log ≤ n → at log n ≡ blank
+unfolding blank
+at-beyond log n h = zeros-replicated (at log n) (blank-past log n h) ∙ ap (λ (k : ℕ). replicate k 0) (length-at log n)

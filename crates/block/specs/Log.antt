@@ -1,4 +1,5 @@
 -- The log, for any bytes: its sectors, the used part, and the sound block at a sector, test by test.
+use mathlib.Core.Path.{_≡_}
 use mathlib.Core.Bool.{Bool, true, cond, _&&_}
 use mathlib.Core.List.{List, [], _∷_, _++_}
 use mathlib.Core.Option.{Option, none, some}
@@ -19,6 +20,14 @@ sectors m = m / 512
 -- sector n; past the end a blank one
 unfoldable pub at : Bytes → ℕ → Bytes
 at log n = cond (ltb n (sectors (length log))) (take 512 (drop (512 * n) log)) blank
+
+-- two logs with the same sectors
+abbrev pub Alike : Bytes → Bytes → Type 0
+Alike a b = (n : ℕ) → at a n ≡ at b n
+
+-- two runs of sectors read as one: the first u sectors of the log, and then those of a second run
+unfoldable pub joined : ℕ → Bytes → Bytes → Bytes
+joined u log second = take (512 * u) log ++ second
 
 -- "The used part ends with the last sector that isn't blank": of the first n sectors, and of all
 unfoldable pub usedOf : Bytes → ℕ → ℕ

@@ -35,8 +35,10 @@ pub extern "C" fn skywimple_sound_at(log: &[u8], n: usize) -> u32
     if !lookup::is_allowed(log.len()) {
         return refusal::number(Refusal::LogLength) as u32;
     }
-    if log.len() / SECTOR <= n {
+    let count = log.len() / SECTOR;
+    if count <= n {
         return 0;
     }
-    256 * (reader::sound_at(log, SectorNumber(n)) as u32)
+    let none = [0u8; 0];
+    256 * (reader::sound_at(log, SectorNumber(count), &none, SectorNumber(n)) as u32)
 }

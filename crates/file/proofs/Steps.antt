@@ -1,13 +1,14 @@
 -- One level of the tree, case by case: what the code does there makes what the definition says.
 use mathlib.Core.Path.{_≡_, refl, sym, ap, ap₂, _∙_}
 use mathlib.Core.Bool.{Bool, true, false, cond}
-use Prim.Native.Nat.{ℕ, zero, suc, _+_, _%_, _≤_, _<_}
+use mathlib.Core.Option.{some}
+use Prim.Native.Nat.{ℕ, zero, suc, _+_, _%_, _^_, _≤_, _<_}
 use native.Mathlib.Omega.{arith}
 use lib.Dec.{eqb}
-use borrow.Author.Tests.{lt-ltb, le-ltb, eq-eqb, ne-eqb}
+use borrow.Author.Tests.{le-leb, lt-ltb, le-ltb, eq-eqb, ne-eqb}
 use lib.ListN.{length}
 use Rattle.buffer.specs.Bytes.{Bytes, same}
-use Rattle.kind.specs.Kind.{zeroScore}
+use Rattle.kind.specs.Kind.{lawful, zeroScore}
 use Rattle.refusal.specs.declared.Refusal.{Refusal}
 use Rattle.refusal.specs.declared.Refusal.the-variants as why
 use Rattle.sector.specs.declared.SectorNumber.{SectorNumber}
@@ -15,13 +16,13 @@ use Rattle.block.specs.Block.{Row, partsOf}
 use Rattle.block.specs.Log.{sectors}
 use Rattle.log.specs.declared.Look.{Look}
 use Rattle.log.specs.declared.Look.the-variants as look
-use Rattle.log.specs.LookUp.{lookUp}
+use Rattle.log.specs.LookUp.{emptyRow, held, lookUp, counted}
 use Rattle.entry.specs.declared.Entry.{Entry}
 use Rattle.reader.specs.Reader.{bytesAt}
 use Rattle.file.specs.declared.Located.{Located}
 use Rattle.file.specs.declared.Located.the-variants.{Refused}
 use Rattle.file.specs.File.{zeroRun, storedRun, leafRun, fetched, pointer, pointerIndex, leafType, under}
-use Rattle.file.specs.Fetch.{within, handedOn}
+use Rattle.file.specs.Fetch.{startOf, runIn}
 use Rattle.file.proofs.Counted.{Fetched, fetched-refused, fetched-found}
 
 -- ---- a leaf's run
@@ -36,7 +37,7 @@ leaf-in page e offset n size h = rw (lt-ltb (offset % e .dsize) size h)
 
 -- ---- a block that a look-up with a count found
 
-module _ (log : Bytes) (t : ℕ) (s : Bytes) (count : ℕ) (l : Look) (f : SectorNumber) (n : ℕ) (el : l ≡ within count (lookUp log t s)) (q : l ≡ look.Found f n) where
+module _ (log : Bytes) (t : ℕ) (s : Bytes) (count : ℕ) (l : Look) (f : SectorNumber) (n : ℕ) (el : l ≡ counted count (lookUp log t s)) (q : l ≡ look.Found f n) where
   pub found : Fetched log t s count f n
   found = fetched-found log t s count f n (sym q ∙ el)
 
@@ -46,31 +47,62 @@ module _ (log : Bytes) (t : ℕ) (s : Bytes) (count : ℕ) (l : Look) (f : Secto
   pub found-short : n ≤ 57344
   found-short = let F = found in omega (arith, F .size, F .place .not-many)
 
+pub start-most : (log : Bytes) (t : ℕ) (s : Bytes) (count : ℕ) (l : Look) → l ≡ counted count (lookUp log t s) → sectors (length log) ≤ 16 ^ 8 → startOf l ≤ 2 ^ 40
+start-most log t s count l el h = go l refl
+  where
+    go : (x : Look) → l ≡ x → startOf x ≤ 2 ^ 40
+    go (look.Refused w) z = omega arith
+    go (look.Found f n) z = omega (arith, found-room log t s count l f n el z)
+
 -- ---- below a score
 
+lawful-leaf : (b : Bool) → lawful (cond b 2 13) ≡ true
+unfolding lawful
+lawful-leaf true = refl
+lawful-leaf false = refl
+
+held-empty : (log : Bytes) (t : ℕ) (s : Bytes) → lawful t ≡ true → same s zeroScore ≡ true → held log t s ≡ some (emptyRow t)
+unfolding held
+held-empty log t s p q = rw (p, q)
+
 module _ (log : Bytes) (page : ℕ) (e : Entry) (offset : ℕ) where
-  -- a zero score
+  -- a zero score: the leaf is the empty block
   pub under-zero : (level : ℕ) (s : Bytes) (b : Bool) → b ≡ same s zeroScore → b ≡ true → zeroRun page e offset ≡ under log page e offset level s
   unfolding under
   under-zero zero s b p q = rw (sym p ∙ q)
   under-zero (suc d) s b p q = rw (sym p ∙ q)
 
+  pub under-empty : (level : ℕ) (s : Bytes) (b : Bool) (first : ℕ) → b ≡ same s zeroScore → b ≡ true → leafRun page e offset first 0 ≡ under log page e offset level s
+  under-empty level s b first p q = sym (leaf-past page e offset first 0 (omega arith)) ∙ under-zero level s b p q
+
   -- the leaf
-  module _ (s : Bytes) (b : Bool) (p : b ≡ same s zeroScore) (q : b ≡ false) (t : ℕ) (et : t ≡ leafType e) (l : Look) (el : l ≡ within (e .dsize) (lookUp log t s)) where
-    leaf-opened : fetched log t s (e .dsize) (λ (r : Row). leafRun page e offset (r .first) (length (r .bytes))) ≡ under log page e offset 0 s
-    unfolding under
-    leaf-opened = rw (sym p ∙ q, et) refl
+  module _ (s : Bytes) (t : ℕ) (et : t ≡ leafType e) (l : Look) (el : l ≡ counted (e .dsize) (lookUp log t s)) where
+    leaf-run : Row → Located
+    leaf-run r = leafRun page e offset (r .first) (length (r .bytes))
 
-    pub leaf-refused : (y : Refusal) → l ≡ look.Refused y → handedOn l ≡ under log page e offset 0 s
-    leaf-refused y z = ap handedOn z ∙ fetched-refused log t s (e .dsize) _ y (sym z ∙ el) ∙ leaf-opened
+    leaf-looked : runIn page e offset l ≡ fetched log t s (e .dsize) leaf-run
+    unfolding leaf-run
+    leaf-looked = go l refl
+      where
+        go : (x : Look) → l ≡ x → runIn page e offset x ≡ fetched log t s (e .dsize) leaf-run
+        go (look.Refused y) z = fetched-refused log t s (e .dsize) leaf-run y (sym z ∙ el)
+        go (look.Found f n) z =
+            let F = found log t s (e .dsize) l f n el z in
+            ap₂ (leafRun page e offset) (sym (F .first)) (sym (F .size)) ∙ F .is leaf-run
 
-    pub leaf-found : (f : SectorNumber) (n : ℕ) → l ≡ look.Found f n → leafRun page e offset (f .0) n ≡ under log page e offset 0 s
-    leaf-found f n z =
-        let F = found log t s (e .dsize) l f n el z in
-        ap₂ (leafRun page e offset) (sym (F .first)) (sym (F .size)) ∙ F .is (λ (r : Row). leafRun page e offset (r .first) (length (r .bytes))) ∙ leaf-opened
+    -- the zero score's block is the empty one, whose run is of zeros
+    leaf-zero : (b : Bool) → same s zeroScore ≡ b → fetched log t s (e .dsize) leaf-run ≡ under log page e offset 0 s
+    unfolding under leaf-run
+    leaf-zero false q = rw (q, et) refl
+    leaf-zero true q =
+        let h : held log t s ≡ some (emptyRow t) = held-empty log t s (ap lawful et ∙ lawful-leaf (e .directory)) q in
+        rw (h, le-leb 0 (e .dsize) (omega arith)) (under-empty 0 s true 0 (sym q) refl)
+
+    pub leaf-looked-up : runIn page e offset l ≡ under log page e offset 0 s
+    leaf-looked-up = leaf-looked ∙ leaf-zero (same s zeroScore) refl
 
   -- a level above it
-  module _ (level d : ℕ) (le : level ≡ suc d) (s : Bytes) (b : Bool) (p : b ≡ same s zeroScore) (q : b ≡ false) (l : Look) (el : l ≡ within (e .psize) (lookUp log (2 + level) s)) where
+  module _ (level d : ℕ) (le : level ≡ suc d) (s : Bytes) (b : Bool) (p : b ≡ same s zeroScore) (q : b ≡ false) (l : Look) (el : l ≡ counted (e .psize) (lookUp log (2 + level) s)) where
     below : Row → Located
     below r = cond (eqb (length (r .bytes) % 20) 0) (under log page e offset d (pointer (r .bytes) (pointerIndex e offset d))) (Refused why.Pointers)
 
@@ -78,8 +110,8 @@ module _ (log : Bytes) (page : ℕ) (e : Entry) (offset : ℕ) where
     unfolding under below
     level-opened = ap (λ (x : ℕ). fetched log (2 + x) s (e .psize) below) le ∙ sym (ap (λ (x : ℕ). under log page e offset x s) le ∙ rw (sym p ∙ q) refl)
 
-    pub level-refused : (y : Refusal) → l ≡ look.Refused y → handedOn l ≡ under log page e offset level s
-    level-refused y z = ap handedOn z ∙ fetched-refused log (2 + level) s (e .psize) below y (sym z ∙ el) ∙ level-opened
+    pub level-refused : (y : Refusal) → l ≡ look.Refused y → runIn page e offset l ≡ under log page e offset level s
+    level-refused y z = ap (runIn page e offset) z ∙ fetched-refused log (2 + level) s (e .psize) below y (sym z ∙ el) ∙ level-opened
 
     module _ (f : SectorNumber) (n : ℕ) (z : l ≡ look.Found f n) where
       F : Fetched log (2 + level) s (e .psize) f n

@@ -7,15 +7,14 @@ use sector::PAYLOAD;
 use sector::SECTOR;
 use sector::SectorNumber;
 ghost use mathlib.Core.Path.{_≡_};
-ghost use Prim.Native.Nat.{_+_, _*_, _/_, _%_, _^_, _≤_, _<_, min};
+ghost use Prim.Native.Nat.{ℕ, _+_, _*_, _/_, _%_, _^_, _≤_, _<_, min};
 ghost use lib.ListN.{length};
 ghost use Rattle.block.specs.Block.{partsOf};
 ghost use Rattle.block.specs.Log.{sectors};
-ghost use Rattle.log.specs.LookUp.{lookUp};
 ghost use Rattle.reader.specs.Reader.{bytesAt};
 ghost use Rattle.file.specs.File.{zeroRun, placeIn, leafRun, pointer, leafType, under, pageAllowed, entryReadable, located, answerOf};
 ghost use Rattle.file.specs.Run.{runOf};
-ghost use Rattle.file.specs.Fetch.{within, handedOn, Open};
+ghost use Rattle.file.specs.Fetch.{startOf, runIn, Open};
 
 // Where the run at an offset lies: at a byte of the log, or at the front of the page; or why there is none.
 pub enum Located {
@@ -82,34 +81,6 @@ fn pointer_at(log: &[u8], first: SectorNumber, size: usize, index: usize) -> [u8
     score
 }
 
-// Look-up of a block that must not be longer than count.
-fn fetch(log: &[u8], kind: u8, score: &[u8], count: usize) -> Look
-    requires { ⌜ (sectors (length (now log)) ≤ 16 ^ 8) × (length (now score) ≡ 20) ⌝ }
-    ensures { λ r. ⌜ r ≡ within count (lookUp (now (log .entry)) kind (now (score .entry))) ⌝ }
-{
-    let look = lookup::look_up(log, kind, score);
-    let Look::Found { first, size } = look else {
-        return look;
-    };
-    if count < size {
-        return Look::Refused(Refusal::OverCount);
-    }
-    Look::Found {
-        first: first,
-        size: size,
-    }
-}
-
-// A look-up's refusal, handed on.
-fn handed_on(look: Look) -> Located
-    ensures { λ r. ⌜ r ≡ handedOn look ⌝ }
-{
-    match look {
-        Look::Refused(why) => Located::Refused(why),
-        Look::Found { first: _, size: _ } => Located::Refused(Refusal::NotKnown),
-    }
-}
-
 // A run of zeros: the page's front, up to the end of page, leaf or file.
 fn zero_run(page: usize, e: Entry, offset: u64) -> Located
     requires { ⌜ (0 < e .dsize) × (offset < e .size) ⌝ }
@@ -146,26 +117,14 @@ fn leaf_type(e: Entry) -> u8
     13
 }
 
-// The run under a leaf's score.
-fn under_leaf(log: &[u8], page: usize, e: Entry, offset: u64, score: &[u8]) -> Located
-    requires { ⌜ Open (length (now log)) e offset × (length (now score) ≡ 20) ⌝ }
-    ensures { λ r. ⌜ r ≡ under (now (log .entry)) page e offset 0 (now (score .entry)) ⌝ }
-{
-    if kind::is_zero_score(score) {
-        return zero_run(page, e, offset);
-    }
-    let look = fetch(log, leaf_type(e), score, e.dsize);
-    let Look::Found { first, size } = look else {
-        return handed_on(look);
-    };
-    leaf_run(page, e, offset, first, size)
-}
-
-// The run under a score at the top level, from there down to the leaf.
-fn descend(log: &[u8], page: usize, e: Entry, offset: u64, top: &[u8]) -> Located
+// The leaf in which an offset lies, from the score at the top level down; below a zero score it is the empty block. A block that is
+// missing is refused: the look-up's refusal is handed on.
+fn descend(log: &[u8], e: Entry, offset: u64, top: &[u8]) -> Look
     requires { ⌜ Open (length (now log)) e offset × (length (now top) ≡ 20) ⌝ }
-    ensures { λ r. ⌜ r ≡ under (now (log .entry)) page e offset (e .depth) (now (top .entry)) ⌝ }
+    ensures place { λ r. ⌜ startOf r ≤ 2 ^ 40 ⌝ }
+    ensures run { λ r. ⌜ ((page : ℕ) → runIn page e offset r ≡ under (now (log .entry)) page e offset (e .depth) (now (top .entry))) ⌝ }
 {
+    let none = [0u8; 0];
     let mut score = [0u8; 20];
     buffer::copy_at(&mut score, 0, top);
     let leaf = offset / e.dsize as u64;
@@ -173,20 +132,34 @@ fn descend(log: &[u8], page: usize, e: Entry, offset: u64, top: &[u8]) -> Locate
     let mut level = e.depth;
     while 0 < level {
         if kind::is_zero_score(&score) {
-            return zero_run(page, e, offset);
+            return Look::Found {
+                first: SectorNumber(0),
+                size: 0,
+            };
         }
-        let look = fetch(log, (2 + level) as u8, &score, e.psize);
+        let look = lookup::fetch(log, &none, (2 + level) as u8, &score, e.psize);
         let Look::Found { first, size } = look else {
-            return handed_on(look);
+            return look;
         };
         if size % 20 != 0 {
-            return Located::Refused(Refusal::Pointers);
+            return Look::Refused(Refusal::Pointers);
         }
         level -= 1;
         let index = digit(leaf, p, level);
         score = pointer_at(log, first, size, index as usize);
     }
-    under_leaf(log, page, e, offset, &score)
+    lookup::fetch(log, &none, leaf_type(e), &score, e.dsize)
+}
+
+// The run in the leaf that was found, or why there is none.
+fn run_in(look: Look, page: usize, e: Entry, offset: u64) -> Located
+    requires { ⌜ (startOf look ≤ 2 ^ 40) × (0 < e .dsize) × (e .dsize ≤ 57344) × (offset < e .size) ⌝ }
+    ensures { λ r. ⌜ r ≡ runIn page e offset look ⌝ }
+{
+    match look {
+        Look::Found { first, size } => leaf_run(page, e, offset, first, size),
+        Look::Refused(why) => Located::Refused(why),
+    }
 }
 
 // Whether a page is not empty and all zeros.
@@ -230,7 +203,8 @@ pub fn locate(log: &[u8], page: &[u8], entry: &[u8], offset: u64) -> Located
     if e.size <= offset {
         return Located::Refused(Refusal::Offset);
     }
-    descend(log, page.len(), e, offset, &entry[20..40])
+    let look = descend(log, e, offset, &entry[20..40]);
+    run_in(look, page.len(), e, offset)
 }
 
 // The bytes themselves: a part of the log or of the page; an empty part of the page on a refusal.

@@ -1,5 +1,5 @@
 -- Laws for the scans of a log: `Blocks`, what it holds; `Records`, how many; `First`, the first of a type and score; `Doubt`, what is
--- doubtful; `Written`, after an append. `Cases`: options and tests taken apart; `InBlock`: sectors in and outside of a list of blocks.
+-- doubtful; `Written`, after an append; `Alike`, of two logs with the same sectors; `Parts`, of a log and what waits behind it; `Counted`, look-up with a count. `Cases`: options and tests taken apart; `InBlock`: sectors in and outside of a list of blocks.
 pub mod Cases
 pub mod Blocks
 pub mod Records
@@ -8,3 +8,6 @@ pub mod InBlock
 pub mod Doubt
 pub mod FirstDoubt
 pub mod Written
+pub mod Alike
+pub mod Parts
+pub mod Counted

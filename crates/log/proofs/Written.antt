@@ -32,7 +32,7 @@ first-front t s (x ∷ xs) ys r e = go (eqb (x .kind) t && same (x .score) s) e 
     go false e f = f e
 
 -- the same sound blocks at each of k sectors
-same-blocks : (log log′ : Bytes) (k n : ℕ) → ((m : ℕ) → m < n + k → sound log′ m ≡ sound log m) → blocksFrom log′ k n ≡ blocksFrom log k n
+pub same-blocks : (log log′ : Bytes) (k n : ℕ) → ((m : ℕ) → m < n + k → sound log′ m ≡ sound log m) → blocksFrom log′ k n ≡ blocksFrom log k n
 unfolding blocksFrom
 same-blocks log log′ zero n f = refl
 same-blocks log log′ (suc k) n f = rw (f n (omega arith), same-blocks log log′ k (suc n) (λ m h. f m (omega arith)))

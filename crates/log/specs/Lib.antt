@@ -1,2 +1,3 @@
 pub mod LookUp
 pub mod Store
+pub mod Parts

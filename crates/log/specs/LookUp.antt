@@ -7,10 +7,12 @@ use lib.Dec.{leb, ltb, eqb}
 use lib.ListN.{length}
 use Rattle.buffer.specs.Bytes.{Bytes, same}
 use Rattle.kind.specs.Kind.{lawful, zeroScore}
+use Rattle.refusal.specs.Number.{numberOf}
 use Rattle.refusal.specs.declared.Refusal.{Refusal}
-use Rattle.refusal.specs.declared.Refusal.the-variants.{LogLength, BlockType, NotHeld, NotKnown}
+use Rattle.refusal.specs.declared.Refusal.the-variants.{LogLength, BlockType, NotHeld, NotKnown, OverCount}
 use Rattle.block.specs.Block.{Row, parts}
 use Rattle.block.specs.Log.{sectors, used, sound}
+use Rattle.log.specs.Parts.{tape}
 use Rattle.log.specs.declared.Look.{Look}
 use Rattle.log.specs.declared.Look.the-variants.{Found, Refused}
 
@@ -68,6 +70,20 @@ absence log = cond (eqb (doubtful log) 0) NotHeld NotKnown
 unfoldable pub lookUp : Bytes → ℕ → Bytes → Look
 lookUp log t s = on (held log t s) (Refused (absence log)) (λ r. Found (record { 0 = r .first }) (length (r .bytes)))
 
+-- 13 is "block longer than count"
+abbrev pub counted : ℕ → Look → Look
+counted count (Found first size) = cond (ltb count size) (Refused OverCount) (Found first size)
+counted count (Refused w) = Refused w
+
+-- "gives this paper's number and values": a look-up's number, 0 where it finds a block, and then the block's first sector and size
+abbrev pub lookNumber : Look → ℕ
+lookNumber (Found first size) = 0
+lookNumber (Refused w) = numberOf w
+
+abbrev pub lookPlace : Look → Option (ℕ × ℕ)
+lookPlace (Found first size) = some (first .0, size)
+lookPlace (Refused w) = none
+
 -- "The limit of 131,072 sectors becomes 1,048,576, with refusal 3 beyond it"
 abbrev pub mostSectors : ℕ
 mostSectors = 1048576
@@ -76,6 +92,6 @@ mostSectors = 1048576
 unfoldable pub logAllowed : ℕ → Bool
 logAllowed m = cond (eqb (m % 512) 0) (leb (m / 512) mostSectors) false
 
--- look-up asked outside messages: tests 3, 9, then the look-up
-unfoldable pub lookUpAsked : Bytes → ℕ → Bytes → Look
-lookUpAsked log t s = cond (logAllowed (length log)) (cond (lawful t) (lookUp log t s) (Refused BlockType)) (Refused LogLength)
+-- look-up asked outside messages: tests 3, 9, then the look-up in the log and what waits behind its used part
+unfoldable pub lookUpAsked : Bytes → Bytes → ℕ → Bytes → Look
+lookUpAsked log waiting t s = cond (logAllowed (length log)) (cond (lawful t) (lookUp (tape log waiting) t s) (Refused BlockType)) (Refused LogLength)

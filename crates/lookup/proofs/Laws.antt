@@ -1,36 +1,38 @@
 -- Case laws of the look-up's functions.
-use mathlib.Core.Path.{_≡_, refl, sym, ap, _∙_}
+use mathlib.Core.Path.{_≡_, refl, sym, ap, ap₂, _∙_}
 use mathlib.Core.Bool.{Bool, true, false, cond, _&&_, true≢false}
 use mathlib.Core.Option.{Option, none, some}
 use mathlib.Core.List.{List}
-use Prim.Native.Nat.{ℕ, zero, suc, _+_, _-_, _*_, _/_, _%_, _≤_, _<_}
+use Prim.Native.Nat.{ℕ, zero, suc, _+_, _-_, _/_, _%_, _≤_, _<_}
 use native.Mathlib.Omega.{arith}
 use native.Mathlib.Numerals.{add-one}
 use lib.Dec.{leb, eqb}
-use borrow.Author.Tests.{eq-eqb, ne-eqb, leb-true}
-use lib.ListN.{length, take, drop}
-use lib.Seq.{drop-drop}
+use borrow.Author.Tests.{eq-eqb, ne-eqb, leb-true, lt-ltb, le-ltb}
+use lib.ListN.{length}
 use Rattle.buffer.specs.Bytes.{Bytes, same}
-use Rattle.buffer.proofs.Parts.{part-within}
 use Rattle.word.specs.Hex.{hexBytes}
 use Rattle.sector.specs.Sector.{scoreDigits}
 use Rattle.block.specs.Block.{Row, parts, partsOf}
-use Rattle.block.specs.Log.{sectors, at, used, sound, soundAs}
-use Rattle.block.proofs.At.{at-piece}
+use Rattle.block.specs.Log.{sectors, at, Alike, joined, used, sound, soundAs}
+use Rattle.block.proofs.Used.{used-le-sectors}
+use Rattle.block.proofs.Joined.{at-alone, used-joined}
 use Rattle.block.proofs.Facts.{valid-facts}
 use Rattle.block.proofs.Sound.{sound-reads, as-reads, as-digits}
 use Rattle.block.proofs.Apart.{sound-used}
 use Rattle.reader.specs.Reader.{sizeOf}
 use Rattle.kind.specs.Kind.{lawful, zeroScore}
 use Rattle.refusal.specs.declared.Refusal.{Refusal}
-use Rattle.refusal.specs.declared.Refusal.the-variants.{LogLength, BlockType}
+use Rattle.refusal.specs.declared.Refusal.the-variants.{LogLength, BlockType, NotHeld, NotKnown, OverCount}
 use Rattle.sector.specs.declared.SectorNumber.{SectorNumber}
 use Rattle.log.specs.declared.Look.{Look}
 use Rattle.log.specs.declared.Look.the-variants.{Found, Refused}
-use Rattle.log.specs.LookUp.{on, blocks, blocksFrom, firstOf, outside, firstDoubtful, mostSectors, logAllowed, held, absence, lookUp, lookUpAsked}
+use Rattle.log.specs.LookUp.{on, blocks, blocksFrom, firstOf, outside, firstDoubtful, mostSectors, logAllowed, held, absence, lookUp, counted, lookUpAsked}
+use Rattle.log.specs.Parts.{tape}
 use Rattle.log.proofs.First.{first-none, first-some}
 use Rattle.log.proofs.Doubt.{Walked, walked-some, doubtful-at, doubt-some}
-use Rattle.log.proofs.FirstDoubt.{first-at, first-end}
+use Rattle.log.proofs.FirstDoubt.{first-at, first-end, absence-known, absence-held}
+use Rattle.log.proofs.Alike.{blocks-alike}
+use Rattle.log.proofs.Parts.{tape-alone}
 use Rattle.lookup.specs.Place.{placeOf}
 use Rattle.lookup.specs.declared.Place.{Place}
 use Rattle.lookup.specs.declared.Place.the-variants.{At, Nowhere}
@@ -59,25 +61,15 @@ none-sound log n k e z = sized-none (sound log n) (λ r q. (valid-facts r ((soun
 pub none-as : (log : Bytes) (n t : ℕ) (s : Bytes) (k : ℕ) → k ≡ sizeOf (soundAs log n t s) → k ≡ 0 → soundAs log n t s ≡ none
 none-as log n t s k e z = sized-none (soundAs log n t s) (λ r q. (valid-facts r ((sound-reads log n r ((as-reads log n t s r q) .0)) .0)) .some-bytes) (sym z ∙ e)
 
--- the digits of the score in sector n, where the code reads them
-digits-place : (log : Bytes) (n : ℕ) → n < sectors (length log) → scoreDigits (at log n) ≡ take (n * 512 + 55 + 40 - (n * 512 + 55)) (drop (n * 512 + 55) log)
-digits-place log n h =
-    let k : n * 512 + 55 + 40 - (n * 512 + 55) ≡ 40 = omega arith in
-    let m : 512 * n + 55 ≡ n * 512 + 55 = omega arith in
-    ap scoreDigits (at-piece log n h)
-    ∙ part-within 40 55 512 (drop (512 * n) log) (omega arith)
-    ∙ ap (take 40) (drop-drop 55 (512 * n) log ∙ ap (λ (x : ℕ). drop x log) m)
-    ∙ ap (λ (x : ℕ). take x (drop (n * 512 + 55) log)) (sym k)
-
--- other digits: no such block
-pub other-digits : (log : Bytes) (n t : ℕ) (s d : Bytes) (b : Bool) → n < sectors (length log) → d ≡ hexBytes s
-    → b ≡ same (take (n * 512 + 55 + 40 - (n * 512 + 55)) (drop (n * 512 + 55) log)) d → b ≡ false → soundAs log n t s ≡ none
-other-digits log n t s d b h e q z = go (soundAs log n t s) refl
+-- other digits than the score's in sector n: no such block
+pub other-digits : (log : Bytes) (n t : ℕ) (s d x : Bytes) (b : Bool) → x ≡ at log n → d ≡ hexBytes s → b ≡ same (scoreDigits x) d → b ≡ false
+    → soundAs log n t s ≡ none
+other-digits log n t s d x b e f q z = go (soundAs log n t s) refl
   where
     go : (o : Option Row) → soundAs log n t s ≡ o → soundAs log n t s ≡ none
     go none p = p
     go (some r) p =
-        absurd (true≢false (sym (as-digits log n t s r p) ∙ ap (λ (x : Bytes). same x (hexBytes s)) (digits-place log n h) ∙ ap (same (take (n * 512 + 55 + 40 - (n * 512 + 55)) (drop (n * 512 + 55) log))) (sym e) ∙ sym q ∙ z))
+        absurd (true≢false (sym (as-digits log n t s r p) ∙ ap (λ (y : Bytes). same (scoreDigits y) (hexBytes s)) (sym e) ∙ ap (same (scoreDigits x)) (sym f) ∙ sym q ∙ z))
 
 -- one turn of the look-up's loop
 module _ (log : Bytes) (n t : ℕ) (s : Bytes) (h : n < sectors (length log)) (inv : firstOf t s (blocksFrom log (sectors (length log) - n) n) ≡ firstOf t s (blocks log)) where
@@ -111,11 +103,12 @@ Passed log n = Walked log n × (outside (blocks log) n ≡ 0)
 pub walk-stops : (log : Bytes) (n k : ℕ) → Passed log n → n < used log → k ≡ sizeOf (sound log n) → k ≡ 0 → n ≡ firstDoubtful log
 walk-stops log n k p h e z = sym (first-at log n (p .1) h (doubtful-at log n (p .0) (none-sound log n k e z)))
 
-pub walk-on : (log : Bytes) (n k : ℕ) → Passed log n → k ≡ sizeOf (sound log n) → (k ≡ 0 → ⊥) → (n + (k + 402) / 403 ≤ used log) × (0 < (k + 402) / 403) × Passed log (n + (k + 402) / 403)
+-- past a sound block of k bytes, m sectors
+pub walk-on : (log : Bytes) (n k m : ℕ) → Passed log n → k ≡ sizeOf (sound log n) → (k ≡ 0 → ⊥) → m ≡ partsOf k → (n + m ≤ used log) × (0 < m) × Passed log (n + m)
 unfolding partsOf
-walk-on log n k p e z =
+walk-on log n k m p e z f =
     let r = sized (sound log n) k e (omega arith) in
-    let m : (k + 402) / 403 ≡ parts (r .0) = ap (λ (x : ℕ). (x + 402) / 403) (r .2) in (
+    let m : m ≡ parts (r .0) = f ∙ ap partsOf (r .2) in (
       rw m (sound-used log n (r .0) (r .1)),
       omega arith,
       (rw m (walked-some log n (r .0) (p .0) (r .1)), rw m (doubt-some log n (r .0) (r .1) ∙ p .1)),
@@ -169,18 +162,29 @@ pub look-some : (log : Bytes) (t : ℕ) (s : Bytes) (p : Place) (f : SectorNumbe
 unfolding lookUp
 look-some log t s p f n e z = look-found (held log t s) (absence log) p f n e z
 
+-- the count
+pub count-refused : (count : ℕ) (l w : Look) (y : Refusal) → l ≡ w → l ≡ Refused y → l ≡ counted count w
+count-refused count l w y e z = z ∙ ap (counted count) (sym z ∙ e)
+
+pub count-over : (count : ℕ) (l w : Look) (f : SectorNumber) (n : ℕ) → l ≡ w → l ≡ Found f n → count < n → Refused OverCount ≡ counted count w
+count-over count l w f n e z h = rw (sym e ∙ z, lt-ltb count n h)
+
+pub count-found : (count : ℕ) (l w : Look) (f : SectorNumber) (n : ℕ) → l ≡ w → l ≡ Found f n → n ≤ count → Found f n ≡ counted count w
+count-found count l w f n e z h = rw (sym e ∙ z, le-ltb count n h)
+
 -- the public look-up
-pub ask-log : (log : Bytes) (t : ℕ) (s : Bytes) (a : Bool) → a ≡ logAllowed (length log) → a ≡ false → Refused LogLength ≡ lookUpAsked log t s
-unfolding lookUpAsked
-ask-log log t s a p q = rw (sym p ∙ q)
+module _ (log waiting : Bytes) (t : ℕ) (s : Bytes) (a : Bool) (p : a ≡ logAllowed (length log)) where
+  pub ask-log : a ≡ false → Refused LogLength ≡ lookUpAsked log waiting t s
+  unfolding lookUpAsked
+  ask-log q = rw (sym p ∙ q)
 
-pub ask-kind : (log : Bytes) (t : ℕ) (s : Bytes) (a b : Bool) → a ≡ logAllowed (length log) → a ≡ true → b ≡ lawful t → b ≡ false → Refused BlockType ≡ lookUpAsked log t s
-unfolding lookUpAsked
-ask-kind log t s a b p q u v = rw (sym p ∙ q, sym u ∙ v)
+  pub ask-kind : (b : Bool) → a ≡ true → b ≡ lawful t → b ≡ false → Refused BlockType ≡ lookUpAsked log waiting t s
+  unfolding lookUpAsked
+  ask-kind b q u v = rw (sym p ∙ q, sym u ∙ v)
 
-pub ask-look : (log : Bytes) (t : ℕ) (s : Bytes) (r : Look) (a b : Bool) → a ≡ logAllowed (length log) → a ≡ true → b ≡ lawful t → b ≡ true → r ≡ lookUp log t s → r ≡ lookUpAsked log t s
-unfolding lookUpAsked
-ask-look log t s r a b p q u v e = rw (sym p ∙ q, sym u ∙ v) e
+  pub ask-look : (b : Bool) (r : Look) → a ≡ true → b ≡ lawful t → b ≡ true → r ≡ lookUp (tape log waiting) t s → r ≡ lookUpAsked log waiting t s
+  unfolding lookUpAsked
+  ask-look b r q u v e = rw (sym p ∙ q, sym u ∙ v) e
 
 pub allowed-sectors : (m : ℕ) (a : Bool) → a ≡ logAllowed m → a ≡ true → m / 512 ≤ mostSectors
 unfolding logAllowed
@@ -189,3 +193,29 @@ allowed-sectors m a p q = go (eqb (m % 512) 0) refl
     go : (b : Bool) → eqb (m % 512) 0 ≡ b → m / 512 ≤ mostSectors
     go true e = leb-true (m / 512) mostSectors (rw e at (sym p ∙ q))
     go false e = absurd (true≢false (sym (rw e at (sym p ∙ q))))
+
+-- where the waiting sectors are read on from
+pub border-used : (u : ℕ) (log waiting : Bytes) → u ≡ used log → (u ≤ sectors (length log)) × Alike (joined u log waiting) (tape log waiting)
+border-used u log waiting e = (omega (arith, used-le-sectors log), λ n. ap (λ (x : ℕ). at (joined x log waiting) n) e)
+
+pub border-whole : (log waiting : Bytes) (w : ℕ) → w ≡ used waiting → w ≤ 0 → Alike (joined (sectors (length log)) log waiting) (tape log waiting)
+border-whole log waiting w e h n =
+    let z : used waiting ≡ 0 = omega arith in
+    at-alone (sectors (length log)) log waiting (omega arith) (used-le-sectors log) z n ∙ sym (tape-alone log waiting z n)
+
+-- the used part of both
+pub used-both : (log waiting : Bytes) (u w m : ℕ) → u ≡ used log → w ≡ used waiting → m ≡ u + w → m ≡ used (joined u log waiting)
+used-both log waiting u w m a b e = e ∙ ap₂ (λ (x y : ℕ). x + y) a b ∙ sym (used-joined log waiting) ∙ ap (λ (x : ℕ). used (joined x log waiting)) (sym a)
+
+-- what is found by any border
+pub find-border : (log waiting : Bytes) (u t : ℕ) (s : Bytes) (r : Place) → Alike (joined u log waiting) (tape log waiting)
+    → r ≡ placeOf (firstOf t s (blocks (joined u log waiting))) → r ≡ placeOf (firstOf t s (blocks (tape log waiting)))
+find-border log waiting u t s r f e = e ∙ ap (λ (l : List Row). placeOf (firstOf t s l)) (blocks-alike (joined u log waiting) (tape log waiting) f)
+
+-- why a block is missing, by the first doubtful sector n and the end m of the used part of both
+module _ (log waiting : Bytes) (u n m : ℕ) (e : u ≡ used log) (p : n ≡ firstDoubtful (joined u log waiting)) (q : m ≡ used (joined u log waiting)) where
+  pub absent-known : n < m → NotKnown ≡ absence (tape log waiting)
+  absent-known h = sym (absence-known (joined u log waiting) (omega arith)) ∙ ap (λ (x : ℕ). absence (joined x log waiting)) e
+
+  pub absent-held : m ≤ n → NotHeld ≡ absence (tape log waiting)
+  absent-held h = sym (absence-held (joined u log waiting) (omega arith)) ∙ ap (λ (x : ℕ). absence (joined x log waiting)) e

@@ -1,15 +1,14 @@
-// Look-up of a score and type in a log, by scan.
+// Look-up of a score and type by scan, in a log and the sectors that wait behind its used part, read as one log.
 use log::Look;
 use refusal::Refusal;
-use sector::PAYLOAD;
 use sector::SECTOR;
 use sector::SectorNumber;
 ghost use mathlib.Core.Path.{_≡_};
-ghost use mathlib.Core.Bool.{true};
-ghost use Prim.Native.Nat.{_≤_, _^_};
+ghost use Prim.Native.Nat.{_+_, _≤_};
 ghost use lib.ListN.{length};
-ghost use Rattle.block.specs.Log.{sectors, used};
-ghost use Rattle.log.specs.LookUp.{blocks, firstOf, held, absence, lookUp, lookUpAsked, firstDoubtful, logAllowed};
+ghost use Rattle.block.specs.Log.{sectors, Alike, joined, used};
+ghost use Rattle.log.specs.Parts.{tape};
+ghost use Rattle.log.specs.LookUp.{blocks, firstOf, held, absence, lookUp, counted, lookNumber, lookUpAsked, firstDoubtful, logAllowed};
 ghost use Rattle.lookup.specs.Place.{placeOf};
 
 // The most sectors of a log.
@@ -19,6 +18,16 @@ pub const MOST_SECTORS: usize = 1048576;
 pub enum Place {
     At { first: SectorNumber, size: usize },
     Nowhere,
+}
+
+// The number of a look-up: 0 for a block that is found.
+pub fn number(look: Look) -> u8
+    ensures { λ r. ⌜ r ≡ lookNumber look ⌝ }
+{
+    match look {
+        Look::Found { first: _, size: _ } => 0,
+        Look::Refused(why) => refusal::number(why),
+    }
 }
 
 // Whether a log is whole sectors, and not too many.
@@ -31,20 +40,32 @@ pub fn is_allowed(length: usize) -> bool
     length / SECTOR <= MOST_SECTORS
 }
 
+// Where the waiting sectors are read on from: the end of the used part. Where nothing waits the end of the log does as well, and nobody
+// needs to look for the end of the used part.
+pub fn border(log: &[u8], waiting: &[u8]) -> SectorNumber
+    ensures within { λ r. ⌜ r .0 ≤ sectors (length (now (log .entry))) ⌝ }
+    ensures alike { λ r. ⌜ Alike (joined (r .0) (now (log .entry)) (now (waiting .entry))) (tape (now (log .entry)) (now (waiting .entry))) ⌝ }
+{
+    let waits = reader::used_part(waiting);
+    if 0 < waits.0 {
+        return reader::used_part(log);
+    }
+    SectorNumber(log.len() / SECTOR)
+}
+
 // The first sound block of a type and score. Only a block whose label has the score is looked at.
-fn find(log: &[u8], kind: u8, score: &[u8]) -> Place
-    requires { ⌜ (sectors (length (now log)) ≤ 16 ^ 8) × (length (now score) ≡ 20) ⌝ }
-    ensures { λ r. ⌜ r ≡ placeOf (firstOf kind (now (score .entry)) (blocks (now (log .entry)))) ⌝ }
+fn find<'a>(log: &'a [u8], end: SectorNumber, waiting: &'a [u8], kind: u8, score: &[u8]) -> Place
+    requires { ⌜ (end .0 ≤ sectors (length (now log))) × (length (now score) ≡ 20) ⌝ }
+    ensures { λ r. ⌜ r ≡ placeOf (firstOf kind (now (score .entry)) (blocks (joined (end .0) (now (log .entry)) (now (waiting .entry))))) ⌝ }
 {
     let mut digits = [0u8; 40];
     word::hex::put_hex_bytes(&mut digits, score);
-    let count = log.len() / SECTOR;
+    let count = end.0 + waiting.len() / SECTOR;
     let mut n: usize = 0;
     while n < count {
-        let from = n * SECTOR + 55;
-        let end = from + 40;
-        if buffer::equal(&log[from..end], &digits) {
-            let size = reader::sound_as(log, SectorNumber(n), kind, score);
+        let s = reader::sector_at(log, end, waiting, SectorNumber(n));
+        if buffer::equal(&s[55..95], &digits) {
+            let size = reader::sound_as(log, end, waiting, SectorNumber(n), kind, score);
             if 0 < size {
                 return Place::At {
                     first: SectorNumber(n),
@@ -58,9 +79,9 @@ fn find(log: &[u8], kind: u8, score: &[u8]) -> Place
 }
 
 // What look-up finds: the empty block for the zero score, else the first sound block.
-pub fn find_held(log: &[u8], kind: u8, score: &[u8]) -> Place
-    requires { ⌜ (sectors (length (now log)) ≤ 16 ^ 8) × (length (now score) ≡ 20) ⌝ }
-    ensures { λ r. ⌜ r ≡ placeOf (held (now (log .entry)) kind (now (score .entry))) ⌝ }
+pub fn find_held<'a>(log: &'a [u8], waiting: &'a [u8], kind: u8, score: &[u8]) -> Place
+    requires { ⌜ length (now score) ≡ 20 ⌝ }
+    ensures { λ r. ⌜ r ≡ placeOf (held (tape (now (log .entry)) (now (waiting .entry))) kind (now (score .entry))) ⌝ }
 {
     if kind::is_lawful(kind) {
         if kind::is_zero_score(score) {
@@ -70,46 +91,53 @@ pub fn find_held(log: &[u8], kind: u8, score: &[u8]) -> Place
             };
         }
     }
-    find(log, kind, score)
+    let end = border(log, waiting);
+    find(log, end, waiting, kind, score)
 }
 
-// The first doubtful sector, or the end of the used part where there is none: past a sound block at once, past nothing else.
-pub fn first_doubtful(log: &[u8], end: usize) -> usize
-    requires { ⌜ (sectors (length (now log)) ≤ 16 ^ 8) × (end ≡ used (now log)) ⌝ }
-    ensures { λ r. ⌜ r ≡ firstDoubtful (now (log .entry)) ⌝ }
+// The first doubtful sector, or the end of the used part, `last`, where there is none: past a sound block at once, past nothing else.
+pub fn first_doubtful<'a>(
+    log: &'a [u8],
+    end: SectorNumber,
+    waiting: &'a [u8],
+    last: SectorNumber,
+) -> SectorNumber
+    requires { ⌜ (end .0 ≤ sectors (length (now log))) × (last .0 ≡ used (joined (end .0) (now log) (now waiting))) ⌝ }
+    ensures { λ r. ⌜ r .0 ≡ firstDoubtful (joined (end .0) (now (log .entry)) (now (waiting .entry))) ⌝ }
 {
     let mut n: usize = 0;
-    while n < end {
-        let size = reader::sound_at(log, SectorNumber(n));
+    while n < last.0 {
+        let size = reader::sound_at(log, end, waiting, SectorNumber(n));
         if size == 0 {
-            return n;
+            return SectorNumber(n);
         }
-        n += (size + 402) / PAYLOAD;
+        n += block::parts_of(size);
     }
-    end
+    last
 }
 
 // Why a block that wasn't found is missing: not known if any sector is doubtful, else not held.
-pub fn why_absent(log: &[u8]) -> Refusal
-    requires { ⌜ sectors (length (now log)) ≤ 16 ^ 8 ⌝ }
-    ensures { λ r. ⌜ r ≡ absence (now (log .entry)) ⌝ }
+pub fn why_absent<'a>(log: &'a [u8], waiting: &'a [u8]) -> Refusal
+    ensures { λ r. ⌜ r ≡ absence (tape (now (log .entry)) (now (waiting .entry))) ⌝ }
 {
     let end = reader::used_part(log);
-    let n = first_doubtful(log, end);
-    if n < end {
+    let waits = reader::used_part(waiting);
+    let last = end.0 + waits.0;
+    let n = first_doubtful(log, end, waiting, SectorNumber(last));
+    if n.0 < last {
         return Refusal::NotKnown;
     }
     Refusal::NotHeld
 }
 
 // Look-up of a score and type.
-pub fn look_up(log: &[u8], kind: u8, score: &[u8]) -> Look
-    requires { ⌜ (sectors (length (now log)) ≤ 16 ^ 8) × (length (now score) ≡ 20) ⌝ }
-    ensures { λ r. ⌜ r ≡ lookUp (now (log .entry)) kind (now (score .entry)) ⌝ }
+pub fn look_up<'a>(log: &'a [u8], waiting: &'a [u8], kind: u8, score: &[u8]) -> Look
+    requires { ⌜ length (now score) ≡ 20 ⌝ }
+    ensures { λ r. ⌜ r ≡ lookUp (tape (now (log .entry)) (now (waiting .entry))) kind (now (score .entry)) ⌝ }
 {
-    let place = find_held(log, kind, score);
+    let place = find_held(log, waiting, kind, score);
     let Place::At { first, size } = place else {
-        return Look::Refused(why_absent(log));
+        return Look::Refused(why_absent(log, waiting));
     };
     Look::Found {
         first: first,
@@ -117,9 +145,27 @@ pub fn look_up(log: &[u8], kind: u8, score: &[u8]) -> Look
     }
 }
 
-// The public look-up: any log, type and score.
-pub fn ask(log: &[u8], kind: u8, score: &[u8; 20]) -> Look
-    ensures { λ r. ⌜ r ≡ lookUpAsked (now (log .entry)) kind (now (score .entry)) ⌝ }
+// Look-up of a block that must not be longer than count. The refusal of a missing one is handed on.
+pub fn fetch<'a>(log: &'a [u8], waiting: &'a [u8], kind: u8, score: &[u8], count: usize) -> Look
+    requires { ⌜ length (now score) ≡ 20 ⌝ }
+    ensures { λ r. ⌜ r ≡ counted count (lookUp (tape (now (log .entry)) (now (waiting .entry))) kind (now (score .entry))) ⌝ }
+{
+    let look = look_up(log, waiting, kind, score);
+    let Look::Found { first, size } = look else {
+        return look;
+    };
+    if count < size {
+        return Look::Refused(Refusal::OverCount);
+    }
+    Look::Found {
+        first: first,
+        size: size,
+    }
+}
+
+// The public look-up: any log, waiting part, type and score.
+pub fn ask<'a>(log: &'a [u8], waiting: &'a [u8], kind: u8, score: &[u8; 20]) -> Look
+    ensures { λ r. ⌜ r ≡ lookUpAsked (now (log .entry)) (now (waiting .entry)) kind (now (score .entry)) ⌝ }
 {
     if !is_allowed(log.len()) {
         return Look::Refused(Refusal::LogLength);
@@ -127,5 +173,5 @@ pub fn ask(log: &[u8], kind: u8, score: &[u8; 20]) -> Look
     if !kind::is_lawful(kind) {
         return Look::Refused(Refusal::BlockType);
     }
-    look_up(log, kind, score)
+    look_up(log, waiting, kind, score)
 }

@@ -7,7 +7,7 @@ ghost use Prim.Native.Nat.{_+_, _≤_, _<_, _^_};
 ghost use lib.ListN.{length};
 ghost use Rattle.buffer.specs.Bytes.{put};
 ghost use Rattle.sector.specs.Sector.{line};
-ghost use Rattle.block.specs.Log.{sectors, used};
+ghost use Rattle.block.specs.Log.{used};
 ghost use Rattle.log.specs.LookUp.{mostSectors};
 ghost use Rattle.report.specs.Report.{decimal, verdictName, verdict, surveyOf, textOf, reportText, outcome, reportOf};
 
@@ -24,15 +24,17 @@ pub enum Reported {
 }
 
 // One walk from the front to the end of the used part: past a sound block at once, past any other sector by one.
-fn scan(log: &[u8], end: usize) -> Survey
-    requires { ⌜ (sectors (length (now log)) ≤ 16 ^ 8) × (end ≡ used (now log)) ⌝ }
+fn scan(log: &[u8], end: SectorNumber) -> Survey
+    requires { ⌜ end .0 ≡ used (now log) ⌝ }
     ensures { λ r. ⌜ r ≡ surveyOf (now (log .entry)) ⌝ }
 {
+    let none = [0u8; 0];
+    let whole = SectorNumber(log.len() / SECTOR);
     let mut records: usize = 0;
     let mut doubtful: usize = 0;
     let mut n: usize = 0;
-    while n < end {
-        let size = reader::sound_at(log, SectorNumber(n));
+    while n < end.0 {
+        let size = reader::sound_at(log, whole, &none, SectorNumber(n));
         if size == 0 {
             doubtful += 1;
             n += 1;
@@ -108,5 +110,5 @@ pub fn report(log: &[u8], buffer: &mut [u8]) -> Reported
     let count = log.len() / SECTOR;
     let end = reader::used_part(log);
     let s = scan(log, end);
-    Reported::Written(write_text(buffer, count, end, s))
+    Reported::Written(write_text(buffer, count, end.0, s))
 }

@@ -22,11 +22,11 @@ fn append_new(log: &mut [u8], kind: u8, score: &[u8; 20], data: &[u8]) -> Stored
 {
     let used = reader::used_part(log);
     let count = block::parts_of(data.len());
-    if log.len() / SECTOR - used < count {
+    if log.len() / SECTOR - used.0 < count {
         return Stored::Refused(Refusal::NoRoom);
     }
-    append::append_block(log, SectorNumber(used), kind, score, data);
-    Stored::New(SectorNumber(used))
+    append::append_block(log, used, kind, score, data);
+    Stored::New(used)
 }
 
 // A block that look-up found: a duplicate if it has these very bytes, else a clash.
@@ -37,7 +37,9 @@ fn compare(log: &[u8], first: SectorNumber, size: usize, data: &[u8]) -> Stored
     if size != data.len() {
         return Stored::Refused(Refusal::Clash);
     }
-    if reader::same_bytes(log, first, data) {
+    let none = [0u8; 0];
+    let end = SectorNumber(log.len() / SECTOR);
+    if reader::same_bytes(log, end, &none, first, data) {
         return Stored::Duplicate(first);
     }
     Stored::Refused(Refusal::Clash)
@@ -49,7 +51,8 @@ pub fn store(log: &mut [u8], kind: u8, data: &[u8]) -> Receipt
     ensures { λ r. ⌜ after r (now (log .exit)) ≡ storeOf (now (log .entry)) kind (now («data» .entry)) ⌝ }
 {
     let score = sha1::sha1(data);
-    let place = lookup::find_held(log, kind, &score);
+    let none = [0u8; 0];
+    let place = lookup::find_held(log, &none, kind, &score);
     let Place::At { first, size } = place else {
         let stored = append_new(log, kind, &score, data);
         return Receipt {

@@ -17,13 +17,13 @@ use Rattle.block.specs.Log.{sectors, sound}
 use Rattle.reader.specs.Reader.{bytesAt}
 use Rattle.log.specs.declared.Look.{Look}
 use Rattle.log.specs.declared.Look.the-variants.{Found, Refused}
-use Rattle.log.specs.LookUp.{on, held, absence, lookUp, emptyRow}
+use Rattle.log.specs.LookUp.{on, held, absence, lookUp, counted, emptyRow}
 use Rattle.lookup.proofs.Held.{held-stands}
 use Rattle.walk.specs.declared.Walked.{Walked}
 use Rattle.walk.specs.declared.Met.{Met}
 use Rattle.walk.specs.declared.End.the-variants.{Refused as Stopped}
 use Rattle.walk.specs.Walk.{walked, more, visiting}
-use Rattle.walk.specs.Met.{met, counted, metOf, answerOf}
+use Rattle.walk.specs.Met.{met, metOf, answerOf}
 
 pos : (n : ℕ) → (n ≡ 0 → ⊥) → 0 < n
 pos n h = omega arith
@@ -102,18 +102,9 @@ module _ (log : Bytes) (nest left kind count : ℕ) (score : Bytes) where
     unfolding metOf
     met-spent e = rw (le-ltb 16 nest h, eq-eqb left 0 e)
 
-    module _ (k : left ≡ 0 → ⊥) (l : Look) (e : l ≡ lookUp log kind score) where
-      pub met-refused : (why : Refusal) → l ≡ Refused why → met 1 l ≡ metOf log nest left kind count score
-      unfolding metOf
-      met-refused why d = rw (le-ltb 16 nest h, ne-eqb left 0 k, ← e, d)
-
-      pub met-over : (f : SectorNumber) (n : ℕ) → l ≡ Found f n → count < n → met 1 (Refused OverCount) ≡ metOf log nest left kind count score
-      unfolding metOf
-      met-over f n d c = rw (le-ltb 16 nest h, ne-eqb left 0 k, ← e, d, lt-ltb count n c)
-
-      pub met-found : (f : SectorNumber) (n : ℕ) → l ≡ Found f n → n ≤ count → met 1 (Found f n) ≡ metOf log nest left kind count score
-      unfolding metOf
-      met-found f n d c = rw (le-ltb 16 nest h, ne-eqb left 0 k, ← e, d, le-ltb count n c)
+    pub met-looked : (left ≡ 0 → ⊥) → (l : Look) → l ≡ counted count (lookUp log kind score) → met 1 l ≡ metOf log nest left kind count score
+    unfolding metOf
+    met-looked k l e = rw (le-ltb 16 nest h, ne-eqb left 0 k) (ap (met 1) e)
 
 -- ---- what a caller learns of it
 

@@ -3,10 +3,10 @@ use mathlib.Core.Bool.{cond}
 use Prim.Native.Nat.{ℕ}
 use lib.Dec.{eqb, ltb}
 use Rattle.buffer.specs.Bytes.{Bytes}
-use Rattle.refusal.specs.declared.Refusal.the-variants.{OverCount, Nest, Spent}
+use Rattle.refusal.specs.declared.Refusal.the-variants.{Nest, Spent}
 use Rattle.log.specs.declared.Look.{Look}
 use Rattle.log.specs.declared.Look.the-variants.{Found, Refused}
-use Rattle.log.specs.LookUp.{lookUp}
+use Rattle.log.specs.LookUp.{lookUp, counted}
 use Rattle.walk.specs.declared.End.{End}
 use Rattle.walk.specs.declared.End.the-variants.{Done, Refused as Stopped}
 use Rattle.walk.specs.declared.Walked.{Walked}
@@ -14,11 +14,6 @@ use Rattle.walk.specs.declared.Met.{Met}
 
 abbrev pub met : ℕ → Look → Met
 met n l = record { spent = n; look = l }
-
--- 13 for what is longer than count
-abbrev pub counted : ℕ → Look → Look
-counted count (Found first size) = cond (ltb count size) (Refused OverCount) (Found first size)
-counted count (Refused why) = Refused why
 
 unfoldable pub metOf : Bytes → ℕ → ℕ → ℕ → ℕ → Bytes → Met
 metOf log nest left kind count score =

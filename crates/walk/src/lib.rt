@@ -151,22 +151,10 @@ fn visit(log: &[u8], nest: usize, left: usize, kind: u8, count: usize, score: &[
             look: Look::Refused(Refusal::Spent),
         };
     }
-    let look = lookup::look_up(log, kind, score);
-    let Look::Found { first, size } = look else {
-        return Met {
-            spent: 1,
-            look: look,
-        };
-    };
-    if count < size {
-        return Met {
-            spent: 1,
-            look: Look::Refused(Refusal::OverCount),
-        };
-    }
+    let none = [0u8; 0];
     Met {
         spent: 1,
-        look: look,
+        look: lookup::fetch(log, &none, kind, score, count),
     }
 }
 

@@ -1,23 +1,25 @@
 -- `file::descend` meets its contract: the run under the score reached, at its level, is the run under the top score.
 use mathlib.Core.Path.{_≡_, sym, ap, _∙_}
-use Prim.Native.Nat.{suc, _-_, _%_, _<_}
+use Prim.Native.Nat.{ℕ, suc, _+_, _-_, _%_, _<_}
 use native.Mathlib.Omega.{arith}
 use lib.ListN.{length}
 use Rattle.buffer.proofs.Put.{put-whole}
-use Rattle.file.specs.File.{under}
+use Rattle.log.specs.LookUp.{counted}
+use Rattle.log.proofs.Parts.{look-up-alone}
 use Rattle.reader.proofs.Pieces.{length-bytes}
+use Rattle.file.specs.File.{under}
 use Rattle.file.proofs.Places.{digit-small, length-pointer}
-use Rattle.file.proofs.Steps.{under-zero, found-room, found-short, level-refused, level-ragged, level-next}
+use Rattle.file.proofs.Steps.{start-most, under-empty, found-room, found-short, leaf-looked-up, level-refused, level-ragged, level-next}
 use borrow.Author.Needs.{needs}
 use Rattle.file.proofs.descend.Statement.{statement}
 use Rattle.file.proofs.descend.Tie as tie
 
 abbrev Inv-loop : tie.InvT-loop
-Inv-loop log page e offset top score₀ leaf p level₀ score level =
-    (level < 8) × (length score ≡ 20) × (under log page e offset level score ≡ under log page e offset (e .depth) top)
+Inv-loop log e offset top none score₀ leaf p level₀ score level =
+    (level < 8) × (length score ≡ 20) × ((page : ℕ) → under log page e offset level score ≡ under log page e offset (e .depth) top)
 
 abbrev μ-loop : tie.MeasureT-loop
-μ-loop log page e offset top score₀ leaf p level₀ score level = level
+μ-loop log e offset top none score₀ leaf p level₀ score level = level
 
 slice-aggregate-copy-at : tie.Need-slice-aggregate-copy-at Inv-loop μ-loop
 slice-aggregate-copy-at c = search needs
@@ -29,7 +31,11 @@ div-leaf : tie.Need-div-leaf Inv-loop μ-loop
 div-leaf c = search needs
 
 loop-holds : tie.Need-loop-holds Inv-loop μ-loop
-loop-holds c = let t = (c .before .before .copy-at .ensures) ∙ put-whole _ (c .before .before .before .before .before .before .args .top .now) (c .before .before .before .before .before .before .pre .1) in ((c .before .before .before .before .before .before .pre .0 .depth), ap length t ∙ (c .before .before .before .before .before .before .pre .1), ap (under (c .before .before .before .before .before .before .args .log .now) (c .before .before .before .before .before .before .args .page) (c .before .before .before .before .before .before .args .e) (c .before .before .before .before .before .before .args .offset) ((c .before .before .before .before .before .before .args .e .depth))) t)
+loop-holds c =
+    let a = c .before .before .before .before .before .before .args in
+    let p = c .before .before .before .before .before .before .pre in
+    let t = c .before .before .copy-at .ensures ∙ put-whole _ (a .top .now) (p .1) in
+    (p .0 .depth, ap length t ∙ p .1, λ page. ap (under (a .log .now) page (a .e) (a .offset) (a .e .depth)) t)
 
 slice-aggregate-is-zero-score : tie.Need-slice-aggregate-is-zero-score Inv-loop μ-loop
 slice-aggregate-is-zero-score c = search needs
@@ -37,23 +43,28 @@ slice-aggregate-is-zero-score c = search needs
 is-zero-score-requires : tie.Need-is-zero-score-requires Inv-loop μ-loop
 is-zero-score-requires c κs = search needs
 
-zero-run-requires : tie.Need-zero-run-requires Inv-loop μ-loop
-zero-run-requires c κs = ((c .before .before .before .before .before .before .before .before .before .before .before .pre .0 .dsize-from), (c .before .before .before .before .before .before .before .before .before .before .before .pre .0 .inside))
-
 returns : tie.Need-returns Inv-loop μ-loop
-returns c = (c .zero-run .ensures) ∙ under-zero (c .before .before .before .before .before .before .before .before .before .before .before .before .args .log .now) (c .before .before .before .before .before .before .before .before .before .before .before .before .args .page) (c .before .before .before .before .before .before .before .before .before .before .before .before .args .e) (c .before .before .before .before .before .before .before .before .before .before .before .before .args .offset) (c .before .before .before .before .before .loop .level) (c .before .before .before .before .before .loop .score) _ (c .before .before .is-zero-score .ensures) (c .before .if1 .taken) ∙ (c .before .before .before .before .before .loop .inv .2)
+returns c =
+    let a = c .before .before .before .before .before .before .before .before .before .before .before .args in
+    let l = c .before .before .before .before .loop in
+    let is-zero-score = c .before .is-zero-score in
+    let if1 = c .if1 in
+    (omega arith, λ page. under-empty (a .log .now) page (a .e) (a .offset) (l .level) (l .score) _ 0 (is-zero-score .ensures) (if1 .taken) ∙ l .inv .2 page)
+
+slice-aggregate-fetch : tie.Need-slice-aggregate-fetch Inv-loop μ-loop
+slice-aggregate-fetch c = search needs
 
 add-fetch : tie.Need-add-fetch Inv-loop μ-loop
 add-fetch c = search needs
 
 cast-fetch : tie.Need-cast-fetch Inv-loop μ-loop
-cast-fetch c = omega (arith, (c .before .before .before .before .loop .inv .0))
+cast-fetch c = omega (arith, c .before .before .before .before .before .loop .inv .0)
 
-slice-aggregate-fetch : tie.Need-slice-aggregate-fetch Inv-loop μ-loop
-slice-aggregate-fetch c = search needs
+slice-aggregate-fetch-2 : tie.Need-slice-aggregate-fetch-2 Inv-loop μ-loop
+slice-aggregate-fetch-2 c = search needs
 
 fetch-requires : tie.Need-fetch-requires Inv-loop μ-loop
-fetch-requires c κs = ((c .before .before .before .before .before .before .before .before .before .before .before .before .pre .0 .log), (c .before .before .before .before .before .loop .inv .1))
+fetch-requires c κs = c .before .before .before .before .before .before .loop .inv .1
 
 enum-known-look : tie.Need-enum-known-look Inv-loop μ-loop
 enum-known-look c = search needs
@@ -61,67 +72,98 @@ enum-known-look c = search needs
 enum-told : tie.Need-enum-told Inv-loop μ-loop
 enum-told c = search needs
 
-handed-on-requires : tie.Need-handed-on-requires Inv-loop μ-loop
-handed-on-requires c κs = search needs
-
 returns-2 : tie.Need-returns-2 Inv-loop μ-loop
-returns-2 c = let e : (c .before .before .before .before .before .before .before .before .before .loop .level) ≡ suc ((c .before .before .before .before .before .before .before .before .before .loop .level) - 1) = omega (arith, (c .before .before .before .before .before .before .before .before .loop-test .taken)) in (c .handed-on .ensures) ∙ level-refused (c .before .before .before .before .before .before .before .before .before .before .before .before .before .before .before .before .args .log .now) (c .before .before .before .before .before .before .before .before .before .before .before .before .before .before .before .before .args .page) (c .before .before .before .before .before .before .before .before .before .before .before .before .before .before .before .before .args .e) (c .before .before .before .before .before .before .before .before .before .before .before .before .before .before .before .before .args .offset) (c .before .before .before .before .before .before .before .before .before .loop .level) ((c .before .before .before .before .before .before .before .before .before .loop .level) - 1) e (c .before .before .before .before .before .before .before .before .before .loop .score) _ (c .before .before .before .before .before .before .is-zero-score .ensures) (c .before .before .before .before .before .if1 .left) _ (c .before .before .before .fetch .ensures) _ (c .before .enum-told .given .1) ∙ (c .before .before .before .before .before .before .before .before .before .loop .inv .2)
+returns-2 c =
+    let a = c .before .before .before .before .before .before .before .before .before .before .before .before .before .before .before .before .args in
+    let l = c .before .before .before .before .before .before .before .before .before .loop in
+    let is-zero-score = c .before .before .before .before .before .before .is-zero-score in
+    let if1 = c .before .before .before .before .before .if1 in
+    let fetch = c .before .before .fetch in
+    let enum-told = c .enum-told in
+    let e : l .level ≡ suc (l .level - 1) = omega (arith, c .before .before .before .before .before .before .before .before .loop-test .taken) in
+    let g = fetch .ensures ∙ ap (counted (a .e .psize)) (look-up-alone (a .log .now) (2 + l .level) (l .score)) in (
+      start-most (a .log .now) (2 + l .level) (l .score) (a .e .psize) (fetch .result) g (c .before .before .before .before .before .before .before .before .before .before .before .before .before .before .before .before .pre .0 .log),
+      λ page. level-refused (a .log .now) page (a .e) (a .offset) (l .level) (l .level - 1) e (l .score) _ (is-zero-score .ensures) (if1 .left) (fetch .result) g _ (enum-told .given .1) ∙ l .inv .2 page,
+    )
 
 returns-3 : tie.Need-returns-3 Inv-loop μ-loop
-returns-3 c = let e : (c .before .before .before .before .before .before .before .before .before .before .loop .level) ≡ suc ((c .before .before .before .before .before .before .before .before .before .before .loop .level) - 1) = omega (arith, (c .before .before .before .before .before .before .before .before .before .loop-test .taken)) in level-ragged (c .before .before .before .before .before .before .before .before .before .before .before .before .before .before .before .before .before .args .log .now) (c .before .before .before .before .before .before .before .before .before .before .before .before .before .before .before .before .before .args .page) (c .before .before .before .before .before .before .before .before .before .before .before .before .before .before .before .before .before .args .e) (c .before .before .before .before .before .before .before .before .before .before .before .before .before .before .before .before .before .args .offset) (c .before .before .before .before .before .before .before .before .before .before .loop .level) ((c .before .before .before .before .before .before .before .before .before .before .loop .level) - 1) e (c .before .before .before .before .before .before .before .before .before .before .loop .score) _ (c .before .before .before .before .before .before .before .is-zero-score .ensures) (c .before .before .before .before .before .before .if1 .left) _ (c .before .before .before .before .fetch .ensures) _ _ (c .before .before .look .given .1) (c .if2 .taken) ∙ (c .before .before .before .before .before .before .before .before .before .before .loop .inv .2)
+returns-3 c =
+    let a = c .before .before .before .before .before .before .before .before .before .before .before .before .before .before .before .before .before .before .args in
+    let l = c .before .before .before .before .before .before .before .before .before .before .before .loop in
+    let is-zero-score = c .before .before .before .before .before .before .before .before .is-zero-score in
+    let if1 = c .before .before .before .before .before .before .before .if1 in
+    let fetch = c .before .before .before .before .fetch in
+    let look = c .before .before .look in
+    let if2 = c .if2 in
+    let e : l .level ≡ suc (l .level - 1) = omega (arith, c .before .before .before .before .before .before .before .before .before .before .loop-test .taken) in
+    let g = fetch .ensures ∙ ap (counted (a .e .psize)) (look-up-alone (a .log .now) (2 + l .level) (l .score)) in (
+      omega arith,
+      λ page. level-ragged (a .log .now) page (a .e) (a .offset) (l .level) (l .level - 1) e (l .score) _ (is-zero-score .ensures) (if1 .left) (fetch .result) g _ _ (look .given .1) (if2 .taken) ∙ l .inv .2 page,
+    )
 
 sub-level : tie.Need-sub-level Inv-loop μ-loop
-sub-level c = omega (arith, (c .before .before .before .before .before .before .before .before .before .loop-test .taken))
+sub-level c = omega (arith, c .before .before .before .before .before .before .before .before .before .before .loop-test .taken)
 
 digit-requires : tie.Need-digit-requires Inv-loop μ-loop
-digit-requires c κs = omega (arith, (c .before .before .before .before .before .before .before .before .before .before .before .before .before .before .before .before .before .pre .0 .psize-from))
+digit-requires c κs = omega (arith, c .before .before .before .before .before .before .before .before .before .before .before .before .before .before .before .before .before .before .pre .0 .psize-from)
 
 pointer-at-requires : tie.Need-pointer-at-requires Inv-loop μ-loop
-pointer-at-requires c κs = let r = found-room (c .before .before .before .before .before .before .before .before .before .before .before .before .before .before .before .before .before .before .args .log .now) _ (c .before .before .before .before .before .before .before .before .before .before .before .loop .score) _ _ _ _ (c .before .before .before .before .before .fetch .ensures) (c .before .before .before .look .given .1) in let s = found-short (c .before .before .before .before .before .before .before .before .before .before .before .before .before .before .before .before .before .before .args .log .now) _ (c .before .before .before .before .before .before .before .before .before .before .before .loop .score) _ _ _ _ (c .before .before .before .before .before .fetch .ensures) (c .before .before .before .look .given .1) in (r, omega (arith, (c .before .before .before .before .before .before .before .before .before .before .before .before .before .before .before .before .before .before .pre .0 .log), r), s, (c .before .if2 .left), digit-small (c .before .before .before .before .before .before .before .before .before .before .before .before .before .before .before .before .before .before .args .e .psize) _ (c .digit .result) (c .before .before .before .before .before .before .before .before .before .before .before .before .before .before .before .before .before .before .pre .0 .psize-from) (c .before .before .before .before .before .before .before .before .before .before .before .before .before .before .before .before .before .before .pre .0 .psize-to) (c .digit .ensures))
+pointer-at-requires c κs =
+    let a = c .before .before .before .before .before .before .before .before .before .before .before .before .before .before .before .before .before .before .before .args in
+    let p = c .before .before .before .before .before .before .before .before .before .before .before .before .before .before .before .before .before .before .before .pre in
+    let l = c .before .before .before .before .before .before .before .before .before .before .before .before .loop in
+    let fetch = c .before .before .before .before .before .fetch in
+    let look = c .before .before .before .look in
+    let g = fetch .ensures ∙ ap (counted (a .e .psize)) (look-up-alone (a .log .now) (2 + l .level) (l .score)) in
+    let room = found-room (a .log .now) (2 + l .level) (l .score) (a .e .psize) (fetch .result) _ _ g (look .given .1) in
+    let short = found-short (a .log .now) (2 + l .level) (l .score) (a .e .psize) (fetch .result) _ _ g (look .given .1) in
+    (room, omega (arith, p .0 .log, room), short, c .before .if2 .left, digit-small (a .e .psize) _ (c .digit .result) (p .0 .psize-from) (p .0 .psize-to) (c .digit .ensures))
 
 loop-less : tie.Need-loop-less Inv-loop μ-loop
-loop-less c = omega (arith, (c .before .before .before .before .before .before .before .before .before .before .before .loop-test .taken))
+loop-less c = omega (arith, c .before .before .before .before .before .before .before .before .before .before .before .before .loop-test .taken)
 
 loop-again : tie.Need-loop-again Inv-loop μ-loop
-loop-again c = let e : (c .before .before .before .before .before .before .before .before .before .before .before .before .loop .level) ≡ suc ((c .before .before .before .before .before .before .before .before .before .before .before .before .loop .level) - 1) = omega (arith, (c .before .before .before .before .before .before .before .before .before .before .before .loop-test .taken)) in (omega (arith, (c .before .before .before .before .before .before .before .before .before .before .before .before .loop .inv .0)), length-pointer _ _ _ (c .pointer-at .ensures) (ap (λ n. n % 20) (length-bytes (c .before .before .before .before .before .before .before .before .before .before .before .before .before .before .before .before .before .before .before .args .log .now) _ _) ∙ (c .before .before .if2 .left)), level-next (c .before .before .before .before .before .before .before .before .before .before .before .before .before .before .before .before .before .before .before .args .log .now) (c .before .before .before .before .before .before .before .before .before .before .before .before .before .before .before .before .before .before .before .args .page) (c .before .before .before .before .before .before .before .before .before .before .before .before .before .before .before .before .before .before .before .args .e) (c .before .before .before .before .before .before .before .before .before .before .before .before .before .before .before .before .before .before .before .args .offset) (c .before .before .before .before .before .before .before .before .before .before .before .before .loop .level) ((c .before .before .before .before .before .before .before .before .before .before .before .before .loop .level) - 1) e (c .before .before .before .before .before .before .before .before .before .before .before .before .loop .score) _ (c .before .before .before .before .before .before .before .before .before .is-zero-score .ensures) (c .before .before .before .before .before .before .before .before .if1 .left) _ (c .before .before .before .before .before .before .fetch .ensures) _ _ (c .before .before .before .before .look .given .1) _ _ (c .before .before .if2 .left) (c .before .digit .ensures) (c .pointer-at .ensures) ∙ (c .before .before .before .before .before .before .before .before .before .before .before .before .loop .inv .2))
+loop-again c =
+    let a = c .before .before .before .before .before .before .before .before .before .before .before .before .before .before .before .before .before .before .before .before .args in
+    let l = c .before .before .before .before .before .before .before .before .before .before .before .before .before .loop in
+    let is-zero-score = c .before .before .before .before .before .before .before .before .before .before .is-zero-score in
+    let if1 = c .before .before .before .before .before .before .before .before .before .if1 in
+    let fetch = c .before .before .before .before .before .before .fetch in
+    let look = c .before .before .before .before .look in
+    let if2 = c .before .before .if2 in
+    let digit = c .before .digit in
+    let pointer-at = c .pointer-at in
+    let e : l .level ≡ suc (l .level - 1) = omega (arith, c .before .before .before .before .before .before .before .before .before .before .before .before .loop-test .taken) in
+    let g = fetch .ensures ∙ ap (counted (a .e .psize)) (look-up-alone (a .log .now) (2 + l .level) (l .score)) in (
+      omega (arith, l .inv .0),
+      length-pointer _ _ _ (pointer-at .ensures) (ap (λ n. n % 20) (length-bytes (a .log .now) _ _) ∙ if2 .left),
+      λ page. level-next (a .log .now) page (a .e) (a .offset) (l .level) (l .level - 1) e (l .score) _ (is-zero-score .ensures) (if1 .left) (fetch .result) g _ _ (look .given .1) _ _ (if2 .left) (digit .ensures) (pointer-at .ensures) ∙ l .inv .2 page,
+    )
 
-slice-aggregate-under-leaf : tie.Need-slice-aggregate-under-leaf Inv-loop μ-loop
-slice-aggregate-under-leaf c = search needs
+slice-aggregate-fetch-3 : tie.Need-slice-aggregate-fetch-3 Inv-loop μ-loop
+slice-aggregate-fetch-3 c = search needs
 
-under-leaf-requires : tie.Need-under-leaf-requires Inv-loop μ-loop
-under-leaf-requires c κs = ((c .before .before .before .before .before .before .before .before .before .pre .0), (c .before .before .loop .inv .1))
+leaf-type-requires : tie.Need-leaf-type-requires Inv-loop μ-loop
+leaf-type-requires c κs = search needs
+
+slice-aggregate-fetch-4 : tie.Need-slice-aggregate-fetch-4 Inv-loop μ-loop
+slice-aggregate-fetch-4 c = search needs
+
+fetch-requires-2 : tie.Need-fetch-requires-2 Inv-loop μ-loop
+fetch-requires-2 c κs = c .before .before .before .before .loop .inv .1
 
 returns-4 : tie.Need-returns-4 Inv-loop μ-loop
-returns-4 c = let z : (c .before .before .before .loop .level) ≡ 0 = omega (arith, (c .before .before .loop-test .left)) in (c .under-leaf .ensures) ∙ ap (λ n. under (c .before .before .before .before .before .before .before .before .before .before .args .log .now) (c .before .before .before .before .before .before .before .before .before .before .args .page) (c .before .before .before .before .before .before .before .before .before .before .args .e) (c .before .before .before .before .before .before .before .before .before .before .args .offset) n (c .before .before .before .loop .score)) (sym z) ∙ (c .before .before .before .loop .inv .2)
+returns-4 c =
+    let a = c .before .before .before .before .before .before .before .before .before .before .before .before .args in
+    let l = c .before .before .before .before .before .loop in
+    let leaf-type = c .before .before .leaf-type in
+    let fetch = c .fetch2 in
+    let z : l .level ≡ 0 = omega (arith, c .before .before .before .before .loop-test .left) in
+    let g = fetch .ensures ∙ ap (counted (a .e .dsize)) (look-up-alone (a .log .now) (leaf-type .result) (l .score)) in (
+      start-most (a .log .now) (leaf-type .result) (l .score) (a .e .dsize) (fetch .result) g (c .before .before .before .before .before .before .before .before .before .before .before .before .pre .0 .log),
+      λ page. leaf-looked-up (a .log .now) page (a .e) (a .offset) (l .score) (leaf-type .result) (leaf-type .ensures) (fetch .result) g
+          ∙ ap (λ (n : ℕ). under (a .log .now) page (a .e) (a .offset) n (l .score)) (sym z) ∙ l .inv .2 page,
+    )
 
 pub descend-spec : {M : Type 1} → statement M
-descend-spec =
-    tie.close
-    (tie.spec
-    Inv-loop
-    μ-loop
-    slice-aggregate-copy-at
-    copy-at-requires
-    div-leaf
-    loop-holds
-    slice-aggregate-is-zero-score
-    is-zero-score-requires
-    zero-run-requires
-    returns
-    add-fetch
-    cast-fetch
-    slice-aggregate-fetch
-    fetch-requires
-    enum-known-look
-    enum-told
-    handed-on-requires
-    returns-2
-    returns-3
-    sub-level
-    digit-requires
-    pointer-at-requires
-    loop-less
-    loop-again
-    slice-aggregate-under-leaf
-    under-leaf-requires
-    returns-4)
+descend-spec = tie.close (tie.spec Inv-loop μ-loop slice-aggregate-copy-at copy-at-requires div-leaf loop-holds slice-aggregate-is-zero-score is-zero-score-requires returns slice-aggregate-fetch add-fetch cast-fetch slice-aggregate-fetch-2 fetch-requires enum-known-look enum-told returns-2 returns-3 sub-level digit-requires pointer-at-requires loop-less loop-again slice-aggregate-fetch-3 leaf-type-requires slice-aggregate-fetch-4 fetch-requires-2 returns-4)

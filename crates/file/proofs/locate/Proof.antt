@@ -2,7 +2,7 @@
 use mathlib.Core.Path.{_∙_}
 use native.Mathlib.Omega.{arith}
 use borrow.Author.Tests.{not-true, not-false}
-use lib.ListN.{length-take, length-drop}
+use lib.ListN.{length, length-take, length-drop}
 use Rattle.file.proofs.Tests.{entry-whole, readable-length, opened, stops-log, stops-page, stops-entry, stops-offset, goes-down}
 use borrow.Author.Needs.{needs}
 use Rattle.file.proofs.locate.Statement.{statement}
@@ -12,25 +12,48 @@ is-allowed-requires : tie.Need-is-allowed-requires
 is-allowed-requires c κs = search needs
 
 returns : tie.Need-returns
-returns c = stops-log (c .before .before .before .before .before .args .log .now) (c .before .before .before .before .before .args .page .now) (c .before .before .before .before .before .args .entry .now) (c .before .before .before .before .before .args .offset) _ (c .before .is-allowed .ensures) (not-true _ (c .if1 .taken))
+returns c =
+    let a = c .before .before .before .before .before .args in
+    stops-log (a .log .now) (a .page .now) (a .entry .now) (a .offset) _ (c .before .is-allowed .ensures) (not-true _ (c .if1 .taken))
 
 is-page-requires : tie.Need-is-page-requires
 is-page-requires c κs = search needs
 
 returns-2 : tie.Need-returns-2
-returns-2 c = stops-page (c .before .before .before .before .before .before .before .args .log .now) (c .before .before .before .before .before .before .before .args .page .now) (c .before .before .before .before .before .before .before .args .entry .now) (c .before .before .before .before .before .before .before .args .offset) _ (c .before .before .before .is-allowed .ensures) (not-false _ (c .before .before .if1 .left)) _ (c .before .is-page .ensures) (not-true _ (c .if2 .taken))
+returns-2 c =
+    let a = c .before .before .before .before .before .before .before .args in
+    let is-allowed = c .before .before .before .is-allowed in
+    let if1 = c .before .before .if1 in
+    stops-page (a .log .now) (a .page .now) (a .entry .now) (a .offset) _ (is-allowed .ensures) (not-false _ (if1 .left)) _ (c .before .is-page .ensures) (not-true _ (c .if2 .taken))
 
 is-readable-requires : tie.Need-is-readable-requires
 is-readable-requires c κs = search needs
 
 returns-3 : tie.Need-returns-3
-returns-3 c = stops-entry (c .before .before .before .before .before .before .before .before .before .args .log .now) (c .before .before .before .before .before .before .before .before .before .args .page .now) (c .before .before .before .before .before .before .before .before .before .args .entry .now) (c .before .before .before .before .before .before .before .before .before .args .offset) _ (c .before .before .before .before .before .is-allowed .ensures) (not-false _ (c .before .before .before .before .if1 .left)) _ (c .before .before .before .is-page .ensures) (not-false _ (c .before .before .if2 .left)) _ (c .before .is-readable .ensures) (not-true _ (c .if3 .taken))
+returns-3 c =
+    let a = c .before .before .before .before .before .before .before .before .before .args in
+    let is-allowed = c .before .before .before .before .before .is-allowed in
+    let if1 = c .before .before .before .before .if1 in
+    let is-page = c .before .before .before .is-page in
+    let if2 = c .before .before .if2 in
+    stops-entry (a .log .now) (a .page .now) (a .entry .now) (a .offset) _ (is-allowed .ensures) (not-false _ (if1 .left)) _ (is-page .ensures) (not-false _ (if2 .left)) _ (c .before .is-readable .ensures) (not-true _ (c .if3 .taken))
 
 entry-at-requires : tie.Need-entry-at-requires
-entry-at-requires c κs = omega (arith, readable-length (c .before .before .before .before .before .before .before .before .before .args .entry .now) _ (c .before .is-readable .ensures) (not-false _ (c .if3 .left)))
+entry-at-requires c κs =
+    let a = c .before .before .before .before .before .before .before .before .before .args in
+    omega (arith, readable-length (a .entry .now) _ (c .before .is-readable .ensures) (not-false _ (c .if3 .left)))
 
 returns-4 : tie.Need-returns-4
-returns-4 c = let l = readable-length (c .before .before .before .before .before .before .before .before .before .before .before .before .args .entry .now) _ (c .before .before .before .before .is-readable .ensures) (not-false _ (c .before .before .before .if3 .left)) in stops-offset (c .before .before .before .before .before .before .before .before .before .before .before .before .args .log .now) (c .before .before .before .before .before .before .before .before .before .before .before .before .args .page .now) (c .before .before .before .before .before .before .before .before .before .before .before .before .args .entry .now) (c .before .before .before .before .before .before .before .before .before .before .before .before .args .offset) _ (c .before .before .before .before .before .before .before .before .is-allowed .ensures) (not-false _ (c .before .before .before .before .before .before .before .if1 .left)) _ (c .before .before .before .before .before .before .is-page .ensures) (not-false _ (c .before .before .before .before .before .if2 .left)) _ (c .before .before .before .before .is-readable .ensures) (not-false _ (c .before .before .before .if3 .left)) _ (entry-whole (c .before .before .before .before .before .before .before .before .before .before .before .before .args .entry .now) _ l (c .before .before .entry-at .ensures)) (c .if4 .taken)
+returns-4 c =
+    let a = c .before .before .before .before .before .before .before .before .before .before .before .before .args in
+    let is-allowed = c .before .before .before .before .before .before .before .before .is-allowed in
+    let if1 = c .before .before .before .before .before .before .before .if1 in
+    let is-page = c .before .before .before .before .before .before .is-page in
+    let if2 = c .before .before .before .before .before .if2 in
+    let is-readable = c .before .before .before .before .is-readable in
+    let if3 = c .before .before .before .if3 in
+    let entry-at = c .before .before .entry-at in
+    let l = readable-length (a .entry .now) _ (is-readable .ensures) (not-false _ (if3 .left)) in stops-offset (a .log .now) (a .page .now) (a .entry .now) (a .offset) _ (is-allowed .ensures) (not-false _ (if1 .left)) _ (is-page .ensures) (not-false _ (if2 .left)) _ (is-readable .ensures) (not-false _ (if3 .left)) _ (entry-whole (a .entry .now) _ l (entry-at .ensures)) (c .if4 .taken)
 
 sub-descend : tie.Need-sub-descend
 sub-descend c = search needs
@@ -39,13 +62,49 @@ part-descend-start : tie.Need-part-descend-start
 part-descend-start c = search needs
 
 part-descend-end : tie.Need-part-descend-end
-part-descend-end c = omega (arith, readable-length (c .before .before .before .before .before .before .before .before .before .before .before .before .args .entry .now) _ (c .before .before .before .before .is-readable .ensures) (not-false _ (c .before .before .before .if3 .left)))
+part-descend-end c =
+    let a = c .before .before .before .before .before .before .before .before .before .before .before .before .args in
+    let is-readable = c .before .before .before .before .is-readable in
+    let if3 = c .before .before .before .if3 in
+    omega (arith, readable-length (a .entry .now) _ (is-readable .ensures) (not-false _ (if3 .left)))
 
 descend-requires : tie.Need-descend-requires
-descend-requires c κs = let l = readable-length (c .before .before .before .before .before .before .before .before .before .before .before .before .before .args .entry .now) _ (c .before .before .before .before .before .is-readable .ensures) (not-false _ (c .before .before .before .before .if3 .left)) in (opened _ (c .before .before .before .before .before .before .before .before .before .before .before .before .before .args .entry .now) _ (c .before .before .before .before .before .before .before .before .before .before .before .before .before .args .offset) _ _ (c .before .before .before .before .before .before .before .before .before .is-allowed .ensures) (not-false _ (c .before .before .before .before .before .before .before .before .if1 .left)) (c .before .before .before .before .before .is-readable .ensures) (not-false _ (c .before .before .before .before .if3 .left)) (entry-whole (c .before .before .before .before .before .before .before .before .before .before .before .before .before .args .entry .now) _ l (c .before .before .before .entry-at .ensures)) (c .before .if4 .left), simp (length-take, length-drop) (omega (arith, l)))
+descend-requires c κs =
+    let a = c .before .before .before .before .before .before .before .before .before .before .before .before .before .args in
+    let is-allowed = c .before .before .before .before .before .before .before .before .before .is-allowed in
+    let if1 = c .before .before .before .before .before .before .before .before .if1 in
+    let is-readable = c .before .before .before .before .before .is-readable in
+    let if3 = c .before .before .before .before .if3 in
+    let entry-at = c .before .before .before .entry-at in
+    let l = readable-length (a .entry .now) _ (is-readable .ensures) (not-false _ (if3 .left)) in
+    (opened _ (a .entry .now) _ (a .offset) _ _ (is-allowed .ensures) (not-false _ (if1 .left)) (is-readable .ensures) (not-false _ (if3 .left)) (entry-whole (a .entry .now) _ l (entry-at .ensures)) (c .before .if4 .left), simp (length-take, length-drop) (omega (arith, l)))
+
+run-in-requires : tie.Need-run-in-requires
+run-in-requires c κs =
+    let a = c .before .before .before .before .before .before .before .before .before .before .before .before .before .before .args in
+    let is-allowed = c .before .before .before .before .before .before .before .before .before .before .is-allowed in
+    let if1 = c .before .before .before .before .before .before .before .before .before .if1 in
+    let is-readable = c .before .before .before .before .before .before .is-readable in
+    let if3 = c .before .before .before .before .before .if3 in
+    let entry-at = c .before .before .before .before .entry-at in
+    let if4 = c .before .before .if4 in
+    let l = readable-length (a .entry .now) _ (is-readable .ensures) (not-false _ (if3 .left)) in
+    let o = opened _ (a .entry .now) _ (a .offset) _ _ (is-allowed .ensures) (not-false _ (if1 .left)) (is-readable .ensures) (not-false _ (if3 .left)) (entry-whole (a .entry .now) _ l (entry-at .ensures)) (if4 .left) in
+    (c .descend .ensures .0, o .dsize-from, o .dsize-to, o .inside)
 
 returns-5 : tie.Need-returns-5
-returns-5 c = let l = readable-length (c .before .before .before .before .before .before .before .before .before .before .before .before .before .before .args .entry .now) _ (c .before .before .before .before .before .before .is-readable .ensures) (not-false _ (c .before .before .before .before .before .if3 .left)) in (c .descend .ensures) ∙ goes-down (c .before .before .before .before .before .before .before .before .before .before .before .before .before .before .args .log .now) (c .before .before .before .before .before .before .before .before .before .before .before .before .before .before .args .page .now) (c .before .before .before .before .before .before .before .before .before .before .before .before .before .before .args .entry .now) (c .before .before .before .before .before .before .before .before .before .before .before .before .before .before .args .offset) _ (c .before .before .before .before .before .before .before .before .before .before .is-allowed .ensures) (not-false _ (c .before .before .before .before .before .before .before .before .before .if1 .left)) _ (c .before .before .before .before .before .before .before .before .is-page .ensures) (not-false _ (c .before .before .before .before .before .before .before .if2 .left)) _ (c .before .before .before .before .before .before .is-readable .ensures) (not-false _ (c .before .before .before .before .before .if3 .left)) _ (entry-whole (c .before .before .before .before .before .before .before .before .before .before .before .before .before .before .args .entry .now) _ l (c .before .before .before .before .entry-at .ensures)) (c .before .before .if4 .left)
+returns-5 c =
+    let a = c .before .before .before .before .before .before .before .before .before .before .before .before .before .before .before .args in
+    let is-allowed = c .before .before .before .before .before .before .before .before .before .before .before .is-allowed in
+    let if1 = c .before .before .before .before .before .before .before .before .before .before .if1 in
+    let is-page = c .before .before .before .before .before .before .before .before .before .is-page in
+    let if2 = c .before .before .before .before .before .before .before .before .if2 in
+    let is-readable = c .before .before .before .before .before .before .before .is-readable in
+    let if3 = c .before .before .before .before .before .before .if3 in
+    let entry-at = c .before .before .before .before .before .entry-at in
+    let if4 = c .before .before .before .if4 in
+    let l = readable-length (a .entry .now) _ (is-readable .ensures) (not-false _ (if3 .left)) in
+    c .run-in .ensures ∙ c .before .descend .ensures .1 (length (a .page .now)) ∙ goes-down (a .log .now) (a .page .now) (a .entry .now) (a .offset) _ (is-allowed .ensures) (not-false _ (if1 .left)) _ (is-page .ensures) (not-false _ (if2 .left)) _ (is-readable .ensures) (not-false _ (if3 .left)) _ (entry-whole (a .entry .now) _ l (entry-at .ensures)) (if4 .left)
 
 pub locate-spec : {M : Type 1} → statement M
 locate-spec =
@@ -63,4 +122,5 @@ locate-spec =
     part-descend-start
     part-descend-end
     descend-requires
+    run-in-requires
     returns-5)

@@ -1,29 +1,49 @@
-use mathlib.Core.Path.{_≡_, refl, sym, ap, _∙_}
-use mathlib.Core.Logic.{⊎-elim}
-use borrow.Author.Tests.{not-true, not-false}
+-- `lookup::why_absent` meets its contract.
+use mathlib.Core.Path.{refl}
 use native.Mathlib.Omega.{arith}
-use lib.ListN.{length}
-use Rattle.log.proofs.FirstDoubt.{absence-known, absence-held}
-use Rattle.lookup.proofs.Laws.{held-zero, held-scan, not-lawful, not-zero, look-none, look-some, ask-log, ask-kind, ask-look, allowed-sectors}
+use Rattle.block.proofs.Used.{used-le-sectors}
+use Rattle.lookup.proofs.Laws.{used-both, absent-known, absent-held}
 use borrow.Author.Needs.{needs}
 use Rattle.lookup.proofs.why_absent.Statement.{statement}
 use Rattle.lookup.proofs.why_absent.Tie as tie
-use Rattle.lookup.proofs.why_absent.Reads as reads
-use Rattle.lookup.proofs.why_absent.Lts as lts
-use Rattle.lookup.proofs.first_doubtful.Reads as first-doubtful-reads
-use Rattle.reader.proofs.used_part.Reads as used-part-reads
 
 used-part-requires : tie.Need-used-part-requires
 used-part-requires c κs = search needs
 
+used-part-requires-2 : tie.Need-used-part-requires-2
+used-part-requires-2 c κs = search needs
+
+add-last : tie.Need-add-last
+add-last c =
+    let a = c .before .before .before .before .before .before .args in
+    omega (arith, c .before .before .before .used-part .ensures, c .before .before .used-part2 .ensures, used-le-sectors (a .log .now), used-le-sectors (a .waiting .now))
+
 first-doubtful-requires : tie.Need-first-doubtful-requires
-first-doubtful-requires c κs = search needs
+first-doubtful-requires c κs =
+    let a = c .before .before .before .before .before .before .args in
+    let end = c .before .before .before .used-part in
+    let waits = c .before .before .used-part2 in (
+      omega (arith, end .ensures, used-le-sectors (a .log .now)),
+      used-both (a .log .now) (a .waiting .now) (end .result .0) (waits .result .0) _ (end .ensures) (waits .ensures) refl,
+    )
 
 returns : tie.Need-returns
-returns c = sym (absence-known ((c .before .before .before .before .args .log .now)) (omega (arith, (c .before .first-doubtful .ensures), (c .before .before .used-part .ensures))))
+returns c =
+    let a = c .before .before .before .before .before .before .before .before .before .args in
+    let end = c .before .before .before .before .before .before .used-part in
+    let waits = c .before .before .before .before .before .used-part2 in
+    let doubtful = c .before .before .first-doubtful in
+    absent-known (a .log .now) (a .waiting .now) (end .result .0) (doubtful .result .0) _ (end .ensures) (doubtful .ensures)
+    (used-both (a .log .now) (a .waiting .now) (end .result .0) (waits .result .0) _ (end .ensures) (waits .ensures) refl) (c .if1 .taken)
 
 returns-2 : tie.Need-returns-2
-returns-2 c = sym (absence-held ((c .before .before .before .before .args .log .now)) (omega (arith, (c .before .first-doubtful .ensures), (c .before .before .used-part .ensures))))
+returns-2 c =
+    let a = c .before .before .before .before .before .before .before .before .before .args in
+    let end = c .before .before .before .before .before .before .used-part in
+    let waits = c .before .before .before .before .before .used-part2 in
+    let doubtful = c .before .before .first-doubtful in
+    absent-held (a .log .now) (a .waiting .now) (end .result .0) (doubtful .result .0) _ (end .ensures) (doubtful .ensures)
+    (used-both (a .log .now) (a .waiting .now) (end .result .0) (waits .result .0) _ (end .ensures) (waits .ensures) refl) (c .if1 .left)
 
 pub why-absent-spec : {M : Type 1} → statement M
-why-absent-spec = tie.close (tie.spec used-part-requires first-doubtful-requires returns returns-2)
+why-absent-spec = tie.close (tie.spec used-part-requires used-part-requires-2 add-last first-doubtful-requires returns returns-2)

@@ -7,6 +7,7 @@ use Rattle.buffer.specs.Bytes.{Bytes}
 use Rattle.reader.specs.Reader.{numberOf}
 use Rattle.reader.proofs.Pieces.{length-at}
 use Rattle.reader.proofs.Digits.{value-number, bad-number}
+use Rattle.block.specs.Log.{joined}
 use borrow.Author.Needs.{needs}
 use Rattle.reader.proofs.number_at.Statement.{statement}
 use Rattle.reader.proofs.number_at.Tie as tie
@@ -21,7 +22,10 @@ part-read-hex-start : tie.Need-part-read-hex-start
 part-read-hex-start c = search needs
 
 part-read-hex-end : tie.Need-part-read-hex-end
-part-read-hex-end c = omega (arith, ap length (c .sector-at .ensures) ∙ length-at (c .before .before .args .log .now) (c .before .before .args .n))
+part-read-hex-end c =
+    let a = c .before .before .before .args in
+    let log = joined (a .end .0) (a .log .now) (a .waiting .now) in
+    omega (arith, ap length (c .sector-at .ensures) ∙ length-at log (a .n .0))
 
 read-hex-requires : tie.Need-read-hex-requires
 read-hex-requires c κs = search needs
@@ -33,10 +37,18 @@ enum-told : tie.Need-enum-told
 enum-told c = search needs
 
 returns : tie.Need-returns
-returns c = value-number _ _ (sym (c .before .h .given .1) ∙ c .before .before .before .read-hex .ensures) ∙ ap (λ (s : Bytes). numberOf (take (c .before .before .before .before .before .before .before .args .end - c .before .before .before .before .before .before .before .args .from) (drop (c .before .before .before .before .before .before .before .args .from) s))) (c .before .before .before .before .before .sector-at .ensures)
+returns c =
+    let a = c .before .before .before .before .before .before .before .before .args in
+    let sector-at = c .before .before .before .before .before .sector-at in
+    let read-hex = c .before .before .before .read-hex in
+    value-number _ _ (sym (c .before .h .given .1) ∙ read-hex .ensures) ∙ ap (λ (s : Bytes). numberOf (take (a .to - a .from) (drop (a .from) s))) (sector-at .ensures)
 
 returns-2 : tie.Need-returns-2
-returns-2 c = bad-number _ (sym (c .enum-told .given .1) ∙ c .before .before .read-hex .ensures) ∙ ap (λ (s : Bytes). numberOf (take (c .before .before .before .before .before .before .args .end - c .before .before .before .before .before .before .args .from) (drop (c .before .before .before .before .before .before .args .from) s))) (c .before .before .before .before .sector-at .ensures)
+returns-2 c =
+    let a = c .before .before .before .before .before .before .before .args in
+    let sector-at = c .before .before .before .before .sector-at in
+    let read-hex = c .before .before .read-hex in
+    bad-number _ (sym (c .enum-told .given .1) ∙ read-hex .ensures) ∙ ap (λ (s : Bytes). numberOf (take (a .to - a .from) (drop (a .from) s))) (sector-at .ensures)
 
 pub number-at-spec : {M : Type 1} → statement M
 number-at-spec = tie.close (tie.spec sector-at-requires sub-read-hex part-read-hex-start part-read-hex-end read-hex-requires enum-known-h enum-told returns returns-2)

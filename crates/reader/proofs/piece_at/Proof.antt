@@ -3,6 +3,7 @@ use mathlib.Core.Path.{ap, _∙_}
 use native.Mathlib.Omega.{arith}
 use lib.ListN.{length}
 use Rattle.reader.proofs.Pieces.{length-at, piece-whole, piece-part}
+use Rattle.block.specs.Log.{joined}
 use borrow.Author.Needs.{needs}
 use Rattle.reader.proofs.piece_at.Statement.{statement}
 use Rattle.reader.proofs.piece_at.Tie as tie
@@ -17,13 +18,20 @@ part-result-start : tie.Need-part-result-start
 part-result-start c = search needs
 
 part-result-end : tie.Need-part-result-end
-part-result-end c = omega (arith, ap length (c .before .sector-at .ensures) ∙ length-at (c .before .before .before .args .log .now) (c .before .before .before .args .n))
+part-result-end c =
+    let a = c .before .before .before .before .args in
+    let log = joined (a .end .0) (a .log .now) (a .waiting .now) in
+    omega (arith, ap length (c .before .sector-at .ensures) ∙ length-at log (a .n .0))
 
 returns : tie.Need-returns
-returns c = piece-whole (c .before .before .before .before .args .log .now) (c .before .before .before .before .args .n) _ (c .before .before .before .before .args .size) (c .before .before .sector-at .ensures) (omega arith)
+returns c =
+    let a = c .before .before .before .before .before .args in
+    let log = joined (a .end .0) (a .log .now) (a .waiting .now) in
+    let sector-at = c .before .before .sector-at in
+    piece-whole log (a .n .0) _ (a .size) (sector-at .ensures) (omega arith)
 
-add-end : tie.Need-add-end
-add-end c = search needs
+add-to : tie.Need-add-to
+add-to c = search needs
 
 sub-result-2 : tie.Need-sub-result-2
 sub-result-2 c = search needs
@@ -32,10 +40,17 @@ part-result-start-2 : tie.Need-part-result-start-2
 part-result-start-2 c = search needs
 
 part-result-end-2 : tie.Need-part-result-end-2
-part-result-end-2 c = omega (arith, ap length (c .before .sector-at .ensures) ∙ length-at (c .before .before .before .args .log .now) (c .before .before .before .args .n))
+part-result-end-2 c =
+    let a = c .before .before .before .before .args in
+    let log = joined (a .end .0) (a .log .now) (a .waiting .now) in
+    omega (arith, ap length (c .before .sector-at .ensures) ∙ length-at log (a .n .0))
 
 returns-2 : tie.Need-returns-2
-returns-2 c = piece-part (c .before .before .before .before .args .log .now) (c .before .before .before .before .args .n) _ (c .before .before .before .before .args .size) (c .before .before .sector-at .ensures) (omega arith)
+returns-2 c =
+    let a = c .before .before .before .before .before .args in
+    let log = joined (a .end .0) (a .log .now) (a .waiting .now) in
+    let sector-at = c .before .before .sector-at in
+    piece-part log (a .n .0) _ (a .size) (sector-at .ensures) (omega arith)
 
 pub piece-at-spec : {M : Type 1} → statement M
-piece-at-spec = tie.close (tie.spec sector-at-requires sub-result part-result-start part-result-end returns add-end sub-result-2 part-result-start-2 part-result-end-2 returns-2)
+piece-at-spec = tie.close (tie.spec sector-at-requires sub-result part-result-start part-result-end returns add-to sub-result-2 part-result-start-2 part-result-end-2 returns-2)

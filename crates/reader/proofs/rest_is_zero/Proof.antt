@@ -5,6 +5,7 @@ use lib.ListN.{length}
 use Rattle.buffer.specs.Bytes.{zeros}
 use Rattle.block.specs.Block.{partsOf}
 use Rattle.reader.proofs.Pieces.{length-at, rest-zeros}
+use Rattle.block.specs.Log.{joined}
 use borrow.Author.Needs.{needs}
 use Rattle.reader.proofs.rest_is_zero.Statement.{statement}
 use Rattle.reader.proofs.rest_is_zero.Tie as tie
@@ -21,9 +22,9 @@ sub-from c = search needs
 add-from : tie.Need-add-from
 add-from c = search needs
 
-add-sector-at : tie.Need-add-sector-at
+add-n : tie.Need-add-n
 unfolding partsOf
-add-sector-at c = search needs
+add-n c = search needs
 
 sector-at-requires : tie.Need-sector-at-requires
 unfolding partsOf
@@ -36,13 +37,21 @@ part-is-zero-start : tie.Need-part-is-zero-start
 part-is-zero-start c = search needs
 
 part-is-zero-end : tie.Need-part-is-zero-end
-part-is-zero-end c = omega (arith, ap length (c .sector-at .ensures) ∙ length-at (c .before .before .args .log .now) _)
+part-is-zero-end c =
+    let a = c .before .before .before .before .args in
+    let log = joined (a .end .0) (a .log .now) (a .waiting .now) in
+    omega (arith, ap length (c .sector-at .ensures) ∙ length-at log _)
 
 is-zero-requires : tie.Need-is-zero-requires
 is-zero-requires c κs = search needs
 
 returns : tie.Need-returns
-returns c = c .is-zero .ensures ∙ ap zeros (rest-zeros (c .before .before .before .before .args .log .now) _ (c .before .before .before .before .args .first .0) (c .before .before .before .before .args .size) (c .before .before .before .before .pre .0) (c .before .before .sector-at .ensures))
+returns c =
+    let a = c .before .before .before .before .before .before .args in
+    let log = joined (a .end .0) (a .log .now) (a .waiting .now) in
+    let p = c .before .before .before .before .before .before .pre in
+    let sector-at = c .before .before .sector-at in
+    c .is-zero .ensures ∙ ap zeros (rest-zeros log _ (a .first .0) (a .size) (p .1) (sector-at .ensures))
 
 pub rest-is-zero-spec : {M : Type 1} → statement M
-rest-is-zero-spec = tie.close (tie.spec sub-last mul-from sub-from add-from add-sector-at sector-at-requires sub-is-zero part-is-zero-start part-is-zero-end is-zero-requires returns)
+rest-is-zero-spec = tie.close (tie.spec sub-last mul-from sub-from add-from add-n sector-at-requires sub-is-zero part-is-zero-start part-is-zero-end is-zero-requires returns)

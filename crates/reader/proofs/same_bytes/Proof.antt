@@ -7,7 +7,7 @@ use borrow.Author.Tests.{not-true, not-false}
 use lib.ListN.{length, drop}
 use Rattle.buffer.specs.Bytes.{same}
 use Rattle.block.specs.Block.{partsOf}
-use Rattle.block.specs.Log.{sectors}
+use Rattle.block.specs.Log.{joined, sectors}
 use Rattle.reader.specs.Reader.{bytesAt}
 use Rattle.reader.proofs.Pieces.{piece-length, piece-room, piece-next, piece-none}
 use Rattle.reader.proofs.Turns.{same-turn, same-stop, same-none}
@@ -16,16 +16,19 @@ use Rattle.reader.proofs.same_bytes.Statement.{statement}
 use Rattle.reader.proofs.same_bytes.Tie as tie
 
 abbrev Inv-loop : tie.InvT-loop
-Inv-loop log «data» n₀ done₀ n done =
+Inv-loop log end waiting «data» n₀ done₀ n done =
     (done ≤ length «data»)
-    × (n + partsOf (length «data» - done) ≤ sectors (length log))
-    × (same (bytesAt log n (length «data» - done)) (drop done «data») ≡ same (bytesAt log n₀ (length «data»)) «data»)
+    × (n + partsOf (length «data» - done) ≤ end .0 + sectors (length waiting))
+    × (same (bytesAt (joined (end .0) log waiting) n (length «data» - done)) (drop done «data») ≡ same (bytesAt (joined (end .0) log waiting) n₀ (length «data»)) «data»)
 
 abbrev μ-loop : tie.MeasureT-loop
-μ-loop log «data» n₀ done₀ n done = length «data» - done
+μ-loop log end waiting «data» n₀ done₀ n done = length «data» - done
 
 loop-holds : tie.Need-loop-holds Inv-loop μ-loop
-loop-holds c = rw (sub-zero (length (c .before .before .args .«data» .now))) (omega arith, c .before .before .pre, refl)
+loop-holds c =
+    let a = c .before .before .before .args in
+    let p = c .before .before .before .pre in
+    rw (sub-zero (length (a .«data» .now))) (omega arith, p .1, refl)
 
 sub-piece-at : tie.Need-sub-piece-at Inv-loop μ-loop
 sub-piece-at c = search needs
@@ -34,10 +37,12 @@ piece-at-requires : tie.Need-piece-at-requires Inv-loop μ-loop
 unfolding partsOf
 piece-at-requires c κs = search needs
 
-add-end : tie.Need-add-end Inv-loop μ-loop
-add-end c =
+add-next : tie.Need-add-next Inv-loop μ-loop
+add-next c =
+    let a = c .before .before .before .before .before .before .args in
+    let log = joined (a .end .0) (a .log .now) (a .waiting .now) in
     let l = c .before .before .loop in
-    omega (arith, piece-length (c .before .before .before .before .before .args .log .now) (l .n) (length (c .before .before .before .before .before .args .«data» .now)) (l .done) (c .before .loop-test .taken) _ (c .piece-at .ensures))
+    omega (arith, piece-length log (l .n) (length (a .«data» .now)) (l .done) (c .before .loop-test .taken) _ (c .piece-at .ensures))
 
 sub-equal : tie.Need-sub-equal Inv-loop μ-loop
 sub-equal c = search needs
@@ -47,22 +52,27 @@ part-equal-start c = search needs
 
 part-equal-end : tie.Need-part-equal-end Inv-loop μ-loop
 part-equal-end c =
+    let a = c .before .before .before .before .before .before .args in
+    let log = joined (a .end .0) (a .log .now) (a .waiting .now) in
     let l = c .before .before .loop in
-    omega (arith, piece-length (c .before .before .before .before .before .args .log .now) (l .n) (length (c .before .before .before .before .before .args .«data» .now)) (l .done) (c .before .loop-test .taken) _ (c .piece-at .ensures))
+    omega (arith, piece-length log (l .n) (length (a .«data» .now)) (l .done) (c .before .loop-test .taken) _ (c .piece-at .ensures))
 
 equal-requires : tie.Need-equal-requires Inv-loop μ-loop
 equal-requires c κs = search needs
 
 returns : tie.Need-returns Inv-loop μ-loop
 returns c =
-    let a = c .before .before .before .before .before .before .before .before .args in
-    let x = a .«data» .now in
+    let a = c .before .before .before .before .before .before .before .before .before .args in
+    let log = joined (a .end .0) (a .log .now) (a .waiting .now) in
     let l = c .before .before .before .before .before .loop in
-    let t = c .before .before .before .before .loop-test .taken in
-    let e = c .before .before .before .piece-at .ensures in
-    let p = c .before .before .before .piece-at .result .now in
-    let k = piece-length (a .log .now) (l .n) (length x) (l .done) t p e in
-    let g = piece-next (a .log .now) (l .n) (length x) (l .done) t p e in
+    let test = c .before .before .before .before .loop-test in
+    let piece-at = c .before .before .before .piece-at in
+    let x = a .«data» .now in
+    let t = test .taken in
+    let e = piece-at .ensures in
+    let p = piece-at .result .now in
+    let k = piece-length log (l .n) (length x) (l .done) t p e in
+    let g = piece-next log (l .n) (length x) (l .done) t p e in
     sym (same-stop _ p _ x (l .done) (omega (arith, k)) g (sym (c .before .equal .ensures) ∙ not-true _ (c .if1 .taken))) ∙ l .inv .2
 
 add-n : tie.Need-add-n Inv-loop μ-loop
@@ -71,30 +81,39 @@ add-n c = search needs
 
 loop-less : tie.Need-loop-less Inv-loop μ-loop
 loop-less c =
+    let a = c .before .before .before .before .before .before .before .before .before .args in
+    let log = joined (a .end .0) (a .log .now) (a .waiting .now) in
     let l = c .before .before .before .before .before .loop in
-    omega (arith, piece-length (c .before .before .before .before .before .before .before .before .args .log .now) (l .n) (length (c .before .before .before .before .before .before .before .before .args .«data» .now)) (l .done) (c .before .before .before .before .loop-test .taken) _ (c .before .before .before .piece-at .ensures))
+    let test = c .before .before .before .before .loop-test in
+    let piece-at = c .before .before .before .piece-at in
+    omega (arith, piece-length log (l .n) (length (a .«data» .now)) (l .done) (test .taken) _ (piece-at .ensures))
 
 loop-again : tie.Need-loop-again Inv-loop μ-loop
 loop-again c =
-    let a = c .before .before .before .before .before .before .before .before .args in
-    let x = a .«data» .now in
+    let a = c .before .before .before .before .before .before .before .before .before .args in
+    let log = joined (a .end .0) (a .log .now) (a .waiting .now) in
     let l = c .before .before .before .before .before .loop in
-    let t = c .before .before .before .before .loop-test .taken in
-    let e = c .before .before .before .piece-at .ensures in
-    let p = c .before .before .before .piece-at .result .now in
-    let k = piece-length (a .log .now) (l .n) (length x) (l .done) t p e in
-    let g = piece-next (a .log .now) (l .n) (length x) (l .done) t p e in (
+    let test = c .before .before .before .before .loop-test in
+    let piece-at = c .before .before .before .piece-at in
+    let x = a .«data» .now in
+    let t = test .taken in
+    let e = piece-at .ensures in
+    let p = piece-at .result .now in
+    let k = piece-length log (l .n) (length x) (l .done) t p e in
+    let g = piece-next log (l .n) (length x) (l .done) t p e in (
       omega (arith, k),
-      piece-room (a .log .now) (l .n) (length x) (l .done) t p e _ (l .inv .1),
+      piece-room log (l .n) (length x) (l .done) t p e _ (l .inv .1),
       same-turn _ p _ x (l .done) (omega (arith, k)) g (sym (c .before .equal .ensures) ∙ not-false _ (c .if1 .left)) ∙ l .inv .2,
     )
 
 returns-2 : tie.Need-returns-2 Inv-loop μ-loop
 returns-2 c =
-    let a = c .before .before .before .before .args in
-    let x = a .«data» .now in
+    let a = c .before .before .before .before .before .args in
+    let log = joined (a .end .0) (a .log .now) (a .waiting .now) in
     let l = c .before .loop in
-    sym (same-none _ x (l .done) (c .loop-test .left) (piece-none (a .log .now) (l .n) (length x) (l .done) (c .loop-test .left))) ∙ l .inv .2
+    let test = c .loop-test in
+    let x = a .«data» .now in
+    sym (same-none _ x (l .done) (test .left) (piece-none log (l .n) (length x) (l .done) (test .left))) ∙ l .inv .2
 
 pub same-bytes-spec : {M : Type 1} → statement M
-same-bytes-spec = tie.close (tie.spec Inv-loop μ-loop loop-holds sub-piece-at piece-at-requires add-end sub-equal part-equal-start part-equal-end equal-requires returns add-n loop-less loop-again returns-2)
+same-bytes-spec = tie.close (tie.spec Inv-loop μ-loop loop-holds sub-piece-at piece-at-requires add-next sub-equal part-equal-start part-equal-end equal-requires returns add-n loop-less loop-again returns-2)

@@ -1,34 +1,28 @@
--- `reader::sector_at` meets its contract.
-use mathlib.Core.Path.{_≡_, sym, ap, _∙_}
-use Prim.Native.Nat.{ℕ, _+_, _-_, _*_}
+-- `reader::sector_at` meets its contract: the log's sector before the end, and one of those that wait behind it.
+use mathlib.Core.Path.{sym, _∙_}
 use native.Mathlib.Omega.{arith}
-use lib.ListN.{take, drop}
-use Rattle.reader.proofs.Pieces.{at-within}
+use Rattle.block.proofs.Joined.{at-log, at-waiting}
 use borrow.Author.Needs.{needs}
 use Rattle.reader.proofs.sector_at.Statement.{statement}
 use Rattle.reader.proofs.sector_at.Tie as tie
 
-mul-from : tie.Need-mul-from
-mul-from c = search needs
-
-add-end : tie.Need-add-end
-add-end c = search needs
-
-sub-result : tie.Need-sub-result
-sub-result c = search needs
-
-part-result-start : tie.Need-part-result-start
-part-result-start c = search needs
-
-part-result-end : tie.Need-part-result-end
-part-result-end c = search needs
+sector-of-requires : tie.Need-sector-of-requires
+sector-of-requires c κs = search needs
 
 returns : tie.Need-returns
 returns c =
-    let log = c .before .args .log .now in
-    let n = c .before .args .n in
-    let w : 512 * n + 512 - 512 * n ≡ 512 = omega arith in
-    ap (λ (k : ℕ). take k (drop (512 * n) log)) w ∙ sym (at-within log n (c .before .pre))
+    let a = c .before .before .before .before .before .before .args in
+    let p = c .before .before .before .before .before .before .pre in
+    c .sector-of .ensures ∙ sym (at-log (a .end .0) (a .log .now) (a .waiting .now) (p .0) (a .n .0) (omega arith))
+
+sector-of-requires-2 : tie.Need-sector-of-requires-2
+sector-of-requires-2 c κs = search needs
+
+returns-2 : tie.Need-returns-2
+returns-2 c =
+    let a = c .before .before .before .before .before .before .before .before .args in
+    let p = c .before .before .before .before .before .before .before .before .pre in
+    c .sector-of2 .ensures ∙ sym (at-waiting (a .end .0) (a .log .now) (a .waiting .now) (p .0) (a .n .0) (omega arith))
 
 pub sector-at-spec : {M : Type 1} → statement M
-sector-at-spec = tie.close (tie.spec mul-from add-end sub-result part-result-start part-result-end returns)
+sector-at-spec = tie.close (tie.spec sector-of-requires returns sector-of-requires-2 returns-2)

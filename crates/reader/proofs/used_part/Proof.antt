@@ -22,38 +22,43 @@ loop-holds : tie.Need-loop-holds Inv-loop μ-loop
 unfolding used
 loop-holds c = (omega arith, refl)
 
-sub-sector-at : tie.Need-sub-sector-at Inv-loop μ-loop
-sub-sector-at c = search needs
+sub-last : tie.Need-sub-last Inv-loop μ-loop
+sub-last c = search needs
 
-sector-at-requires : tie.Need-sector-at-requires Inv-loop μ-loop
-sector-at-requires c κs = search needs
+sector-of-requires : tie.Need-sector-of-requires Inv-loop μ-loop
+sector-of-requires c κs = search needs
 
 is-zero-requires : tie.Need-is-zero-requires Inv-loop μ-loop
 is-zero-requires c κs = search needs
 
 returns : tie.Need-returns Inv-loop μ-loop
 returns c =
-    let log = c .before .before .before .before .before .before .args .log .now in
-    let n = c .before .before .before .before .loop .n in
-    let z = sym (ap zeros (c .before .before .sector-at .ensures)) ∙ sym (c .before .is-zero .ensures) ∙ not-true _ (c .if1 .taken) in
-    sym (used-last log n (omega arith) ∙ ap (λ (b : Bool). cond b (usedOf log (n - 1)) n) z) ∙ c .before .before .before .before .loop .inv .1
-
-sub-n : tie.Need-sub-n Inv-loop μ-loop
-sub-n c = search needs
+    let a = c .before .before .before .before .before .before .args in
+    let l = c .before .before .before .before .loop in
+    let sector-of = c .before .before .sector-of in
+    let log = a .log .now in
+    let n = l .n in
+    let z = sym (ap zeros (sector-of .ensures)) ∙ sym (c .before .is-zero .ensures) ∙ not-true _ (c .if1 .taken) in
+    sym (used-last log n (omega arith) ∙ ap (λ (b : Bool). cond b (usedOf log (n - 1)) n) z) ∙ l .inv .1
 
 loop-less : tie.Need-loop-less Inv-loop μ-loop
 loop-less c = search needs
 
 loop-again : tie.Need-loop-again Inv-loop μ-loop
 loop-again c =
-    let log = c .before .before .before .before .before .before .args .log .now in
-    let n = c .before .before .before .before .loop .n in
-    let z = sym (ap zeros (c .before .before .sector-at .ensures)) ∙ sym (c .before .is-zero .ensures) ∙ not-false _ (c .if1 .left) in
-    (omega arith, sym (used-last log n (omega arith) ∙ ap (λ (b : Bool). cond b (usedOf log (n - 1)) n) z) ∙ c .before .before .before .before .loop .inv .1)
+    let a = c .before .before .before .before .before .before .args in
+    let l = c .before .before .before .before .loop in
+    let sector-of = c .before .before .sector-of in
+    let log = a .log .now in
+    let n = l .n in
+    let z = sym (ap zeros (sector-of .ensures)) ∙ sym (c .before .is-zero .ensures) ∙ not-false _ (c .if1 .left) in
+    (omega arith, sym (used-last log n (omega arith) ∙ ap (λ (b : Bool). cond b (usedOf log (n - 1)) n) z) ∙ l .inv .1)
 
 returns-2 : tie.Need-returns-2 Inv-loop μ-loop
 unfolding usedOf
-returns-2 c = let z : c .before .loop .n ≡ 0 = omega arith in rw z at (c .before .loop .inv .1)
+returns-2 c =
+    let l = c .before .loop in
+    let z : l .n ≡ 0 = omega arith in rw z at (l .inv .1)
 
 pub used-part-spec : {M : Type 1} → statement M
-used-part-spec = tie.close (tie.spec Inv-loop μ-loop loop-holds sub-sector-at sector-at-requires is-zero-requires returns sub-n loop-less loop-again returns-2)
+used-part-spec = tie.close (tie.spec Inv-loop μ-loop loop-holds sub-last sector-of-requires is-zero-requires returns loop-less loop-again returns-2)

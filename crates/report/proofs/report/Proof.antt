@@ -2,39 +2,35 @@
 use borrow.Author.Needs.{needs}
 use native.Mathlib.Omega.{arith}
 use borrow.Author.Tests.{not-true, not-false}
-use lib.ListN.{length}
-use Rattle.lookup.proofs.Laws.{allowed-sectors}
 use Rattle.report.proofs.Laws.{report-buffer, report-log, report-room, report-written}
 use Rattle.report.proofs.report.Statement.{statement}
 use Rattle.report.proofs.report.Tie as tie
 
 returns : tie.Need-returns
 returns c =
-    let s = c .before .before .before in
-    report-buffer (s .args .log .now) (s .args .buffer .now) (omega (arith, c .if1 .taken))
+    let a = c .before .before .before .args in
+    report-buffer (a .log .now) (a .buffer .now) (omega (arith, c .if1 .taken))
 
 is-allowed-requires : tie.Need-is-allowed-requires
 is-allowed-requires c κs = search needs
 
 returns-2 : tie.Need-returns-2
 returns-2 c =
-    let s = c .before .before .before .before .before in
-    report-log (s .args .log .now) (s .args .buffer .now) (omega (arith, c .before .before .if1 .left)) _ (c .before .is-allowed .ensures) (not-true _ (c .if2 .taken))
+    let a = c .before .before .before .before .before .args in
+    report-log (a .log .now) (a .buffer .now) (omega (arith, c .before .before .if1 .left)) _ (c .before .is-allowed .ensures) (not-true _ (c .if2 .taken))
 
 used-part-requires : tie.Need-used-part-requires
 used-part-requires c κs = search needs
 
 scan-requires : tie.Need-scan-requires
-scan-requires c κs =
-    let s = c .before .before .before .before .before .before in
-    (omega (arith, allowed-sectors (length (s .args .log .now)) _ (c .before .before .is-allowed .ensures) (not-false _ (c .before .if2 .left))), search needs)
+scan-requires c κs = c .used-part .ensures
 
 write-text-requires : tie.Need-write-text-requires
 write-text-requires c κs =
-    let s = c .before .before .before .before .before .before .before .before in
+    let a = c .before .before .before .before .before .before .before .before .args in
     let g =
-    report-room (s .args .log .now) (s .args .buffer .now) (omega (arith, c .before .before .before .before .before .if1 .left)) _ (c .before .before .before .before .is-allowed .ensures)
-    (c .before .before .used-part .result) (c .before .scan .result) (not-false _ (c .before .before .before .if2 .left)) (c .before .before .used-part .ensures) (c .before .scan .ensures) in
+    report-room (a .log .now) (a .buffer .now) (omega (arith, c .before .before .before .before .before .if1 .left)) _ (c .before .before .before .before .is-allowed .ensures)
+    (c .before .before .used-part .result .0) (c .before .scan .result) (not-false _ (c .before .before .before .if2 .left)) (c .before .before .used-part .ensures) (c .before .scan .ensures) in
     (g .0, omega (arith, g .1, g .2), omega (arith, g .2), g .3, g .4)
 
 same-length : tie.Need-same-length
@@ -42,9 +38,9 @@ same-length c = search needs
 
 returns-3 : tie.Need-returns-3
 returns-3 c =
-    let s = c .before .before .before .before .before .before .before .before .before .before .before in
-    report-written (s .args .log .now) (s .args .buffer .now) (omega (arith, c .before .before .before .before .before .before .before .before .if1 .left)) _ (c .before .before .before .before .before .before .before .is-allowed .ensures) _
-    (c .before .before .before .before .before .used-part .result) (c .before .before .before .before .scan .result) (c .before .before .write-text .result) (not-false _ (c .before .before .before .before .before .before .if2 .left))
+    let a = c .before .before .before .before .before .before .before .before .before .before .before .args in
+    report-written (a .log .now) (a .buffer .now) (omega (arith, c .before .before .before .before .before .before .before .before .if1 .left)) _ (c .before .before .before .before .before .before .before .is-allowed .ensures) _
+    (c .before .before .before .before .before .used-part .result .0) (c .before .before .before .before .scan .result) (c .before .before .write-text .result) (not-false _ (c .before .before .before .before .before .before .if2 .left))
     (c .before .before .before .before .before .used-part .ensures) (c .before .before .before .before .scan .ensures) (c .before .before .write-text .ensures)
 
 pub report-spec : {M : Type 1} → statement M

@@ -1,21 +1,13 @@
-use mathlib.Core.Path.{_≡_, refl, sym, ap, _∙_}
-use Prim.Native.Nat.{ℕ, _+_, _-_, _/_, _≤_, _<_}
+-- `store::append_new` meets its contract.
+use mathlib.Core.Path.{ap}
 use native.Mathlib.Omega.{arith}
 use lib.ListN.{length}
-use Rattle.block.specs.Block.{partsOf}
-use Rattle.block.specs.Log.{sectors, used}
 use Rattle.block.proofs.Used.{used-le-sectors}
-use Rattle.sha1.specs.Sha1.{sha1Of}
 use Rattle.sha1.proofs.Digest.{digest-length}
-use Rattle.store.proofs.Laws.{no-room, room, other-length, same-block, other-block, found-within, store-found, store-new}
+use Rattle.store.proofs.Laws.{no-room, room}
 use borrow.Author.Needs.{needs}
 use Rattle.store.proofs.append_new.Statement.{statement}
 use Rattle.store.proofs.append_new.Tie as tie
-use Rattle.store.proofs.append_new.Reads as reads
-use Rattle.store.proofs.append_new.Lts as lts
-use Rattle.append.proofs.append_block.Reads as append-block-reads
-use Rattle.block.proofs.parts_of.Reads as parts-of-reads
-use Rattle.reader.proofs.used_part.Reads as used-part-reads
 
 used-part-requires : tie.Need-used-part-requires
 used-part-requires c κs = search needs
@@ -24,22 +16,42 @@ parts-of-requires : tie.Need-parts-of-requires
 parts-of-requires c κs = search needs
 
 sub-if1 : tie.Need-sub-if1
-sub-if1 c = omega (arith, (c .before .used-part .ensures), used-le-sectors ((c .before .before .before .before .before .args .log .now)))
+sub-if1 c =
+    let a = c .before .before .before .before .before .before .args in
+    let used-part = c .before .before .used-part in
+    omega (arith, used-part .ensures, used-le-sectors (a .log .now))
 
 same-length : tie.Need-same-length
 same-length c = search needs
 
 returns : tie.Need-returns
-returns c = no-room ((c .before .before .before .before .before .before .args .log .now)) ((c .before .before .before .before .before .before .args .kind)) ((c .before .before .before .before .before .before .args) .«data» .now) (omega (arith, (c .before .before .used-part .ensures), (c .before .parts-of .ensures), used-le-sectors ((c .before .before .before .before .before .before .args .log .now)), (c .if1 .taken)))
+returns c =
+    let a = c .before .before .before .before .before .before .before .args in
+    let used-part = c .before .before .before .used-part in
+    let parts-of = c .before .before .parts-of in
+    no-room (a .log .now) (a .kind) (a .«data» .now) (omega (arith, used-part .ensures, parts-of .ensures, used-le-sectors (a .log .now), c .if1 .taken))
 
 append-block-requires : tie.Need-append-block-requires
-append-block-requires c κs = ((c .before .before .before .before .before .before .before .before .pre .0), omega (arith, ap length ((c .before .before .before .before .before .before .before .before .pre .1)), digest-length ((c .before .before .before .before .before .before .before .before .args) .«data» .now)), omega (arith, (c .before .before .before .before .used-part .ensures), (c .before .before .before .parts-of .ensures), used-le-sectors ((c .before .before .before .before .before .before .before .before .args .log .now)), (c .before .before .if1 .left)))
+append-block-requires c κs =
+    let p = c .before .before .before .before .before .before .before .before .before .pre in
+    let a = c .before .before .before .before .before .before .before .before .before .args in
+    let used-part = c .before .before .before .before .before .used-part in
+    let parts-of = c .before .before .before .before .parts-of in
+    let if1 = c .before .before .if1 in
+    (p .0, omega (arith, ap length (p .1), digest-length (a .«data» .now)), omega (arith, used-part .ensures, parts-of .ensures, used-le-sectors (a .log .now), if1 .left))
 
 same-length-2 : tie.Need-same-length-2
 same-length-2 c = search needs
 
 returns-2 : tie.Need-returns-2
-returns-2 c = room ((c .before .before .before .before .before .before .before .before .before .before .before .args .log .now)) ((c .before .before .before .before .before .before .before .before .before .before .before .args .kind)) ((c .before .before .before .before .before .before .before .before .before .before .before .args) .«data» .now) ((c .before .before .before .before .before .before .before .used-part .result)) ((c .before .before .before .before .before .before .before .before .before .before .before .args .score .now)) _ ((c .before .before .before .before .before .before .before .used-part .ensures)) ((c .before .before .before .before .before .before .before .before .before .before .before .pre .1)) (omega (arith, (c .before .before .before .before .before .before .before .used-part .ensures), (c .before .before .before .before .before .before .parts-of .ensures), used-le-sectors ((c .before .before .before .before .before .before .before .before .before .before .before .args .log .now)), (c .before .before .before .before .before .if1 .left))) ((c .before .before .append-block .ensures))
+returns-2 c =
+    let a = c .before .before .before .before .before .before .before .before .before .before .before .before .args in
+    let p = c .before .before .before .before .before .before .before .before .before .before .before .before .pre in
+    let used-part = c .before .before .before .before .before .before .before .before .used-part in
+    let parts-of = c .before .before .before .before .before .before .before .parts-of in
+    let if1 = c .before .before .before .before .before .if1 in
+    let append-block = c .before .before .append-block in
+    room (a .log .now) (a .kind) (a .«data» .now) (used-part .result .0) (a .score .now) _ (used-part .ensures) (p .1) (omega (arith, used-part .ensures, parts-of .ensures, used-le-sectors (a .log .now), if1 .left)) (append-block .ensures)
 
 pub append-new-spec : {M : Type 1} → statement M
 append-new-spec =

@@ -1,31 +1,43 @@
-use mathlib.Core.Path.{_≡_, refl, sym, ap, _∙_}
-use Prim.Native.Nat.{ℕ, _+_, _-_, _/_, _≤_, _<_}
+-- `store::compare` meets its contract.
+use mathlib.Core.Path.{_≡_, ap, _∙_}
 use native.Mathlib.Omega.{arith}
 use lib.ListN.{length}
+use Rattle.buffer.specs.Bytes.{Bytes, same}
 use Rattle.block.specs.Block.{partsOf}
-use Rattle.block.specs.Log.{sectors, used}
-use Rattle.block.proofs.Used.{used-le-sectors}
-use Rattle.sha1.specs.Sha1.{sha1Of}
-use Rattle.sha1.proofs.Digest.{digest-length}
-use Rattle.store.proofs.Laws.{no-room, room, other-length, same-block, other-block, found-within, store-found, store-new}
+use Rattle.reader.proofs.Alone.{bytes-alone}
+use Rattle.store.proofs.Laws.{other-length, same-block, other-block}
 use borrow.Author.Needs.{needs}
 use Rattle.store.proofs.compare.Statement.{statement}
 use Rattle.store.proofs.compare.Tie as tie
-use Rattle.store.proofs.compare.Reads as reads
-use Rattle.store.proofs.compare.Lts as lts
-use Rattle.reader.proofs.same_bytes.Reads as same-bytes-reads
 
 returns : tie.Need-returns
-returns c = other-length ((c .before .before .before .args .log .now)) ((c .before .before .before .args .first .0)) ((c .before .before .before .args .size)) ((c .before .before .before .args) .«data» .now) ((c .if1 .taken))
+returns c =
+    let a = c .before .before .before .args in
+    other-length (a .log .now) (a .first .0) (a .size) (a .«data» .now) (c .if1 .taken)
+
+slice-aggregate-same-bytes : tie.Need-slice-aggregate-same-bytes
+slice-aggregate-same-bytes c = search needs
 
 same-bytes-requires : tie.Need-same-bytes-requires
-same-bytes-requires c κs = let e : partsOf ((c .before .before .before .args .size)) ≡ partsOf (length ((c .before .before .before .args) .«data» .now)) = ap partsOf ((c .if1 .left)) in omega (arith, e, (c .before .before .before .pre))
+same-bytes-requires c κs =
+    let a = c .before .before .before .before .args in
+    let p = c .before .before .before .before .pre in
+    let e : partsOf (a .size) ≡ partsOf (length (a .«data» .now)) = ap partsOf (c .before .if1 .left) in
+    (omega arith, omega (arith, e, p))
 
 returns-2 : tie.Need-returns-2
-returns-2 c = same-block ((c .before .before .before .before .before .args .log .now)) ((c .before .before .before .before .before .args .first .0)) ((c .before .before .before .before .before .args .size)) ((c .before .before .before .before .before .args) .«data» .now) _ ((c .before .before .if1 .left)) ((c .before .same-bytes .ensures)) ((c .if2 .taken))
+returns-2 c =
+    let a = c .before .before .before .before .before .before .args in
+    let d = a .«data» .now in
+    let if1 = c .before .before .before .if1 in
+    same-block (a .log .now) (a .first .0) (a .size) d _ (if1 .left) (c .before .same-bytes .ensures ∙ ap (λ (x : Bytes). same x d) (bytes-alone (a .log .now) (a .first .0) (length d))) (c .if2 .taken)
 
 returns-3 : tie.Need-returns-3
-returns-3 c = other-block ((c .before .before .before .before .before .args .log .now)) ((c .before .before .before .before .before .args .first .0)) ((c .before .before .before .before .before .args .size)) ((c .before .before .before .before .before .args) .«data» .now) _ ((c .before .before .if1 .left)) ((c .before .same-bytes .ensures)) ((c .if2 .left))
+returns-3 c =
+    let a = c .before .before .before .before .before .before .args in
+    let d = a .«data» .now in
+    let if1 = c .before .before .before .if1 in
+    other-block (a .log .now) (a .first .0) (a .size) d _ (if1 .left) (c .before .same-bytes .ensures ∙ ap (λ (x : Bytes). same x d) (bytes-alone (a .log .now) (a .first .0) (length d))) (c .if2 .left)
 
 pub compare-spec : {M : Type 1} → statement M
-compare-spec = tie.close (tie.spec returns same-bytes-requires returns-2 returns-3)
+compare-spec = tie.close (tie.spec returns slice-aggregate-same-bytes same-bytes-requires returns-2 returns-3)

@@ -1,42 +1,34 @@
 -- `walk::visit` meets its contract, refusal by refusal.
+use mathlib.Core.Path.{ap, _∙_}
+use Rattle.log.specs.LookUp.{counted}
+use Rattle.log.proofs.Parts.{look-up-alone}
+use Rattle.walk.proofs.Visits.{met-nest, met-spent, met-looked}
 use borrow.Author.Needs.{needs}
-use Rattle.walk.proofs.Visits.{met-nest, met-spent, met-refused, met-over, met-found}
 use Rattle.walk.proofs.visit.Statement.{statement}
 use Rattle.walk.proofs.visit.Tie as tie
 
 returns : tie.Need-returns
-returns c = met-nest (c .before .before .before .args .log .now) (c .before .before .before .args .nest) (c .before .before .before .args .left) (c .before .before .before .args .kind) (c .before .before .before .args .count) (c .before .before .before .args .score .now) (c .if1 .taken)
+returns c =
+    let a = c .before .before .before .args in
+    met-nest (a .log .now) (a .nest) (a .left) (a .kind) (a .count) (a .score .now) (c .if1 .taken)
 
 returns-2 : tie.Need-returns-2
-returns-2 c = met-spent (c .before .before .before .before .args .log .now) (c .before .before .before .before .args .nest) (c .before .before .before .before .args .left) (c .before .before .before .before .args .kind) (c .before .before .before .before .args .count) (c .before .before .before .before .args .score .now) (c .before .if1 .left) (c .if2 .taken)
+returns-2 c =
+    let a = c .before .before .before .before .args in
+    met-spent (a .log .now) (a .nest) (a .left) (a .kind) (a .count) (a .score .now) (c .before .if1 .left) (c .if2 .taken)
 
-look-up-requires : tie.Need-look-up-requires
-look-up-requires c κs = search needs
+slice-aggregate-fetch : tie.Need-slice-aggregate-fetch
+slice-aggregate-fetch c = search needs
 
-enum-known-look : tie.Need-enum-known-look
-enum-known-look c = search needs
-
-enum-told : tie.Need-enum-told
-enum-told c = search needs
+fetch-requires : tie.Need-fetch-requires
+fetch-requires c κs = search needs
 
 returns-3 : tie.Need-returns-3
-returns-3 c = met-refused (c .before .before .before .before .before .before .before .args .log .now) (c .before .before .before .before .before .before .before .args .nest) (c .before .before .before .before .before .before .before .args .left) (c .before .before .before .before .before .before .before .args .kind) (c .before .before .before .before .before .before .before .args .count) (c .before .before .before .before .before .before .before .args .score .now) (c .before .before .before .before .if1 .left) (c .before .before .before .if2 .left) _ (c .before .before .look-up .ensures) _ (c .enum-told .given .1)
-
-returns-4 : tie.Need-returns-4
-returns-4 c = met-over (c .before .before .before .before .before .before .before .before .before .args .log .now) (c .before .before .before .before .before .before .before .before .before .args .nest) (c .before .before .before .before .before .before .before .before .before .args .left) (c .before .before .before .before .before .before .before .before .before .args .kind) (c .before .before .before .before .before .before .before .before .before .args .count) (c .before .before .before .before .before .before .before .before .before .args .score .now) (c .before .before .before .before .before .before .if1 .left) (c .before .before .before .before .before .if2 .left) _ (c .before .before .before .before .look-up .ensures) _ _ (c .before .before .look .given .1) (c .if3 .taken)
-
-returns-5 : tie.Need-returns-5
-returns-5 c = met-found (c .before .before .before .before .before .before .before .before .before .args .log .now) (c .before .before .before .before .before .before .before .before .before .args .nest) (c .before .before .before .before .before .before .before .before .before .args .left) (c .before .before .before .before .before .before .before .before .before .args .kind) (c .before .before .before .before .before .before .before .before .before .args .count) (c .before .before .before .before .before .before .before .before .before .args .score .now) (c .before .before .before .before .before .before .if1 .left) (c .before .before .before .before .before .if2 .left) _ (c .before .before .before .before .look-up .ensures) _ _ (c .before .before .look .given .1) (c .if3 .left)
+returns-3 c =
+    let a = c .before .before .before .before .before .before .args in
+    let fetch = c .fetch in
+    met-looked (a .log .now) (a .nest) (a .left) (a .kind) (a .count) (a .score .now) (c .before .before .before .if1 .left) (c .before .before .if2 .left) (fetch .result)
+    (fetch .ensures ∙ ap (counted (a .count)) (look-up-alone (a .log .now) (a .kind) (a .score .now)))
 
 pub visit-spec : {M : Type 1} → statement M
-visit-spec =
-    tie.close
-    (tie.spec
-    returns
-    returns-2
-    look-up-requires
-    enum-known-look
-    enum-told
-    returns-3
-    returns-4
-    returns-5)
+visit-spec = tie.close (tie.spec returns returns-2 slice-aggregate-fetch fetch-requires returns-3)

@@ -1,7 +1,8 @@
 -- `boundary::survey::skywimple_sound_at` meets its contract, by a law for each of its three returns.
+use mathlib.Core.Path.{_∙_}
 use native.Mathlib.Omega.{arith}
 use borrow.Author.Tests.{not-true, not-false}
-use Rattle.lookup.proofs.Laws.{allowed-sectors}
+use Rattle.reader.proofs.Alone.{size-alone}
 use Rattle.results.proofs.SurveyLaws.{sound-short, sound-barred, sound-past, sound-sized}
 use borrow.Author.Needs.{needs}
 use Rattle.boundary.proofs.survey.skywimple_sound_at.Statement.{statement}
@@ -17,22 +18,35 @@ cast-result : tie.Need-cast-result
 cast-result c = search needs
 
 returns : tie.Need-returns
-returns c = let s = c .before .before .before .before in sound-barred (s .args .log .now) (s .args .n) _ (c .before .before .is-allowed .ensures) (not-true _ (c .before .if1 .taken)) _ (c .number .ensures)
+returns c =
+    let a = c .before .before .before .before .args in
+    sound-barred (a .log .now) (a .n) _ (c .before .before .is-allowed .ensures) (not-true _ (c .before .if1 .taken)) _ (c .number .ensures)
 
 returns-2 : tie.Need-returns-2
-returns-2 c = let s = c .before .before .before .before in sound-past (s .args .log .now) (s .args .n) _ (c .before .before .is-allowed .ensures) (not-false _ (c .before .if1 .left)) (omega (arith, c .if2 .taken))
+returns-2 c =
+    let a = c .before .before .before .before .args in
+    sound-past (a .log .now) (a .n) _ (c .before .before .is-allowed .ensures) (not-false _ (c .before .if1 .left)) (omega (arith, c .if2 .taken))
+
+slice-aggregate-sound-at : tie.Need-slice-aggregate-sound-at
+slice-aggregate-sound-at c = search needs
 
 sound-at-requires : tie.Need-sound-at-requires
-sound-at-requires c κs = (omega arith, omega (arith, allowed-sectors _ _ (c .before .before .is-allowed .ensures) (not-false _ (c .before .if1 .left))))
+sound-at-requires c κs = (omega arith, omega (arith, c .before .if2 .left))
 
 cast-result-2 : tie.Need-cast-result-2
-cast-result-2 c = let s = c .before .before .before .before .before in omega (arith, sound-short (s .args .log .now) (s .args .n) _ (c .sound-at .ensures))
+cast-result-2 c =
+    let a = c .before .before .before .before .before .before .args in
+    omega (arith, sound-short (a .log .now) (a .n) _ (c .sound-at .ensures ∙ size-alone (a .log .now) (a .n)))
 
 mul-result : tie.Need-mul-result
-mul-result c = let s = c .before .before .before .before .before in omega (arith, sound-short (s .args .log .now) (s .args .n) _ (c .sound-at .ensures))
+mul-result c =
+    let a = c .before .before .before .before .before .before .args in
+    omega (arith, sound-short (a .log .now) (a .n) _ (c .sound-at .ensures ∙ size-alone (a .log .now) (a .n)))
 
 returns-3 : tie.Need-returns-3
-returns-3 c = let s = c .before .before .before .before .before in sound-sized (s .args .log .now) (s .args .n) _ (c .before .before .before .is-allowed .ensures) (not-false _ (c .before .before .if1 .left)) _ (c .sound-at .ensures)
+returns-3 c =
+    let a = c .before .before .before .before .before .before .args in
+    sound-sized (a .log .now) (a .n) _ (c .before .before .before .before .is-allowed .ensures) (not-false _ (c .before .before .before .if1 .left)) _ (c .sound-at .ensures ∙ size-alone (a .log .now) (a .n))
 
 pub skywimple-sound-at-spec : {M : Type 1} → statement M
 skywimple-sound-at-spec =
@@ -43,6 +57,7 @@ skywimple-sound-at-spec =
     cast-result
     returns
     returns-2
+    slice-aggregate-sound-at
     sound-at-requires
     cast-result-2
     mul-result

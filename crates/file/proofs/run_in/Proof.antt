@@ -1,0 +1,32 @@
+-- `file::run_in` meets its contract, case by case.
+use mathlib.Core.Path.{_≡_, sym, ap, _∙_}
+use Prim.Native.Nat.{ℕ}
+use native.Mathlib.Omega.{arith}
+use Rattle.file.specs.Fetch.{startOf, runIn}
+use borrow.Author.Needs.{needs}
+use Rattle.file.proofs.run_in.Statement.{statement}
+use Rattle.file.proofs.run_in.Tie as tie
+
+enum-known-look : tie.Need-enum-known-look
+enum-known-look c = search needs
+
+leaf-run-requires : tie.Need-leaf-run-requires
+leaf-run-requires c κs =
+    let p = c .before .before .before .pre in
+    (p .1, p .2, p .3, omega (arith, p .0, ap startOf (c .before .look .given .1)))
+
+enum-known-look-2 : tie.Need-enum-known-look-2
+enum-known-look-2 c = search needs
+
+returns : tie.Need-returns
+returns c =
+    let a = c .before .before .before .before .args in
+    c .leaf-run .ensures ∙ sym (ap (runIn (a .page) (a .e) (a .offset)) (c .before .before .look .given .1))
+
+returns-2 : tie.Need-returns-2
+returns-2 c =
+    let a = c .before .before .before .args in
+    sym (ap (runIn (a .page) (a .e) (a .offset)) (c .before .look2 .given .1))
+
+pub run-in-spec : {M : Type 1} → statement M
+run-in-spec = tie.close (tie.spec enum-known-look leaf-run-requires enum-known-look-2 returns returns-2)
