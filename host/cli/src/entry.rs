@@ -43,7 +43,8 @@ impl Entry {
         let sizes = (40..=MOST_DATA).contains(&entry.psize)
             && (1..=MOST_DATA).contains(&entry.dsize)
             && (!entry.directory || entry.dsize.is_multiple_of(LENGTH));
-        let whole = flags >> 5 == 0 && sizes && entry.size <= entry.span(entry.depth);
+        let plain = flags >> 5 == 0 && bytes[9..14].iter().all(|pad| *pad == 0);
+        let whole = plain && sizes && entry.size <= entry.span(entry.depth);
         whole.then_some(entry)
     }
 
