@@ -6,3 +6,5 @@ pub mod Bound
 pub mod BitBurst
 pub mod BurstAt
 pub mod ByTable
+pub mod Feed
+pub mod Digits

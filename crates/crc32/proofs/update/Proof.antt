@@ -1,26 +1,13 @@
 -- `crc32::update` meets its contract. The loop's invariant: the bytes that are left, fed to the register, give what all of them give from the start.
 -- Assumes nothing.
-use mathlib.Core.Path.{_≡_, refl, sym, ap, _∙_}
-use mathlib.Core.List.{List}
-use Prim.Native.Nat.{ℕ, _≤_, _<_, _+_, _-_}
-use native.Mathlib.Numerals.{add-one}
-use native.Mathlib.Omega.{arith}
+use mathlib.Core.Path.{_≡_, refl}
+use Prim.Native.Nat.{_≤_, _-_}
 use borrow.Author.Needs.{needs}
-use lib.ListN.{length, drop, getD}
-use lib.Seq.{drop-cons, drop-length}
-use Rattle.crc32.specs.Crc32.{bit, bits, byte, feed, entries, table}
+use lib.ListN.{length, drop}
+use Rattle.crc32.specs.Crc32.{bit, bits, feed, entries, table}
+use Rattle.crc32.proofs.Feed.{turn, done}
 use Rattle.crc32.proofs.update.Statement.{statement}
 use Rattle.crc32.proofs.update.Tie as tie
-
--- one byte more
-turn : (s : List ℕ) (i c r e : ℕ) → i < length s → r ≡ byte c (getD s i 0) → feed c (drop i s) ≡ e → feed r (drop (i + 1) s) ≡ e
-turn s i c r e h p q = rw (p, add-one) (ap (feed c) (sym (drop-cons s i 0 h)) ∙ q)
-
--- none left
-done : (s : List ℕ) (i c e : ℕ) → i ≤ length s → length s ≤ i → feed c (drop i s) ≡ e → c ≡ e
-done s i c e h k q =
-    let n : i ≡ length s = omega arith in
-    sym (ap (feed c) (ap (λ (j : ℕ). drop j s) n ∙ drop-length s)) ∙ q
 
 abbrev Inv-loop : tie.InvT-loop
 Inv-loop c s t r₀ i₀ r i = (i ≤ length s) × (feed r (drop i s) ≡ feed c s)
