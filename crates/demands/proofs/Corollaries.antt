@@ -135,13 +135,15 @@ answers-have-the-score t count s m log buffer Q n =
 
 -- the ledger's row that owns the score
 abbrev Owned : History → ℕ → Bytes → Type 0
-Owned h t d = (sha1Of d ≡ zeroScore) ⊎ ((r : Row) × List·Memᴰ r (intact archive (ledgerOf h)) × (r .kind ≡ t) × (r .score ≡ sha1Of d) × (r .bytes ≢ d))
+Owned h t d = ((sha1Of d ≡ zeroScore) × (d ≢ [])) ⊎ ((r : Row) × List·Memᴰ r (intact archive (ledgerOf h)) × (r .kind ≡ t) × (r .score ≡ sha1Of d) × (r .bytes ≢ d))
 
 pub write-fails-by-the-ledger : claims.WriteFailsByTheLedger
 write-fails-by-the-ledger h t d m buffer W = go (write-fails-only-so t d m (logOf h) buffer W)
   where
     owner : (r : Row) → look.held (logOf h) t (sha1Of d) ≡ some r → r .bytes ≢ d → (b : Bool) → same (sha1Of d) zeroScore ≡ b → Owned h t d
-    owner r e n true q = inl (same-true (sha1Of d) zeroScore q)
+    owner r e n true q =
+        let empty : look.emptyRow t ≡ r = same-some (look.emptyRow t) r (sym (held-zero (logOf h) t (sha1Of d) (W .lawful-type) q) ∙ e) in
+        inl (same-true (sha1Of d) zeroScore q, λ z. n (ap (λ (x : Row). x .bytes) (sym empty) ∙ sym z))
     owner r e n false q =
         let M = mirrored (logOf h) (ledgerOf h) (reflected h) in
         let f = first-in t (sha1Of d) (intact archive (ledgerOf h)) r (sym (held-other (logOf h) (intact archive (ledgerOf h)) (end archive (ledgerOf h)) M t (sha1Of d) q) ∙ e) in
@@ -220,13 +222,16 @@ not-held-none-doubtful s m log buffer sm = go (step s m log buffer) (appends-at-
 still-uncovered : (h : History) (k : ℕ) → has k (h .changed) ≡ true → anyUncovered (intact archive (ledgerOf h)) (end archive (ledgerOf h)) ≡ true
 still-uncovered h k e = changed-uncovered (ledgerOf h) k (ap (has k) (changed-of h) ∙ e)
 
-pub never-not-held : claims.NeverNotHeld
+pub never-not-held-uncovered : claims.NeverNotHeldUncovered
 unfolding look.doubtful
-never-not-held h s m buffer k sm e n =
+never-not-held-uncovered h s m buffer sm u n =
     let M = mirrored (logOf h) (ledgerOf h) (reflected h) in
-    let open-sector : anyUncovered (look.blocks (logOf h)) (used (logOf h)) ≡ true = rw (M .blocks, M .ends) (still-uncovered h k e) in
+    let open-sector : anyUncovered (look.blocks (logOf h)) (used (logOf h)) ≡ true = rw (M .blocks, M .ends) u in
     true≢false
     (sym (eq-eqb (look.doubtful (logOf h)) 0 (not-held-none-doubtful s m (logOf h) buffer sm n)) ∙ outside-none (look.blocks (logOf h)) (used (logOf h)) ∙ ap not open-sector)
+
+pub never-not-held : claims.NeverNotHeld
+never-not-held h s m buffer k sm e = never-not-held-uncovered h s m buffer sm (still-uncovered h k e)
 
 pub not-known-until-stored : claims.NotKnownUntilStored
 not-known-until-stored h t count s m buffer k z e l n Q =

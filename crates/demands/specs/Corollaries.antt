@@ -22,6 +22,7 @@ use Rattle.archive.specs.declared.Session.{Session}
 use Rattle.archive.specs.declared.Session.the-variants.{Greeted}
 use Rattle.ledger.specs.Ledger.{has, hit, intact, end}
 use Rattle.ledger.specs.History.{Item, AllOfBytes, first-log, first-books}
+use Rattle.demands.specs.Ledger.{anyUncovered}
 use Rattle.demands.specs.Instance.{archive}
 use Rattle.demands.specs.Requests.{Writes, Reads}
 use Rattle.demands.specs.Histories.{History, cleanLog, atDamage, logOf, toldLedger, ledgerOf, afterwards, NoneIntact, NoneStored}
@@ -68,7 +69,7 @@ WriteFailsByTheLedger = (h : History) (t : ℕ) (d m buffer : Bytes) → Writes 
     → let n = step Greeted m (logOf h) buffer .number in
     (n ≡ 0)
     ⊎ (((n ≡ 14) × (sectors (length (logOf h)) < end archive (ledgerOf h) + partsOf (length d)))
-    ⊎ ((n ≡ 15) × ((sha1Of d ≡ zeroScore)
+    ⊎ ((n ≡ 15) × (((sha1Of d ≡ zeroScore) × (d ≢ []))
     ⊎ ((r : Row) × List·Memᴰ r (intact archive (ledgerOf h)) × (r .kind ≡ t) × (r .score ≡ sha1Of d) × (r .bytes ≢ d)))))
 
 -- "A block with no changed sector reads as before, byte for byte": whatever list follows the damage
@@ -107,6 +108,11 @@ AnswersAreStored = (h : History) (t count : ℕ) (s m buffer : Bytes) → Reads 
 -- "never 11 .. while a sector is changed"
 abbrev pub NeverNotHeld : Type 0
 NeverNotHeld = (h : History) (s : Session) (m buffer : Bytes) (k : ℕ) → small m ≡ true → has k (h .changed) ≡ true → step s m (logOf h) buffer .number ≢ 11
+
+-- nor while any is uncovered, changed or not
+abbrev pub NeverNotHeldUncovered : Type 0
+NeverNotHeldUncovered = (h : History) (s : Session) (m buffer : Bytes) → small m ≡ true
+    → anyUncovered (intact archive (ledgerOf h)) (end archive (ledgerOf h)) ≡ true → step s m (logOf h) buffer .number ≢ 11
 
 -- a block that lost a sector and has no other intact row, or was never stored, is "not known until a block of that score and type is stored": a refused
 -- write does not end it

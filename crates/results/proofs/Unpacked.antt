@@ -1,6 +1,6 @@
 -- What a caller reads back: each claim of specs/Unpacked.antt.
 use mathlib.Core.Path.{_≡_, refl, ap, _∙_}
-use mathlib.Core.Bool.{Bool, not}
+use mathlib.Core.Bool.{Bool, true, false, cond, not}
 use mathlib.Core.Option.{Option, none, some}
 use Prim.Native.Nat.{ℕ, _+_, _*_, _/_, _%_, _≤_, _<_}
 use native.Mathlib.Omega.{arith}
@@ -9,6 +9,7 @@ use lib.ListN.{length}
 use Rattle.buffer.specs.Bytes.{Bytes, same}
 use Rattle.refusal.specs.Number.{numberOf}
 use Rattle.refusal.specs.declared.Refusal.{Refusal}
+use Rattle.refusal.specs.declared.Refusal.the-variants.{LogLength}
 use Rattle.kind.specs.Kind.{lawful, longest, wireType}
 use Rattle.kind.specs.declared.Wire.{Wire}
 use Rattle.kind.specs.declared.Wire.the-variants as wire
@@ -16,6 +17,8 @@ use Rattle.message.specs.Message.{framed, tagOf, versionOf, scoreOf, dataOf, re
 use Rattle.message.specs.declared.Request.{Request}
 use Rattle.message.specs.declared.Request.the-variants.{Ping, Hello, Goodbye, Read, Write, Sync, Unknown, Ill}
 use Rattle.block.specs.Block.{Row}
+use Rattle.block.specs.Log.{sound}
+use Rattle.reader.specs.Reader.{sizeOf}
 use Rattle.block.proofs.Cases.{cond-ind}
 use Rattle.log.specs.LookUp.{held, absence, logAllowed}
 use Rattle.log.specs.Store.{store}
@@ -149,7 +152,12 @@ type-unpacks e = type-back (wireType e)
 
 pub sound-unpacks : claims.SoundUnpacks
 unfolding soundResult
-sound-unpacks log n a = rw a (above _)
+sound-unpacks log n = go (logAllowed (length log))
+  where
+    go : (a : Bool) → (numberIn (cond a (256 * sizeOf (sound log n)) (numberOf LogLength)) ≡ cond a 0 (numberOf LogLength))
+        × (answerIn (cond a (256 * sizeOf (sound log n)) (numberOf LogLength)) ≡ cond a (sizeOf (sound log n)) 0)
+    go true = above (sizeOf (sound log n))
+    go false = refused-alone LogLength
 
 pub cut-unpacks : claims.CutUnpacks
 cut-unpacks kind b = (λ n e. (rw e refl, rw e at (cut-kept kind b n e)), λ w e. (rw e refl, cut-refused kind b w e))

@@ -1,11 +1,12 @@
 -- Nothing is lost in packing: what a caller reads back from the one number that each call answers with is what the call's definition says.
 use mathlib.Core.Path.{_≡_}
-use mathlib.Core.Bool.{true}
+use mathlib.Core.Bool.{cond}
 use Prim.Native.Nat.{ℕ, _+_, _/_, _%_, _≤_, _<_}
 use lib.ListN.{length}
 use Rattle.buffer.specs.Bytes.{Bytes}
 use Rattle.refusal.specs.Number.{numberOf}
 use Rattle.refusal.specs.declared.Refusal.{Refusal}
+use Rattle.refusal.specs.declared.Refusal.the-variants.{LogLength}
 use Rattle.kind.specs.Kind.{wireType}
 use Rattle.kind.specs.declared.Wire.{Wire}
 use Rattle.kind.specs.declared.Wire.the-variants as wire
@@ -70,9 +71,11 @@ typeIn (wire.Refused w) = 0
 abbrev pub TypeUnpacks : Type 0
 TypeUnpacks = (e : ℕ) → (numberIn (typeResult (wireType e)) ≡ wireNumber (wireType e)) × (answerIn (typeResult (wireType e)) ≡ typeIn (wireType e))
 
--- the size of a sound block, in a log that is allowed
+-- the size of a sound block, in a log that is allowed; else refusal 3
 abbrev pub SoundUnpacks : Type 0
-SoundUnpacks = (log : Bytes) (n : ℕ) → logAllowed (length log) ≡ true → (numberIn (soundResult log n) ≡ 0) × (answerIn (soundResult log n) ≡ sizeOf (sound log n))
+SoundUnpacks = (log : Bytes) (n : ℕ)
+    → (numberIn (soundResult log n) ≡ cond (logAllowed (length log)) 0 (numberOf LogLength))
+    × (answerIn (soundResult log n) ≡ cond (logAllowed (length log)) (sizeOf (sound log n)) 0)
 
 -- a cut: a length that is kept is at most the block's, a refusal is more, by its number
 abbrev pub CutUnpacks : Type 0
