@@ -35,7 +35,8 @@ ssh, an inetd. A write is answered when its block is on disk: also one that is h
 at there, and stored anew where it was damaged meanwhile. Input that ends inside a message is
 status 1. One writer at a time: while another holds the log, the status is 75.
   --read-only     many at once, and beside a writer, whose blocks are found as soon as it has answered
-                  for them. Nothing is ever written: a new block is refused with 14 (no room)
+                  for them. Nothing is ever written: a block that is not held, or not marked yet, is
+                  refused with 14 (no room)
   --wait SECONDS  how long another writer may still hold the log before it is status 75 (default 0)
   --handshake     begin with the opening lines of the protocol: send `venti-02-skywimple` and wait for
                   the client's, at most 1,024 bytes and 5 s, before the log is opened; else status 76

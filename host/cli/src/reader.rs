@@ -11,7 +11,7 @@ use crate::lock;
 use crate::log_file::{fits, is_file, load};
 use crate::mark::Mark;
 use crate::sectors::{self, Loaded};
-use crate::session::{Answers, Served};
+use crate::session::{self, Answers, Served};
 use crate::status::Failure;
 use crate::streams::Streams;
 use crate::writer::Writer;
@@ -38,7 +38,8 @@ pub fn read(path: &Path, adopt: bool, streams: &mut Streams) -> Result<Vec<u8>, 
 }
 
 /// A log of which nothing is ever written, nor its mark. It is lent without room behind its used
-/// part, so the proved call itself refuses a new block, with 14.
+/// part, so the proved call itself refuses a new block, with 14. To a write it is lent up to its mark
+/// only: what a crash left behind that may not be on disk, and nobody here can have it there.
 pub struct Reader {
     file: File,
     path: PathBuf,
@@ -103,10 +104,15 @@ impl Answers for Reader {
         streams: &mut Streams,
     ) -> Result<Served, Failure> {
         self.follow(streams)?;
+        let lent = match session::is_write(message) {
+            true => self.mark.used * SECTOR,
+            false => self.bytes.len(),
+        };
+        let log = &mut self.bytes[..lent];
         loop {
-            let served = boundary::serve(session, message, &mut self.bytes, reply);
+            let served = boundary::serve(session, message, log, reply);
             if served.outcome.is_ok() {
-                let damaged = held::damaged(&mut self.bytes, &self.file, message, reply);
+                let damaged = held::damaged(log, &self.file, message, reply);
                 if let Some(damaged) = damaged {
                     streams.tell(&held::words(&damaged, &self.path));
                     continue;

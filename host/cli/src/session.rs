@@ -108,6 +108,11 @@ pub fn whole_reply(buffer: &[u8]) -> &[u8] {
     &buffer[..2 + size]
 }
 
+/// Whether a message asks to store a block.
+pub fn is_write(message: &[u8]) -> bool {
+    message.get(2) == Some(&WRITE)
+}
+
 /// The type and score of the block that an accepted request wrote, if it was a write.
 pub fn stored(message: &[u8], reply: &[u8]) -> Option<(u8, Score)> {
     match message {

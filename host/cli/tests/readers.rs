@@ -96,6 +96,34 @@ fn a_reader_acknowledges_no_damaged_block() {
         .contains("sectors 0 to 2 of log were damaged on disk"));
 }
 
+/// What a crash left behind the mark is read, but nobody can tell whether it is on disk: a write of
+/// it is not acknowledged, until a writer has marked it.
+#[test]
+fn a_reader_acknowledges_only_what_is_marked() {
+    let place = Place::with_log(8);
+    place.put(b"first");
+    let older = place.file("log.mark");
+    let second = block(2, 500);
+    place.put(&second);
+    place.write("log.mark", &older);
+    let mut reader = place.greeted(&["--read-only"]);
+    assert_eq!(reader.ask(&write_message(1, &second)), error_reply(1, 14));
+    assert_eq!(
+        reader.ask(&write_message(2, b"first")),
+        write_reply(2, b"first")
+    );
+    assert_eq!(
+        reader.ask(&read_message(3, &second)),
+        message(13, 3, &second)
+    );
+    place.put(b"first"); // which renews the mark
+    assert_eq!(
+        reader.ask(&write_message(4, &second)),
+        write_reply(4, &second)
+    );
+    assert_eq!(reader.end(), (0, String::new()));
+}
+
 /// The mark that a crash left behind stays as it is.
 #[test]
 fn a_reader_renews_no_mark() {
