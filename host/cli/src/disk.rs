@@ -16,6 +16,13 @@ pub fn create(path: &Path) -> io::Result<File> {
     File::create_new(path)
 }
 
+/// Reads some bytes of a file at a place, and gives their count.
+pub fn read_at(file: &File, buffer: &mut [u8], at: u64) -> io::Result<usize> {
+    #[cfg(test)]
+    faults::read(buffer.len(), at)?;
+    file.read_at(buffer, at)
+}
+
 /// Writes all these bytes at a place of a file.
 pub fn write(file: &File, bytes: &[u8], at: u64) -> io::Result<()> {
     #[cfg(test)]

@@ -1,11 +1,15 @@
 //! A disk that fails at any step of writing, syncing or renaming, and loses what was not synced:
 //! nothing that was acknowledged is lost.
 
-use std::cell::RefCell;
+use std::cell::{Cell, RefCell};
 use std::fs::{self, File, Metadata};
 use std::io;
+use std::ops::Range;
+use std::os::fd::AsRawFd;
 use std::os::unix::fs::{FileExt, MetadataExt};
 use std::path::{Path, PathBuf};
+
+use crate::format::SECTOR;
 
 /// How a step fails.
 #[derive(Clone, Copy, Debug, PartialEq, Eq)]
@@ -16,6 +20,9 @@ pub enum How {
     Half,
     /// It is done, and yet said to have failed.
     After,
+    /// Nothing is done; of a sync that fails, the system forgets what was to be synced: it is read
+    /// from the file as before, and no later sync has it on disk unless it is written again.
+    Forgets,
 }
 
 /// The disk of one thread.
@@ -35,6 +42,7 @@ enum Undo {
         length: u64,
         at: u64,
         before: Vec<u8>,
+        forgotten: bool,
     },
     Name {
         path: PathBuf,
@@ -44,6 +52,16 @@ enum Undo {
 
 thread_local! {
     static DISK: RefCell<Option<Disk>> = const { RefCell::new(None) };
+    /// The sector of a log that cannot be read.
+    static UNREADABLE: Cell<Option<u64>> = const { Cell::new(None) };
+}
+
+pub fn read(length: usize, at: u64) -> io::Result<()> {
+    let bytes = at..at + length as u64;
+    match UNREADABLE.get().map(|sector| sector * SECTOR as u64) {
+        Some(bad) if bytes.start < bad + SECTOR as u64 && bad < bytes.end => Err(failure()),
+        _ => Ok(()),
+    }
 }
 
 fn with<R>(act: impl FnOnce(&mut Disk) -> R) -> Option<R> {
@@ -62,6 +80,17 @@ impl Disk {
         self.failed |= fails;
         fails
     }
+
+    /// What is written again is to be synced again.
+    fn recall(&mut self, file: &File, written: Range<u64>) {
+        for undo in self.unsynced.iter_mut().filter(|undo| undo.is_of(file)) {
+            if let Undo::Bytes { at, before, .. } = undo {
+                if written.start <= *at && *at + before.len() as u64 <= written.end {
+                    undo.forget(false);
+                }
+            }
+        }
+    }
 }
 
 pub fn create() -> io::Result<()> {
@@ -76,17 +105,19 @@ pub fn write(file: &File, bytes: &[u8], at: u64) -> Option<io::Result<()>> {
         let length = file.metadata()?.len();
         let mut before = vec![0; bytes.len().min(length.saturating_sub(at) as usize)];
         file.read_exact_at(&mut before, at)?;
+        disk.recall(file, at..at + bytes.len() as u64);
         disk.unsynced.push(Undo::Bytes {
-            file: file.try_clone()?,
+            file: reopened(file)?,
             length,
             at,
             before,
+            forgotten: false,
         });
         if !disk.step() {
             return file.write_all_at(bytes, at);
         }
         let written = match disk.how {
-            How::Before => 0,
+            How::Before | How::Forgets => 0,
             How::Half => bytes.len() / 2,
             How::After => bytes.len(),
         };
@@ -95,16 +126,24 @@ pub fn write(file: &File, bytes: &[u8], at: u64) -> Option<io::Result<()>> {
     })
 }
 
+/// The same file opened once more: a clone would share its lock, and keep it.
+fn reopened(file: &File) -> io::Result<File> {
+    let path = format!("/proc/self/fd/{}", file.as_raw_fd());
+    File::options().write(true).open(path)
+}
+
 pub fn sync(file: &File) -> Option<io::Result<()>> {
     with(|disk| {
         let fails = disk.step();
         if !fails || disk.how == How::After {
-            let identity = |file: Metadata| (file.dev(), file.ino());
-            let synced = identity(file.metadata()?);
             disk.unsynced.retain(|undo| match undo {
-                Undo::Bytes { file, .. } => file.metadata().map(identity).ok() != Some(synced),
+                Undo::Bytes { forgotten, .. } => *forgotten || !undo.is_of(file),
                 Undo::Name { .. } => true,
             });
+        } else if disk.how == How::Forgets {
+            for undo in disk.unsynced.iter_mut().filter(|undo| undo.is_of(file)) {
+                undo.forget(true);
+            }
         }
         if fails {
             Err(failure())
@@ -159,6 +198,23 @@ enum Lost {
 }
 
 impl Undo {
+    /// Whether these are bytes of this file.
+    fn is_of(&self, other: &File) -> bool {
+        let identity = |file: Metadata| (file.dev(), file.ino());
+        match self {
+            Undo::Bytes { file, .. } => {
+                file.metadata().map(identity).ok() == other.metadata().map(identity).ok()
+            }
+            Undo::Name { .. } => false,
+        }
+    }
+
+    fn forget(&mut self, now: bool) {
+        if let Undo::Bytes { forgotten, .. } = self {
+            *forgotten = now;
+        }
+    }
+
     fn undo(self, lost: Lost) {
         match self {
             Undo::Bytes {
@@ -166,6 +222,7 @@ impl Undo {
                 length,
                 at,
                 before,
+                ..
             } if matches!(lost, Lost::All | Lost::Bytes | Lost::Halves) => {
                 let kept = if lost == Lost::Halves {
                     before.len() / 2
@@ -193,9 +250,9 @@ impl Undo {
 mod tests {
     use super::*;
     use crate::command;
-    use crate::format::SECTOR;
-    use crate::reader;
-    use crate::session::Client;
+    use crate::mark::{self, Found, Mark};
+    use crate::reader::{self, Reader};
+    use crate::session::{Answers, Client};
     use crate::status::Failure;
     use crate::streams::Streams;
     use crate::unique;
@@ -240,7 +297,7 @@ mod tests {
 
     /// For each way to fail and to lose, each step in turn fails, until there are no more of them.
     fn every_fault(case: impl Fn(usize, How, Lost) -> bool) {
-        for how in [How::Before, How::Half, How::After] {
+        for how in [How::Before, How::Half, How::After, How::Forgets] {
             for lost in LOSSES {
                 let steps = (0..).find(|step| !case(*step, how, lost)).unwrap();
                 assert!(steps >= 4, "{steps} steps");
@@ -395,6 +452,94 @@ mod tests {
             });
             assert_eq!(folder.files(), 2);
             failed
+        });
+    }
+
+    /// The next writer after one whose disk failed, before the machine stops: it finds in the file
+    /// what the disk may not have, and acknowledges nothing that can be lost.
+    #[test]
+    fn the_writer_after_a_failure() {
+        every_fault(|step, how, lost| {
+            let folder = Folder::with(0);
+            let log = folder.log();
+            let failed = on_failing_disk(step, how, lost, || {
+                let _ = store(&log);
+                store(&log).map_err(|(_, failure)| failure.words).unwrap();
+            });
+            on_good_disk(|| check(&log, &[1, 2, 3]));
+            failed
+        });
+    }
+
+    /// The mark of a log.
+    fn marked(log: &Path) -> usize {
+        match Mark::find(&mark::path_of(log)) {
+            Ok(Found::Good(mark)) => mark.used,
+            _ => panic!("no mark"),
+        }
+    }
+
+    /// Stores a block in a log that is open.
+    fn store_one(log: &mut dyn Answers, block: &[u8]) -> Result<(), Refusal> {
+        quietly(|streams| {
+            let mut client = Client::greet_on_disk(log, streams).unwrap();
+            let stored = client.store(log, 13, block, streams).unwrap();
+            stored.map(|score| assert_eq!(score, sha1(block)))
+        })
+    }
+
+    /// A block that a crash left behind the mark, in a log with a sector that cannot be read: it is
+    /// acknowledged once it is synced and marked.
+    #[test]
+    fn found_behind_the_mark_beside_an_unreadable_sector() {
+        for lost in LOSSES {
+            let folder = Folder::with(0);
+            let log = folder.log();
+            on_failing_disk(usize::MAX, How::Before, lost, || {
+                let left = {
+                    let mut bytes = fs::read(&log).unwrap();
+                    let mut client = Client::greet(&mut bytes).unwrap();
+                    client.write(&mut bytes, 13, &blocks()[1]).unwrap();
+                    bytes[2 * SECTOR..5 * SECTOR].to_vec()
+                };
+                let file = File::options().read(true).write(true).open(&log).unwrap();
+                write(&file, &left, 2 * SECTOR as u64).unwrap().unwrap();
+                UNREADABLE.set(Some(0));
+                let mut writer = quietly(|streams| Writer::open(&log, false, streams)).unwrap();
+                assert_eq!(marked(&log), 2);
+                assert_eq!(store_one(&mut writer, &blocks()[1]), Ok(()));
+                assert_eq!(marked(&log), 5);
+                UNREADABLE.set(None);
+            });
+            on_good_disk(|| check(&log, &[0, 1]));
+        }
+    }
+
+    /// A sector that cannot be read for a while, in a log without room: nothing is acknowledged
+    /// meanwhile, and nothing is forgotten.
+    #[test]
+    fn an_unreadable_sector_that_passes() {
+        let folder = Folder::with(0);
+        on_good_disk(|| {
+            let log = folder.log();
+            let mut bytes = fs::read(&log).unwrap();
+            bytes.truncate(2 * SECTOR);
+            fs::write(&log, bytes).unwrap();
+            let full = Mark {
+                sectors: 2,
+                used: 2,
+            };
+            fs::write(mark::path_of(&log), full.text()).unwrap();
+            let reader = quietly(|streams| Reader::open(&log, streams)).unwrap();
+            let writer = quietly(|streams| Writer::open(&log, false, streams)).unwrap();
+            let logs: [Box<dyn Answers>; 2] = [Box::new(reader), Box::new(writer)];
+            for mut log in logs {
+                UNREADABLE.set(Some(1));
+                let stored = store_one(&mut *log, &blocks()[0]);
+                UNREADABLE.set(None);
+                assert_eq!(stored, Err(Refusal::NoRoom));
+                assert_eq!(store_one(&mut *log, &blocks()[0]), Ok(()));
+            }
         });
     }
 

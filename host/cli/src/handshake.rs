@@ -8,6 +8,7 @@ use std::sync::mpsc::{self, Receiver, RecvTimeoutError};
 use std::thread;
 use std::time::Duration;
 
+use crate::same;
 use crate::status::{Failure, PROTOCOL};
 use crate::streams::Streams;
 
@@ -35,7 +36,9 @@ pub fn exchange(streams: &mut Streams) -> Result<(), Failure> {
 fn watch(ended: Receiver<()>) {
     if ended.recv_timeout(LIMIT) == Err(RecvTimeoutError::Timeout) {
         let seconds = LIMIT.as_secs();
-        eprintln!("skywimple: the client's opening line did not come within {seconds} s");
+        if !same::socket() {
+            eprintln!("skywimple: the client's opening line did not come within {seconds} s");
+        }
         process::exit(i32::from(PROTOCOL));
     }
 }

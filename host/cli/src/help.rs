@@ -31,11 +31,15 @@ two write nothing to standard output.
 pub const SERVE: &str = "\
 Reads framed messages (size[2] type[1] tag[1] body) from standard input and writes the replies to
 standard output, until a goodbye or the end of input, so that any transport can carry it: a pipe,
-ssh, an inetd. A write is answered when its block is on disk: also one that is held already is looked
-at there, and stored anew where it was damaged meanwhile. Input that ends inside a message is
-status 1. One writer at a time: while another holds the log, the status is 75.
+ssh, an inetd. A write is answered when its block is on disk: also one that is held already is
+compared with what the system gives for the file, and stored anew where it was damaged meanwhile.
+Input that ends inside a message is status 1. One writer at a time: while another holds the log, the
+status is 75. A client that is silent holds it for as long as it is connected: let the transport end
+what is idle (`socat -T 300`). Where standard error is the socket that the replies go to, nothing is
+told there.
   --read-only     many at once, and beside a writer, whose blocks are found as soon as it has answered
-                  for them. Nothing is ever written: a new block is refused with 14 (no room)
+                  for them. Nothing is ever written: a block that is not held, or not marked yet, is
+                  refused with 14 (no room)
   --wait SECONDS  how long another writer may still hold the log before it is status 75 (default 0)
   --handshake     begin with the opening lines of the protocol: send `venti-02-skywimple` and wait for
                   the client's, at most 1,024 bytes and 5 s, before the log is opened; else status 76
@@ -85,7 +89,8 @@ all could be read. Otherwise the first refusal is told and its number is the sta
 score of that block are printed, and where in the tree it is, so that it can be fetched from a copy:
 entry 2/0, byte 1500 is byte 1500 of the file of entry 0 in the directory of entry 2.
 Each visit looks through the log up to its block, some 10 ns for each sector: a full log of small
-blocks takes a minute or two. At a terminal the time gone by and the time expected are shown.
+blocks takes a minute or two with 131,072 sectors, and about an hour and a half with 1,048,576. At a
+terminal the time gone by and the time expected are shown.
   --allowance N  the most visits, up to 1000000 (the default)
   --adopt        take a log without a good mark as it is, and mark it
 ";

@@ -2,11 +2,12 @@
 
 use std::fs::{self, File};
 use std::io;
-use std::os::unix::fs::FileExt;
 use std::path::Path;
 
 use boundary::Refusal;
 
+use crate::disk;
+use crate::escape;
 use crate::format::{allowed, used, SECTOR};
 use crate::loss::Loss;
 use crate::mark::{self, Found, Mark};
@@ -32,8 +33,9 @@ pub fn is_file(path: &Path) -> Result<(), Failure> {
                 return Err(Loss::new(mark, None, 0).failure(path));
             }
             let words = format!(
-                "no such log: {0}. `skywimple init {0} --sectors N` makes one.",
-                path.display()
+                "no such log: {}. `skywimple init {} --sectors N` makes one.",
+                path.display(),
+                escape::quoted(path)
             );
             Err(Failure::new(MISSING, words))
         }
@@ -55,7 +57,7 @@ pub fn load(
         return Err(no_log(path, length, mark));
     }
     let mut progress = Progress::start();
-    let read_at = |buffer: &mut [u8], at: u64| file.read_at(buffer, at);
+    let read_at = |buffer: &mut [u8], at: u64| disk::read_at(file, buffer, at);
     let loaded = sectors::load(read_at, length, |end| {
         progress.show_before(streams, || {
             format!(
@@ -87,7 +89,7 @@ fn no_log(path: &Path, length: u64, mark: Option<Mark>) -> Failure {
             " This file has {length} bytes, and its mark says {marked}, which are {sectors} \
              sectors. No block is marked as stored after them; cut the rest off with \
              `truncate -s {marked} {}`.",
-            path.display()
+            escape::quoted(path)
         );
     }
     failure

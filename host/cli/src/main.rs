@@ -30,6 +30,7 @@ mod put;
 mod read;
 mod reader;
 mod report;
+mod same;
 mod sectors;
 mod serve;
 mod session;
@@ -69,10 +70,15 @@ fn main() -> ExitCode {
             return ExitCode::from(INPUT_OUTPUT);
         }
     };
+    let serves = words.first().is_some_and(|word| word == "serve");
+    let mut err: Box<dyn Write> = match serves && same::socket() {
+        true => Box::new(io::sink()),
+        false => Box::new(io::stderr()),
+    };
     let mut streams = Streams {
         input: &mut *input,
         out: &mut *out,
-        err: &mut io::stderr(),
+        err: &mut *err,
         out_terminal: io::stdout().is_terminal(),
         err_terminal: io::stderr().is_terminal(),
         progress: false,

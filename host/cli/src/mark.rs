@@ -169,10 +169,11 @@ pub fn remove_left_over(path: &Path) {
         return;
     };
     for entry in entries.flatten() {
-        if is_left_over(
-            mark.as_encoded_bytes(),
-            entry.file_name().as_encoded_bytes(),
-        ) {
+        let name = entry.file_name();
+        let named = is_left_over(mark.as_encoded_bytes(), name.as_encoded_bytes());
+        // A link is not followed.
+        let piece = |found: Metadata| found.is_file() && found.len() <= LENGTH as u64;
+        if named && entry.metadata().is_ok_and(piece) {
             let _ = fs::remove_file(entry.path());
         }
     }

@@ -8,6 +8,7 @@ use std::path::Path;
 use boundary::Refusal;
 
 use crate::arguments::Arguments;
+use crate::escape;
 use crate::format::{sectors_of, Score, MOST_DATA};
 use crate::hex;
 use crate::session::Client;
@@ -60,7 +61,7 @@ fn refused(refusal: Refusal, file: &OsStr, block: &[u8], log: &Writer) -> Failur
         return Failure::refused_about(refusal, shown(file));
     }
     let (sectors, used) = log.sectors();
-    let path = log.path().display().to_string();
+    let path = escape::quoted(log.path());
     let words = words::full(&path, sectors, used, sectors_of(block.len()));
     let words = format!("{}: {words}", shown(file).display());
     Failure::new(refusal.number(), words)

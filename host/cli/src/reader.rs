@@ -6,12 +6,12 @@ use std::path::{Path, PathBuf};
 use boundary::Session;
 
 use crate::format::{used, SECTOR};
-use crate::held;
+use crate::held::{self, Found};
 use crate::lock;
 use crate::log_file::{fits, is_file, load};
 use crate::mark::Mark;
 use crate::sectors::{self, Loaded};
-use crate::session::{Answers, Served};
+use crate::session::{self, Answers, Served};
 use crate::status::Failure;
 use crate::streams::Streams;
 use crate::writer::Writer;
@@ -38,7 +38,8 @@ pub fn read(path: &Path, adopt: bool, streams: &mut Streams) -> Result<Vec<u8>, 
 }
 
 /// A log of which nothing is ever written, nor its mark. It is lent without room behind its used
-/// part, so the proved call itself refuses a new block, with 14.
+/// part, so the proved call itself refuses a new block, with 14. To a write it is lent up to its mark
+/// only: what a crash left behind that may not be on disk, and nobody here can have it there.
 pub struct Reader {
     file: File,
     path: PathBuf,
@@ -55,6 +56,7 @@ impl Reader {
         let Loaded { mut bytes, .. } = load(&file, path, Some(mark), streams)?;
         fits(path, mark, &bytes)?;
         bytes.truncate(used(&bytes) * SECTOR);
+        bytes.shrink_to_fit();
         Ok(Reader {
             file,
             path: path.to_path_buf(),
@@ -71,6 +73,7 @@ impl Reader {
             return Ok(());
         }
         if !(same && self.extend(mark)) {
+            self.bytes = Vec::new(); // two of them may be too much
             *self = Reader::open(&self.path, streams)?;
         }
         Ok(())
@@ -103,20 +106,67 @@ impl Answers for Reader {
         streams: &mut Streams,
     ) -> Result<Served, Failure> {
         self.follow(streams)?;
+        let lent = match session::is_write(message) {
+            true => self.mark.used * SECTOR,
+            false => self.bytes.len(),
+        };
+        let log = &mut self.bytes[..lent];
+        let mut unsound = Vec::new();
         loop {
-            let served = boundary::serve(session, message, &mut self.bytes, reply);
+            let served = boundary::serve(session, message, log, reply);
             if served.outcome.is_ok() {
-                let damaged = held::damaged(&mut self.bytes, &self.file, message, reply);
-                if let Some(damaged) = damaged {
+                let found = held::look(log, &self.file, message, reply);
+                if let Some(Found::Damaged(damaged)) = found {
                     streams.tell(&held::words(&damaged, &self.path));
+                    unsound.push(damaged);
                     continue;
                 }
             }
+            unsound.into_iter().for_each(|block| block.put_back(log));
             return Ok(Served {
                 outcome: served.outcome,
                 session: served.session,
                 appended: 0,
             });
         }
+    }
+}
+
+#[cfg(test)]
+mod tests {
+    use super::*;
+    use crate::mark;
+    use crate::unique;
+    use std::fs;
+    use std::io;
+
+    /// A long log with little in it takes little memory.
+    #[test]
+    fn only_the_used_part_is_kept() {
+        let path = std::env::temp_dir().join(format!("skywimple-{}", unique::name()));
+        let mut bytes = vec![0; 1000 * SECTOR];
+        bytes[SECTOR] = 1;
+        fs::write(&path, bytes).unwrap();
+        let mark = Mark {
+            sectors: 1000,
+            used: 2,
+        };
+        fs::write(mark::path_of(&path), mark.text()).unwrap();
+        let mut streams = Streams {
+            input: &mut io::empty(),
+            out: &mut io::sink(),
+            err: &mut io::sink(),
+            out_terminal: false,
+            err_terminal: false,
+            progress: false,
+        };
+        let reader = Reader::open(&path, &mut streams);
+        let _ = (
+            fs::remove_file(mark::path_of(&path)),
+            fs::remove_file(&path),
+        );
+        let reader = reader.map_err(|failure| failure.words).unwrap();
+        assert_eq!(reader.bytes.len(), 2 * SECTOR);
+        assert!(reader.bytes.capacity() < 100 * SECTOR);
     }
 }

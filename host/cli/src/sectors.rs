@@ -2,8 +2,8 @@
 
 use std::fs::File;
 use std::io::{self, ErrorKind};
-use std::os::unix::fs::FileExt;
 
+use crate::disk;
 use crate::format::SECTOR;
 
 pub struct Loaded {
@@ -50,7 +50,7 @@ pub fn load(
 /// The same from some byte of a file on.
 pub fn load_from(file: &File, start: u64, length: usize) -> Loaded {
     load(
-        |buffer, at| file.read_at(buffer, start + at),
+        |buffer, at| disk::read_at(file, buffer, start + at),
         length as u64,
         |_| {},
     )

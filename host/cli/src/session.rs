@@ -108,10 +108,16 @@ pub fn whole_reply(buffer: &[u8]) -> &[u8] {
     &buffer[..2 + size]
 }
 
-/// The type and score of the block that an accepted request wrote, if it was a write.
+/// Whether a message asks to store a block.
+pub fn is_write(message: &[u8]) -> bool {
+    message.get(2) == Some(&WRITE)
+}
+
+/// The type and score of the block that an accepted request wrote, if it was a write. None for the
+/// empty block, which is in no sector.
 pub fn stored(message: &[u8], reply: &[u8]) -> Option<(u8, Score)> {
     match message {
-        [_, _, WRITE, _, kind, ..] => Some((*kind, score_in(reply))),
+        [_, _, WRITE, _, kind, _, _, _, _, ..] => Some((*kind, score_in(reply))),
         _ => None,
     }
 }
@@ -130,4 +136,21 @@ fn write_message(kind: u8, data: &[u8]) -> Vec<u8> {
 fn message(kind: u8, body: &[u8]) -> Vec<u8> {
     let size = (body.len() + 2) as u16;
     [&size.to_be_bytes()[..], &[kind, 0], body].concat()
+}
+
+#[cfg(test)]
+mod tests {
+    use super::*;
+
+    #[test]
+    fn blocks_that_are_in_sectors() {
+        let reply = [7; 24];
+        assert_eq!(
+            stored(&write_message(13, b"x"), &reply),
+            Some((13, [7; 20]))
+        );
+        assert_eq!(stored(&write_message(13, b""), &reply), None);
+        assert_eq!(stored(&HELLO, &reply), None);
+        assert!(is_write(&write_message(13, b"")) && !is_write(&HELLO) && !is_write(&[0]));
+    }
 }

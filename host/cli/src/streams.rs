@@ -37,7 +37,7 @@ impl Streams<'_> {
 
     /// Shows how far the work has come, in place of what was shown before.
     pub fn show_progress(&mut self, line: &str) {
-        let _ = write!(self.err, "\r\x1b[K{line}");
+        let _ = write!(self.err, "\r\x1b[K{}", escape::visible(line));
         let _ = self.err.flush();
         self.progress = true;
     }
@@ -48,5 +48,26 @@ impl Streams<'_> {
             let _ = self.err.flush();
             self.progress = false;
         }
+    }
+}
+
+#[cfg(test)]
+mod tests {
+    use super::*;
+    use std::io;
+
+    #[test]
+    fn progress_is_one_visible_line() {
+        let mut err = Vec::new();
+        let mut streams = Streams {
+            input: &mut io::empty(),
+            out: &mut io::sink(),
+            err: &mut err,
+            out_terminal: false,
+            err_terminal: true,
+            progress: false,
+        };
+        streams.show_progress("reading a\x1b[2J\nb");
+        assert_eq!(err, b"\r\x1b[Kreading a\\u{1b}[2J\\nb");
     }
 }

@@ -207,7 +207,8 @@ impl Walk<'_> {
         let here = self.at.clone();
         for (at, pointer) in (0..).zip(block.chunks_exact(20)) {
             self.at.clone_from(&here);
-            self.at.byte = here.byte.map(|byte| byte + at * entry.span(level - 1));
+            let before = entry.span(level - 1).saturating_mul(at);
+            self.at.byte = here.byte.map(|byte| byte.saturating_add(before));
             let mut score = [0; 20];
             score.copy_from_slice(pointer);
             self.below(entry, level - 1, score, nest)?;
@@ -355,6 +356,23 @@ mod tests {
         assert_eq!(forest.stops(&root, 18), stop(3, odd, "entry 0, byte 0"));
         let root = forest.root(&entry(1, 599, &leaf));
         assert_eq!(forest.stops(&root, 13), stop(13, leaf, "entry 0, byte 0"));
+    }
+
+    /// A file that stands for more bytes than can be counted.
+    #[test]
+    fn spans_too_large_to_count() {
+        let mut forest = Forest::new();
+        let odd = forest.put(13, &[1; 10]);
+        let mut score = sha1(b"");
+        for kind in 3..=9 {
+            let last = if kind == 3 { odd } else { score };
+            let pointers = [[score; 2].concat(), last.to_vec()].concat();
+            score = forest.put(kind, &pointers);
+        }
+        let mut file = entry(1 | 7 << 2, 57_344, &score);
+        file[4..6].copy_from_slice(&57_344_u16.to_be_bytes());
+        let root = forest.root(&file);
+        forest.agrees(&root);
     }
 
     /// Directories in directories, to the deepest and one deeper.

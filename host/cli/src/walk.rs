@@ -28,7 +28,7 @@ pub fn run(arguments: &Arguments, streams: &mut Streams) -> Result<u8, Failure> 
     let mut trail = None;
     let walked = if streams.err_terminal {
         with_clock(|expected| {
-            trail = trail::follow(&log, &score, allowance);
+            trail = follow(&log, &score, allowance);
             if let Some(time) = trail.as_ref().and_then(|trail| estimate(&mut log, trail)) {
                 expected.store(time.as_secs() + 1, Ordering::Relaxed);
             }
@@ -42,9 +42,18 @@ pub fn run(arguments: &Arguments, streams: &mut Streams) -> Result<u8, Failure> 
         streams.answer(format!("visits={visits}\ndone\n").as_bytes())?;
         return Ok(DONE);
     };
-    let trail = trail.or_else(|| trail::follow(&log, &score, allowance));
+    let trail = trail.or_else(|| follow(&log, &score, allowance));
     let stop = trail.filter(|trail| trail.walked == walked);
     refused(refusal, visits, stop.map(|trail| trail.at), streams)
+}
+
+/// The trail of a walk. None where more visits are asked for than any walk has: that is refused at
+/// once, and the trail might go on for ever.
+fn follow(log: &[u8], score: &Score, allowance: u64) -> Option<Trail> {
+    match allowance {
+        0..=ALLOWANCE => trail::follow(log, score, allowance),
+        _ => None,
+    }
 }
 
 /// Names the block that was refused, and where it is.

@@ -2,6 +2,7 @@
 
 use std::fs::{File, OpenOptions};
 use std::io::ErrorKind;
+use std::ops::Range;
 use std::os::unix::fs::{FileExt, MetadataExt};
 use std::path::{Path, PathBuf};
 use std::time::Duration;
@@ -9,8 +10,9 @@ use std::time::Duration;
 use boundary::Session;
 
 use crate::disk;
+use crate::escape;
 use crate::format::{used, BLANK, SECTOR};
-use crate::held;
+use crate::held::{self, Found as Held};
 use crate::lock;
 use crate::log_file::{fits, is_file, load};
 use crate::mark::{self, Found, Mark};
@@ -66,6 +68,9 @@ impl Writer {
             bytes,
         };
         // A sector that cannot be read looks used; it is marked only with what is appended after it.
+        if let (0, Some(mark)) = (unreadable, mark) {
+            log.write_again(mark.used, log.used)?;
+        }
         if unreadable == 0 || mark.is_none() {
             log.renew_mark()?;
         }
@@ -127,11 +132,37 @@ impl Writer {
         }
     }
 
+    /// Writes sectors that a crash left behind the mark once more: where a sync of them failed, the
+    /// system may have forgotten that they are not on disk, and the next sync would not put them there.
+    fn write_again(&self, start: usize, end: usize) -> Result<(), Failure> {
+        let (start, end) = (start * SECTOR, end * SECTOR);
+        if start < end {
+            let written = disk::write(&self.file, &self.bytes[start..end], start as u64);
+            written.map_err(|e| Failure::disk("write", &self.path, &e))?;
+        }
+        Ok(())
+    }
+
+    /// Has a block on disk that was found behind the mark, with a mark that ends after it.
+    fn keep_found(&mut self, found: &Range<usize>) -> Result<(), Failure> {
+        let marked = self.mark.map_or(0, |mark| mark.used);
+        if found.end > marked {
+            self.write_again(found.start, found.end)?;
+            self.mark_up_to(found.end)?;
+        }
+        Ok(())
+    }
+
     /// Has the log on disk, then the mark, unless the mark has it so already.
     fn renew_mark(&mut self) -> Result<(), Failure> {
+        self.mark_up_to(self.used)
+    }
+
+    /// The same with a mark of so many used sectors.
+    fn mark_up_to(&mut self, used: usize) -> Result<(), Failure> {
         let now = Mark {
             sectors: self.bytes.len() / SECTOR,
-            used: self.used,
+            used,
         };
         if self.mark != Some(now) {
             let synced = disk::sync_data(&self.file);
@@ -162,15 +193,25 @@ impl Answers for Writer {
         reply: &mut [u8],
         streams: &mut Streams,
     ) -> Result<Served, Failure> {
+        let mut unsound = Vec::new();
         loop {
             let served = boundary::serve(session, message, &mut self.bytes, reply);
             let appended = self.keep()?;
             if served.outcome.is_ok() && appended == 0 {
-                let damaged = held::damaged(&mut self.bytes, &self.file, message, reply);
-                if let Some(damaged) = damaged {
-                    streams.tell(&held::words(&damaged, &self.path));
-                    continue;
+                match held::look(&mut self.bytes, &self.file, message, reply) {
+                    Some(Held::Damaged(damaged)) => {
+                        streams.tell(&held::words(&damaged, &self.path));
+                        unsound.push(damaged);
+                        continue;
+                    }
+                    Some(Held::Sound(found)) => self.keep_found(&found)?,
+                    None => {}
                 }
+            }
+            if appended == 0 {
+                unsound
+                    .into_iter()
+                    .for_each(|block| block.put_back(&mut self.bytes));
             }
             // A reply acknowledges, also where nothing was appended.
             self.in_place()?;
@@ -192,11 +233,12 @@ fn one_name(file: &File, path: &Path) -> Result<(), Failure> {
         return Ok(());
     }
     let words = format!(
-        "{0} is a file with {names} names (hard links), and its mark stands beside one of them \
-         only, so it is not written. Find the names with `find / -samefile {0}`, keep the \
+        "{} is a file with {names} names (hard links), and its mark stands beside one of them \
+         only, so it is not written. Find the names with `find / -samefile {}`, keep the \
          one that the mark stands beside and remove the others; a symbolic link may take their \
          place.",
-        path.display()
+        path.display(),
+        escape::quoted(path)
     );
     Err(Failure::new(UNFIT, words))
 }

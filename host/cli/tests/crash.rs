@@ -4,6 +4,7 @@ mod common;
 
 use std::io::Write;
 use std::ops::Range;
+use std::os::unix::fs::symlink;
 use std::process::Command;
 use std::thread;
 use std::time::Duration;
@@ -159,6 +160,25 @@ fn pieces_of_dead_writers() {
     server.end();
     place.put(b"card");
     assert!(only(&place.folder, &others));
+}
+
+/// What has the name of such a piece but cannot be one is left alone.
+#[test]
+fn no_pieces_of_writers() {
+    let place = Place::with_log(8);
+    place.write("log.mark.1-2.new", [b'x'; 45]);
+    place.write("other", "sectors=0000");
+    symlink("other", place.path("log.mark.3-4.new")).unwrap();
+    place.write("log.mark.5-6.new", [b'x'; 44]);
+    place.put(b"card");
+    let left = [
+        "log",
+        "log.mark",
+        "log.mark.1-2.new",
+        "log.mark.3-4.new",
+        "other",
+    ];
+    assert!(only(&place.folder, &left));
 }
 
 /// Kills a server that is busy with writes, again and again on one log. Every block that was

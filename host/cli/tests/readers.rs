@@ -96,6 +96,34 @@ fn a_reader_acknowledges_no_damaged_block() {
         .contains("sectors 0 to 2 of log were damaged on disk"));
 }
 
+/// What a crash left behind the mark is read, but nobody can tell whether it is on disk: a write of
+/// it is not acknowledged, until a writer has marked it.
+#[test]
+fn a_reader_acknowledges_only_what_is_marked() {
+    let place = Place::with_log(8);
+    place.put(b"first");
+    let older = place.file("log.mark");
+    let second = block(2, 500);
+    place.put(&second);
+    place.write("log.mark", &older);
+    let mut reader = place.greeted(&["--read-only"]);
+    assert_eq!(reader.ask(&write_message(1, &second)), error_reply(1, 14));
+    assert_eq!(
+        reader.ask(&write_message(2, b"first")),
+        write_reply(2, b"first")
+    );
+    assert_eq!(
+        reader.ask(&read_message(3, &second)),
+        message(13, 3, &second)
+    );
+    place.put(b"first"); // which renews the mark
+    assert_eq!(
+        reader.ask(&write_message(4, &second)),
+        write_reply(4, &second)
+    );
+    assert_eq!(reader.end(), (0, String::new()));
+}
+
 /// The mark that a crash left behind stays as it is.
 #[test]
 fn a_reader_renews_no_mark() {
@@ -204,4 +232,31 @@ fn over_a_socket() {
         std::io::Read::read_to_end(&mut client, &mut got).unwrap();
         assert_eq!(got, [&HELLO_REPLY[..], &message(13, 9, b"card")].concat());
     }
+}
+
+/// An inetd makes the connection standard error too: nothing comes between the replies.
+#[test]
+fn standard_error_on_the_same_socket() {
+    let place = Place::with_log(8);
+    let talk = |options: &[&str], sent: &[u8]| {
+        let listener = TcpListener::bind("127.0.0.1:0").unwrap();
+        let mut client = TcpStream::connect(listener.local_addr().unwrap()).unwrap();
+        let (server, _) = listener.accept().unwrap();
+        let end = || Stdio::from(OwnedFd::from(server.try_clone().unwrap()));
+        let mut command = place.command(&[&["serve", "log"], options].concat());
+        command.stdin(end()).stdout(end()).stderr(end());
+        let mut child = command.spawn().unwrap();
+        drop((command, server));
+        std::io::Write::write_all(&mut client, sent).unwrap();
+        client.shutdown(std::net::Shutdown::Write).unwrap();
+        let mut got = Vec::new();
+        std::io::Read::read_to_end(&mut client, &mut got).unwrap();
+        (child.wait().unwrap().code(), got)
+    };
+    // A message that gets no reply is told of; so is input that is torn.
+    let sent = [&HELLO[..], &[0, 1, 2], &message(2, 7, b""), &[0]].concat();
+    let replies = [&HELLO_REPLY[..], &message(3, 7, b"")].concat();
+    assert_eq!(talk(&["--read-only"], &sent), (Some(1), replies));
+    let ours = b"venti-02-skywimple\n".to_vec();
+    assert_eq!(talk(&["--handshake"], b"venti-99-x\n"), (Some(76), ours));
 }

@@ -2,6 +2,9 @@
 
 mod common;
 
+use std::thread;
+use std::time::{Duration, Instant};
+
 use common::*;
 
 const DIRECTORY: u8 = 0b11;
@@ -158,6 +161,37 @@ fn a_walk() {
         assert_eq!(answer.text(), "visits=0");
         assert!(answer.err.contains("allowance too large (23)"));
     }
+}
+
+/// A tree with more visits than anyone has time for, though few blocks: a walk that asks for too many
+/// is refused at once.
+#[test]
+fn too_large_an_allowance_for_a_huge_tree() {
+    let place = Place::with_log(300);
+    let mut score = place.put(b"leaf");
+    for kind in ["ptr1", "ptr2", "ptr3", "ptr4", "ptr5", "ptr6", "ptr7"] {
+        score = place.put_as(kind, &unhex(&score).repeat(500));
+    }
+    let mut file = entry(1, 7, 500, 0, &score);
+    file[4..6].copy_from_slice(&10_000_u16.to_be_bytes());
+    let top = place.put_as("dir", &file);
+    let mut root = vec![0; 300];
+    root[1] = 2;
+    root[258..278].copy_from_slice(&unhex(&top));
+    let root = place.put_as("root", &root);
+    let words = ["walk", "log", &root, "--allowance", "18446744073709551615"];
+    let mut child = place.command(&words).spawn().unwrap();
+    let start = Instant::now();
+    while child.try_wait().unwrap().is_none() {
+        if start.elapsed() > Duration::from_secs(20) {
+            child.kill().unwrap();
+            panic!("it goes on");
+        }
+        thread::sleep(Duration::from_millis(10));
+    }
+    let output = child.wait_with_output().unwrap();
+    assert_eq!(output.status.code(), Some(23));
+    assert_eq!(output.stdout, b"visits=0\n");
 }
 
 #[test]

@@ -328,6 +328,7 @@ fn missing_permissions() {
         message(13, 1, b"other")
     );
     assert_eq!(server.ask(&write_message(2, b"new")), error_reply(2, 14));
+    assert_eq!(server.ask(&write_message(3, b"other")), error_reply(3, 14));
     assert_eq!(server.end(), (0, String::new()));
     allow(".", 0o700);
     allow("log", 0o600);
