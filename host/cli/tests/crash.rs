@@ -292,7 +292,9 @@ fn killed_in_init() {
 fn interrupted_in_init() {
     let sectors = "131072"; // long enough to be in time
     let mut interrupted = 0;
-    for delay in (0..60).step_by(3) {
+    // Where the program is slow to begin, the signal has to wait for it.
+    let late = (0..40).map(|k| 60 + 4 * k * k);
+    for delay in (0..60).step_by(3).chain(late) {
         let place = Place::new();
         let init = ["init", "log", "--sectors", sectors];
         let child = place.command(&init).spawn().unwrap();

@@ -183,7 +183,7 @@ fn too_large_an_allowance_for_a_huge_tree() {
     let mut child = place.command(&words).spawn().unwrap();
     let start = Instant::now();
     while child.try_wait().unwrap().is_none() {
-        if start.elapsed() > Duration::from_secs(20) {
+        if start.elapsed() > Duration::from_secs(120) {
             child.kill().unwrap();
             panic!("it goes on");
         }
