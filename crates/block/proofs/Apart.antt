@@ -10,6 +10,7 @@ use Rattle.block.proofs.Facts.{parts-pos}
 use Rattle.block.proofs.Image.{image-used, label}
 use Rattle.block.proofs.Used.{lt-used}
 use Rattle.block.proofs.Sound.{sound-reads}
+use Rattle.block.specs.Laws.{NoneInside}
 
 pub apart : (log : Bytes) (n j : ℕ) (r s : Row) → sound log n ≡ some r → 0 < j → j < parts r → sound log (n + j) ≡ some s → ⊥
 apart log n j r s e h g f =
@@ -20,7 +21,7 @@ apart log n j r s e h g f =
     let t = label r s j 0 (p .0) (q .0) g pos (sym (p .3 j g) ∙ ap (at log) (sym z) ∙ q .3 0 pos) in
     omega (arith, t .1)
 
-pub none-inside : (log : Bytes) (n j : ℕ) (r : Row) → sound log n ≡ some r → 0 < j → j < parts r → sound log (n + j) ≡ none
+pub none-inside : NoneInside
 none-inside log n j r e h g = go (sound log (n + j)) refl
   where
     go : (o : Option Row) → sound log (n + j) ≡ o → sound log (n + j) ≡ none

@@ -3,7 +3,7 @@
 use mathlib.Core.Path.{_≡_, refl, sym, ap, ap₂, _∙_, subst}
 use mathlib.Core.Bool.{Bool, true, false, _&&_}
 use mathlib.Core.Option.{Option, none, some}
-use Prim.Native.Nat.{ℕ, _+_, _≤_, _<_}
+use Prim.Native.Nat.{ℕ}
 use native.Mathlib.Omega.{arith}
 use lib.Dec.{eqb}
 use borrow.Author.Tests.{eqb-true}
@@ -12,12 +12,13 @@ use Rattle.buffer.specs.Bytes.{Bytes, same}
 use Rattle.buffer.proofs.Bytes.{and-true, same-true, same-refl}
 use Rattle.word.specs.Hex.{hex, hexBytes}
 use Rattle.sector.specs.Sector.{kindField, sizeField, scoreField, scoreDigits}
-use Rattle.block.specs.Block.{Row, parts, image, valid}
-use Rattle.block.specs.Log.{sectors, at, payloads, soundAs, sound}
+use Rattle.block.specs.Block.{Row, parts, image}
+use Rattle.block.specs.Log.{at, payloads, soundAs, sound}
 use Rattle.block.proofs.Image.{image-kind, image-score}
 use Rattle.block.proofs.Payloads.{take-payloads}
 use Rattle.block.proofs.Passed.{as-passed}
 use Rattle.block.proofs.Stands.{Stands, passed-stands, first-sector, stands-as, stands-sound}
+use Rattle.block.specs.Laws.{SoundReads, SoundFinds}
 
 pub as-stands : (log : Bytes) (n kind : ℕ) (score : Bytes) (r : Row) → soundAs log n kind score ≡ some r → Stands log n r × (r .kind ≡ kind) × (r .score ≡ score)
 as-stands log n kind score r e =
@@ -25,13 +26,11 @@ as-stands log n kind score r e =
     subst (λ (s : Row). Stands log n s × (s .kind ≡ kind) × (s .score ≡ score)) (p .1)
     (passed-stands log n kind score (sizeField (at log n)) (p .0), refl, refl)
 
-pub sound-reads : (log : Bytes) (n : ℕ) (r : Row) → sound log n ≡ some r
-    → (valid r ≡ true) × (r .first ≡ n) × (n + parts r ≤ sectors (length log)) × ((k : ℕ) → k < parts r → at log (n + k) ≡ image r k)
+pub sound-reads : SoundReads
 unfolding sound
 sound-reads log n r e = (as-stands log n (kindField (at log n)) (scoreField (at log n)) r e) .0
 
-pub sound-finds : (log : Bytes) (r : Row) → valid r ≡ true → r .first + parts r ≤ sectors (length log)
-    → ((k : ℕ) → k < parts r → at log (r .first + k) ≡ image r k) → sound log (r .first) ≡ some r
+pub sound-finds : SoundFinds
 sound-finds log r v h f = stands-sound log (r .first) r (v, refl, h, f)
 
 pub as-reads : (log : Bytes) (n kind : ℕ) (score : Bytes) (r : Row) → soundAs log n kind score ≡ some r → (sound log n ≡ some r) × (r .kind ≡ kind) × (r .score ≡ score)

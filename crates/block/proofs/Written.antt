@@ -14,6 +14,7 @@ use Rattle.block.specs.Block.{Row, parts, image, images, written, valid}
 use Rattle.block.specs.Log.{sectors, at}
 use Rattle.block.proofs.At.{piece, piece-skip, at-middle, at-aside}
 use Rattle.block.proofs.Image.{length-image}
+use Rattle.block.specs.Laws.{WritesItsSectors}
 
 -- images as sectors
 module _ (r : Row) (v : valid r ≡ true) where
@@ -88,3 +89,6 @@ module _ (log : Bytes) (r : Row) (v : valid r ≡ true) (room : r .first + parts
           let z : 0 + (n - r .first) ≡ n - r .first = omega arith in
           rw (p, q) (at-middle front new back (r .first) (parts r) n length-front length-new h g
           ∙ images-piece r v (parts r) 0 (n - r .first) (omega arith) ∙ ap (image r) z)
+
+pub writes-its-sectors : WritesItsSectors
+writes-its-sectors log r v room = (length-written log r v room, at-written log r v room)

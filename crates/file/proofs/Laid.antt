@@ -19,7 +19,7 @@ use Rattle.entry.specs.Entry.{entryOf, scoreOf}
 use Rattle.file.specs.declared.Located.{Located}
 use Rattle.file.specs.File.{zeroRun, storedRun, pageAllowed, located}
 use Rattle.file.specs.Path.{Answers}
-use Rattle.file.specs.Bytes.{runBytes, byteUnder, fileByte, laid}
+use Rattle.file.specs.Bytes.{runBytes, byteUnder, fileByte, laid, RunIsTheFiles, WholeFile}
 use Rattle.file.proofs.Stored.{stored-bytes}
 use Rattle.file.proofs.Runs.{least-pos, least-below, through, Onward, Run, nothing, block, under-run}
 
@@ -96,9 +96,7 @@ module _ (log page : Bytes) (e : Entry) (offset : ℕ) (byte : ℕ → Option �
   run-next x p (nothing a f) = rw a (zeros-next p f)
   run-next x p (block t s r h lt short a f) = rw a (stored-next t s r h lt short f)
 
-pub run-bytes : (log page entry : Bytes) (offset : ℕ) → Answers (located log page entry offset)
-    → let b = runBytes log page (located log page entry offset) in
-    (1 ≤ length b) × (offset + length b ≤ (entryOf entry) .size) × ((j : ℕ) → j < length b → fileByte log entry (offset + j) ≡ some (getD b j 0))
+pub run-bytes : RunIsTheFiles
 unfolding fileByte
 run-bytes log page entry offset a =
     let T = through log page entry offset a in
@@ -145,9 +143,7 @@ module _ (log page entry : Bytes) (answers : (o : ℕ) → o < (entryOf entry) .
           let R = run-bytes log page entry offset (answers offset (ltb-true offset size q)) in
           rw q (one-more offset run (laid k log page entry (offset + length run)) (R .1) (R .2) (f (offset + length run) (omega (arith, R .0))))
 
-pub whole-file : (log page entry : Bytes) → ((o : ℕ) → o < (entryOf entry) .size → Answers (located log page entry o))
-    → let b = laid ((entryOf entry) .size) log page entry 0 in
-    (length b ≡ (entryOf entry) .size) × ((i : ℕ) → i < (entryOf entry) .size → fileByte log entry i ≡ some (getD b i 0))
+pub whole-file : WholeFile
 unfolding size
 whole-file log page entry answers =
     let n = (entryOf entry) .size in

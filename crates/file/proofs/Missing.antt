@@ -15,8 +15,8 @@ use Rattle.entry.specs.declared.Entry.{Entry}
 use Rattle.entry.specs.Entry.{entryOf, scoreOf}
 use Rattle.file.specs.declared.Located.{Located}
 use Rattle.file.specs.declared.Located.the-variants.{Refused}
-use Rattle.file.specs.File.{zeroRun, leafRun, fetched, pointer, pointerIndex, leafType, under, test, located}
-use Rattle.file.specs.Path.{Whole, Answers}
+use Rattle.file.specs.File.{zeroRun, leafRun, fetched, pointer, pointerIndex, leafType, under, test}
+use Rattle.file.specs.Path.{Whole, Answers, ReadsWhole}
 use Rattle.file.proofs.Tests.{located-ind}
 
 -- a test that answers was passed
@@ -53,8 +53,7 @@ under-whole log page e offset (suc d) s a =
     let h = held-if log (2 + suc d) s (e .psize) f (looked (same s zeroScore) (zeroRun page e offset) _ z a) in
     (h .0, h .1, under-whole log page e offset d _ (passed (eqb (length ((h .0) .bytes) % 20) 0) _ why.Pointers (h .2)))
 
-pub read-whole : (log page b : Bytes) (offset : ℕ) → Answers (located log page b offset)
-    → Whole log (entryOf b) offset ((entryOf b) .depth) (scoreOf b)
+pub read-whole : ReadsWhole
 read-whole log page b offset =
     located-ind log page b offset (λ (x : Located). Answers x → Whole log (entryOf b) offset ((entryOf b) .depth) (scoreOf b)) (λ w a. absurd a)
     (under-whole log (length page) (entryOf b) offset ((entryOf b) .depth) (scoreOf b))

@@ -1,8 +1,9 @@
 -- The bytes of a run, each byte of a file by look-up's definition, and a file's runs laid end to end.
+use mathlib.Core.Path.{_≡_}
 use mathlib.Core.Bool.{cond}
 use mathlib.Core.List.{[], _++_}
 use mathlib.Core.Option.{Option, none, some}
-use Prim.Native.Nat.{ℕ, zero, suc, _+_, _%_}
+use Prim.Native.Nat.{ℕ, zero, suc, _+_, _%_, _≤_, _<_}
 use lib.Dec.{ltb}
 use lib.ListN.{length, take, drop, getD}
 use Rattle.buffer.specs.Bytes.{Bytes, same}
@@ -13,6 +14,7 @@ use Rattle.entry.specs.Entry.{entryOf, scoreOf}
 use Rattle.file.specs.declared.Located.{Located}
 use Rattle.file.specs.declared.Located.the-variants.{Stored, Zeros, Refused}
 use Rattle.file.specs.File.{pointer, pointerIndex, leafType, located}
+use Rattle.file.specs.Path.{Answers}
 
 -- the bytes of a run: "a part of the log or of the lent blank page"; "A refusal hands back an empty part"
 abbrev pub runBytes : Bytes → Bytes → Located → Bytes
@@ -39,3 +41,15 @@ laid zero log page entry offset = []
 laid (suc k) log page entry offset =
     let run = runBytes log page (located log page entry offset) in
     cond (ltb offset ((entryOf entry) .size)) (run ++ laid k log page entry (offset + length run)) []
+
+-- the run's bytes are the file's: at least one, none past its size, each the byte that look-up's definition has there
+abbrev pub RunIsTheFiles : Type 0
+RunIsTheFiles = (log page entry : Bytes) (offset : ℕ) → Answers (located log page entry offset)
+    → let b = runBytes log page (located log page entry offset) in
+    (1 ≤ length b) × (offset + length b ≤ (entryOf entry) .size) × ((j : ℕ) → j < length b → fileByte log entry (offset + j) ≡ some (getD b j 0))
+
+-- where every offset reads, the runs laid end to end are the file's `size` bytes
+abbrev pub WholeFile : Type 0
+WholeFile = (log page entry : Bytes) → ((o : ℕ) → o < (entryOf entry) .size → Answers (located log page entry o))
+    → let b = laid ((entryOf entry) .size) log page entry 0 in
+    (length b ≡ (entryOf entry) .size) × ((i : ℕ) → i < (entryOf entry) .size → fileByte log entry i ≡ some (getD b i 0))

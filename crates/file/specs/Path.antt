@@ -8,7 +8,8 @@ use Rattle.kind.specs.Kind.{zeroScore}
 use Rattle.block.specs.Block.{Row}
 use Rattle.log.specs.LookUp.{held}
 use Rattle.entry.specs.declared.Entry.{Entry}
-use Rattle.file.specs.File.{pointer, pointerIndex, leafType}
+use Rattle.entry.specs.Entry.{entryOf, scoreOf}
+use Rattle.file.specs.File.{pointer, pointerIndex, leafType, located}
 use Rattle.file.specs.declared.Located.{Located}
 use Rattle.file.specs.declared.Located.the-variants.{Stored, Zeros, Refused}
 
@@ -23,3 +24,7 @@ abbrev pub Answers : Located → Type 0
 Answers (Stored at n) = Unit {0}
 Answers (Zeros n) = Unit {0}
 Answers (Refused w) = ⊥
+
+-- "A missing block is refused, never zero": an answer comes only where every block on the path is held
+abbrev pub ReadsWhole : Type 0
+ReadsWhole = (log page b : Bytes) (offset : ℕ) → Answers (located log page b offset) → Whole log (entryOf b) offset ((entryOf b) .depth) (scoreOf b)

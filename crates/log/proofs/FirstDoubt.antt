@@ -1,18 +1,18 @@
 -- The first doubtful sector, by a walk from the front; and that there is one exactly if any sector is doubtful.
 use mathlib.Core.Path.{_≡_, refl, sym, ap, _∙_}
-use mathlib.Core.Bool.{Bool, true, false, cond, true≢false}
+use mathlib.Core.Bool.{Bool, true, false, true≢false}
 use mathlib.Core.List.{List}
 use Prim.Native.Nat.{ℕ, zero, suc, _+_, _-_, _≤_, _<_}
 use native.Mathlib.Omega.{arith}
 use lib.Dec.{eqb}
 use borrow.Author.Tests.{ne-eqb, eqb-true, eqb-false}
 use Rattle.buffer.specs.Bytes.{Bytes}
-use Rattle.refusal.specs.declared.Refusal.{Refusal}
 use Rattle.refusal.specs.declared.Refusal.the-variants.{NotHeld, NotKnown}
 use Rattle.block.specs.Block.{Row}
 use Rattle.block.specs.Log.{used}
 use Rattle.log.specs.LookUp.{blocks, inBlock, outside, doubtful, firstOutside, firstDoubtful, absence}
 use Rattle.log.proofs.InBlock.{outside-zero, zero-outside}
+use Rattle.log.specs.Laws.{FirstAt, FirstEnd}
 
 -- past a run of sectors that are in blocks
 skip : (rows : List Row) (j k n : ℕ) → ((i : ℕ) → i < j → inBlock rows (n + i) ≡ true) → firstOutside rows (j + k) n ≡ firstOutside rows k (n + j)
@@ -31,7 +31,7 @@ skip rows (suc j) k n f =
     ∙ ap (firstOutside rows k) b
 
 -- all sectors before n are in blocks, and n is in none
-pub first-at : (log : Bytes) (n : ℕ) → outside (blocks log) n ≡ 0 → n < used log → inBlock (blocks log) n ≡ false → firstDoubtful log ≡ n
+pub first-at : FirstAt
 unfolding firstDoubtful firstOutside
 first-at log n z h o =
     let a : n + suc (used log - n - 1) ≡ used log = omega arith in
@@ -41,7 +41,7 @@ first-at log n z h o =
     ∙ rw (b, o)
 
 -- all sectors of the used part are in blocks
-pub first-end : (log : Bytes) (n : ℕ) → outside (blocks log) n ≡ 0 → used log ≤ n → firstDoubtful log ≡ used log
+pub first-end : FirstEnd
 unfolding firstDoubtful firstOutside
 first-end log n z h =
     let a : used log + 0 ≡ used log = omega arith in

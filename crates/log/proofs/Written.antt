@@ -20,6 +20,7 @@ use Rattle.block.proofs.Sound.{sound-reads, sound-finds}
 use Rattle.block.proofs.Apart.{sound-used}
 use Rattle.log.specs.LookUp.{blocksFrom, blocks, firstOf, emptyRow, held}
 use Rattle.log.proofs.Blocks.{blocks-append, blocks-used}
+use Rattle.log.specs.Laws.{HeldStays}
 
 -- rows behind do not hide the first of a type and score
 first-front : (t : ℕ) (s : Bytes) (xs ys : List Row) (r : Row) → firstOf t s xs ≡ some r → firstOf t s (xs ++ ys) ≡ some r
@@ -99,8 +100,7 @@ module _ (log : Bytes) (r : Row) (v : valid r ≡ true) (end : r .first ≡ used
       ∙ blocks-append (written log r) (used log) k 0
       ∙ ap (λ (l : List Row). l ++ blocksFrom (written log r) k (0 + used log)) (same-blocks log (written log r) (used log) 0 (λ m h. same-sound m (omega arith)) ∙ blocks-used log)
 
-pub held-written : (log : Bytes) (r : Row) → valid r ≡ true → r .first ≡ used log → r .first + parts r ≤ sectors (length log)
-    → (t : ℕ) (s : Bytes) (x : Row) → held log t s ≡ some x → held (written log r) t s ≡ some x
+pub held-written : HeldStays
 unfolding held
 held-written log r v end room t s x e = go (lawful t && same s zeroScore) e
   where

@@ -1,3 +1,4 @@
 pub mod LookUp
 pub mod Store
 pub mod Parts
+pub mod Laws

@@ -11,7 +11,7 @@ use lib.ListN.{length, getD, take, set, length-set, length-append, List·getD-ap
 use lib.Seq.{take-suc-set, getD-at, getD-set-same, getD-set-other}
 use Rattle.word.specs.Word.{rotL}
 use Rattle.sha1_block.specs.Block.{wordAt, wordsOf, nextWord, snocWord, scheduleOf}
-use Rattle.sha1_block.specs.Ring.{Ring}
+use Rattle.sha1_block.specs.Ring.{Ring, ringWord, RingGoesOn}
 
 -- ---- the words of a block
 
@@ -108,3 +108,9 @@ ring-next m w t i x l u e p r = (simp length-set (r .0), λ n g h. pick n g h (d
 
 pub ring-move : (m w : List ℕ) (a b : ℕ) → a ≡ b → Ring m a w → Ring m b w
 ring-move m w a b e r = subst (λ (t : ℕ). Ring m t w) e r
+
+pub ring-goes-on : RingGoesOn
+ring-goes-on m w t l u r =
+    let e : ringWord w t ≡ getD (scheduleOf 64 m) t 0 =
+    made m w t ((t - 3) % 16) ((t - 8) % 16) ((t - 14) % 16) (t % 16) (ringWord w t) refl refl refl refl (omega arith) l u r in
+    (e, ring-next m w t (t % 16) (ringWord w t) l u refl e r)

@@ -2,7 +2,9 @@
 use mathlib.Core.Path.{_≡_}
 use mathlib.Core.List.{List}
 use Prim.Native.Nat.{ℕ, _+_, _-_, _%_, _<_, _≤_}
-use lib.ListN.{length, getD}
+use lib.ListN.{length, getD, set}
+use lib.Bits.{bitXor}
+use Rattle.word.specs.Word.{rotL}
 use Rattle.sha1_block.specs.declared.Hash.{Hash}
 use Rattle.sha1_block.specs.Block.{scheduleOf, roundsOf}
 
@@ -11,6 +13,17 @@ use Rattle.sha1_block.specs.Block.{scheduleOf, roundsOf}
 -- the place n % 16. In round 15 these are the words of the block.
 unfoldable pub Ring : List ℕ → ℕ → List ℕ → Type 0
 Ring m t w = (length w ≡ 16) × ((n : ℕ) → t < n + 16 → n ≤ t → getD w (n % 16) 0 ≡ getD (scheduleOf 64 m) n 0)
+
+-- round t's word, of those 3, 8, 14 and 16 before it, which stand in these places
+abbrev pub ringWord : List ℕ → ℕ → ℕ
+ringWord w t =
+    rotL 1 (bitXor (bitXor (bitXor (getD w ((t - 3) % 16) 0) (getD w ((t - 8) % 16) 0)) (getD w ((t - 14) % 16) 0)) (getD w (t % 16) 0))
+
+-- the law: at every round t from 16 on, where the ring held the latest sixteen words in the round before, that word is word t of the
+-- standard's schedule, and put into the place t % 16 it leaves the ring with the words t - 15 to t
+abbrev pub RingGoesOn : Type 0
+RingGoesOn = (m w : List ℕ) (t : ℕ) → 16 ≤ t → t < 80 → Ring m (t - 1) w
+    → (ringWord w t ≡ getD (scheduleOf 64 m) t 0) × Ring m t (set w (t % 16) (ringWord w t))
 
 -- t rounds are done, from 16 on: the ring w is as round t - 1 left it, and s is the standard's working variables for the
 -- block m and the hash value h before it

@@ -10,12 +10,11 @@ use borrow.Author.Tests.{eqb-false}
 use Rattle.buffer.specs.Bytes.{Bytes}
 use Rattle.block.specs.Block.{Row}
 use Rattle.log.specs.LookUp.{on, held}
-use Rattle.entry.specs.declared.Entry.{Entry}
 use Rattle.entry.specs.Entry.{entryOf, scoreOf}
 use Rattle.walk.specs.declared.Walked.{Walked}
 use Rattle.walk.specs.declared.End.{End}
 use Rattle.walk.specs.declared.End.the-variants.{Done, Refused}
-use Rattle.walk.specs.Walk.{more, after, visiting, padded, piece, inOrder, typeAt, countAt, nestOf, entriesOf, judged, visitDirectory, visitEntry}
+use Rattle.walk.specs.Walk.{more, after, visiting, padded, piece, inOrder, typeAt, countAt, nestOf, entriesOf, judged, visitDirectory, visitEntry, EnoughForEntry, EnoughForDirectory}
 
 -- two choices by one test are equal where their cases are, each under its test
 cond-same : (b : Bool) {x y x' y' : Walked} → (b ≡ true → x ≡ x') → (b ≡ false → y ≡ y') → cond b x y ≡ cond b x' y'
@@ -54,8 +53,7 @@ judged-same x v w e = ap (judged x) e
 mutual
   unfolding visitEntry visitDirectory
 
-  pub entry-enough : (f g : ℕ) (log : Bytes) (e : Entry) (level nest : ℕ) (score : Bytes) (left : ℕ) → left + left + 1 ≤ f → left + left + 1 ≤ g
-      → visitEntry f log e level nest score left ≡ visitEntry g log e level nest score left
+  pub entry-enough : EnoughForEntry
   entry-enough zero g log e level nest score left hf hg = absurd (omega arith)
   entry-enough (suc f) zero log e level nest score left hf hg = absurd (omega arith)
   entry-enough (suc f) (suc g) log e level nest score left hf hg =
@@ -66,8 +64,7 @@ mutual
       (λ d. order-same _ _ 20 b (left - 1) (λ x a h. entry-enough f g log e (level - 1) nest x a (omega arith) (omega arith)) (length b / 20) 0 0)
       (λ d. refl)))
 
-  pub directory-enough : (f g : ℕ) (log : Bytes) (nest : ℕ) (b : Bytes) (left : ℕ) → left + left + 2 ≤ f → left + left + 2 ≤ g
-      → visitDirectory f log nest b left ≡ visitDirectory g log nest b left
+  pub directory-enough : EnoughForDirectory
   directory-enough zero g log nest b left hf hg = absurd (omega arith)
   directory-enough (suc f) zero log nest b left hf hg = absurd (omega arith)
   directory-enough (suc f) (suc g) log nest b left hf hg =

@@ -1,7 +1,8 @@
 -- "Walking from a root score", by look-up's definition.
+use mathlib.Core.Path.{_≡_}
 use mathlib.Core.Bool.{cond}
 use mathlib.Core.List.{_++_}
-use Prim.Native.Nat.{ℕ, zero, suc, _+_, _-_, _*_, _/_, _%_}
+use Prim.Native.Nat.{ℕ, zero, suc, _+_, _-_, _*_, _/_, _%_, _≤_}
 use lib.Dec.{eqb, ltb}
 use lib.ListN.{length, take, drop, replicate}
 use Rattle.buffer.specs.Bytes.{Bytes}
@@ -111,3 +112,12 @@ walkOf log score allowance =
     cond (logAllowed (length log))
     (cond (ltb 1000000 allowance) (walked 0 (Refused Allowance)) (walkRoot log score allowance))
     (walked 0 (Refused LogLength))
+
+-- the bound on calls changes nothing where it is enough, and the walk's is
+abbrev pub EnoughForEntry : Type 0
+EnoughForEntry = (f g : ℕ) (log : Bytes) (e : Entry) (level nest : ℕ) (score : Bytes) (left : ℕ) → left + left + 1 ≤ f → left + left + 1 ≤ g
+    → visitEntry f log e level nest score left ≡ visitEntry g log e level nest score left
+
+abbrev pub EnoughForDirectory : Type 0
+EnoughForDirectory = (f g : ℕ) (log : Bytes) (nest : ℕ) (b : Bytes) (left : ℕ) → left + left + 2 ≤ f → left + left + 2 ≤ g
+    → visitDirectory f log nest b left ≡ visitDirectory g log nest b left
