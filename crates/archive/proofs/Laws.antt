@@ -24,7 +24,7 @@ use Rattle.log.specs.declared.Stored.the-variants.{New, Duplicate, Refused as S
 use Rattle.log.specs.declared.Receipt.{Receipt}
 use Rattle.log.specs.LookUp.{logAllowed, lookUp, counted}
 use Rattle.log.proofs.Counted.{Over, counted-found, counted-refused}
-use Rattle.log.specs.Store.{After, after, store}
+use Rattle.log.specs.Store.{AfterStore, afterStore, store}
 use Rattle.log.proofs.Stored.{the-type}
 use Rattle.reader.specs.Reader.{bytesAt}
 use Rattle.reader.proofs.Pieces.{length-bytes}
@@ -134,11 +134,11 @@ module _ (kind tag : ℕ) (d log buffer : Bytes) (b : Bool) (e : b ≡ lawful ki
     unfolding write
     write-long h = rw (sym e ∙ q, lt-ltb longest (length d) h)
 
-    pub write-stored : (r : Receipt) (log′ : Bytes) (o : Outcome) → length d ≤ longest → after r log′ ≡ store log kind d → o ≡ written (r .stored) tag (r .score) log′ buffer → o ≡ write kind tag d log buffer
+    pub write-stored : (r : Receipt) (log′ : Bytes) (o : Outcome) → length d ≤ longest → afterStore r log′ ≡ store log kind d → o ≡ written (r .stored) tag (r .score) log′ buffer → o ≡ write kind tag d log buffer
     unfolding write
     write-stored r log′ o h s p =
         rw (sym e ∙ q, le-ltb longest (length d) h)
-        (p ∙ ap (λ (a : After). written (a .receipt .stored) tag (a .receipt .score) (a .log) buffer) s)
+        (p ∙ ap (λ (a : AfterStore). written (a .receipt .stored) tag (a .receipt .score) (a .log) buffer) s)
 
 -- ---- tests 1 to 4
 

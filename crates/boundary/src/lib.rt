@@ -9,7 +9,7 @@ ghost use mathlib.Core.Path.{_≡_};
 ghost use Rattle.crc32.specs.Crc32.{crc32Of};
 ghost use Rattle.archive.specs.Step.{step};
 ghost use Rattle.boundary.specs.Digest.{digestNumber, digestBuffer};
-ghost use Rattle.results.specs.Serve.{sessionOf, sessionNumber, served, outcome};
+ghost use Rattle.results.specs.Serve.{sessionOf, sessionNumber, served, servedOf};
 
 // The CRC-32 of s.
 #[no_mangle]
@@ -64,7 +64,7 @@ pub extern "C" fn skywimple_serve(
     log: &mut [u8],
     reply: &mut [u8],
 ) -> u32
-    ensures { λ r. ⌜ served r (now (log .exit)) (now (reply .exit)) ≡ outcome (step (sessionOf session) (now (message .entry)) (now (log .entry)) (now (reply .entry))) ⌝ }
+    ensures { λ r. ⌜ served r (now (log .exit)) (now (reply .exit)) ≡ servedOf (step (sessionOf session) (now (message .entry)) (now (log .entry)) (now (reply .entry))) ⌝ }
 {
     let answer = archive::serve(session_of(session), message, log, reply);
     let after = answer.session;

@@ -14,8 +14,8 @@ use Rattle.buffer.proofs.Bytes.{and-true}
 use Rattle.kind.specs.Kind.{lawful, isPointer, zeroScore}
 use Rattle.kind.proofs.ZeroScore.{length-zero-score}
 use Rattle.refusal.specs.declared.Refusal.the-variants.{BlockType, Pad}
-use Rattle.cut.specs.Cut.{zeroByte, unitOf, repeat, cutLength, whole, cutOf}
-use Rattle.cut.specs.Pad.{padded, padAllowed, after, padOf}
+use Rattle.cut.specs.Cut.{zeroByte, unitOf, repeat, cutLength, wholeUnits, cutOf}
+use Rattle.cut.specs.Pad.{padded, padAllowed, afterPad, padOf}
 use Rattle.cut.specs.declared.Kept.the-variants.{Length, Refused}
 use Rattle.cut.specs.declared.Padded.the-variants.{Done, Refused as Unpadded}
 use Rattle.cut.proofs.Units.{repeat-zeros}
@@ -41,12 +41,12 @@ unit-positive kind = go (isPointer kind) refl
     go false e = omega (arith, ap length (unit-other kind e))
 
 -- whole units: multiples of 20, and every number
-pub whole-scores : (kind n : ℕ) → isPointer kind ≡ true → eqb (n % 20) 0 ≡ whole (unitOf kind) n
-unfolding whole
+pub whole-scores : (kind n : ℕ) → isPointer kind ≡ true → eqb (n % 20) 0 ≡ wholeUnits (unitOf kind) n
+unfolding wholeUnits
 whole-scores kind n e = ap (λ (w : ℕ). eqb (n % w) 0) (sym (ap length (unit-pointer kind e) ∙ length-zero-score))
 
-pub whole-bytes : (kind n : ℕ) → isPointer kind ≡ false → true ≡ whole (unitOf kind) n
-unfolding whole
+pub whole-bytes : (kind n : ℕ) → isPointer kind ≡ false → true ≡ wholeUnits (unitOf kind) n
+unfolding wholeUnits
 whole-bytes kind n e = sym (ap (λ (u : Bytes). eqb (n % length u) 0) (unit-other kind e) ∙ ap (λ (r : ℕ). eqb r 0) (mod-one n))
 
 -- ---- cutting
@@ -55,11 +55,11 @@ pub cut-unlawful : (kind : ℕ) (b : Bytes) → lawful kind ≡ false → Refuse
 unfolding cutOf
 cut-unlawful kind b e = rw e
 
-pub cut-ragged : (kind : ℕ) (b : Bytes) → lawful kind ≡ true → whole (unitOf kind) (length b) ≡ false → Refused Pad ≡ cutOf kind b
+pub cut-ragged : (kind : ℕ) (b : Bytes) → lawful kind ≡ true → wholeUnits (unitOf kind) (length b) ≡ false → Refused Pad ≡ cutOf kind b
 unfolding cutOf
 cut-ragged kind b e f = rw (e, f)
 
-pub cut-done : (kind : ℕ) (b : Bytes) (n : ℕ) → lawful kind ≡ true → whole (unitOf kind) (length b) ≡ true → n ≡ cutLength (unitOf kind) b → Length n ≡ cutOf kind b
+pub cut-done : (kind : ℕ) (b : Bytes) (n : ℕ) → lawful kind ≡ true → wholeUnits (unitOf kind) (length b) ≡ true → n ≡ cutLength (unitOf kind) b → Length n ≡ cutOf kind b
 unfolding cutOf
 cut-done kind b n e f g = rw (e, f, g)
 
@@ -74,11 +74,11 @@ module _ (u : Bytes) (size len target : ℕ) where
   unfolding padAllowed
   pad-past h k = rw (le-leb len target h, lt-leb target size k)
 
-  pub pad-units : len ≤ target → target ≤ size → whole u len ≡ true → whole u target ≡ padAllowed u size len target
+  pub pad-units : len ≤ target → target ≤ size → wholeUnits u len ≡ true → wholeUnits u target ≡ padAllowed u size len target
   unfolding padAllowed
   pad-units h k e = rw (le-leb len target h, le-leb target size k, e)
 
-  pub pad-ragged : len ≤ target → target ≤ size → whole u len ≡ false → false ≡ padAllowed u size len target
+  pub pad-ragged : len ≤ target → target ≤ size → wholeUnits u len ≡ false → false ≡ padAllowed u size len target
   unfolding padAllowed
   pad-ragged h k e = rw (le-leb len target h, le-leb target size k, e)
 
@@ -91,15 +91,15 @@ filled-bytes kind n x e f =
     f ∙ sym (repeat-zeros n) ∙ ap (repeat zeroByte) (sym (div-one n)) ∙ ap (λ (u : Bytes). repeat u (n / length u)) (sym (unit-other kind e))
 
 module _ (kind : ℕ) (d : Bytes) (len target : ℕ) where
-  pub pad-unlawful : lawful kind ≡ false → after (Unpadded BlockType) d ≡ padOf kind d len target
+  pub pad-unlawful : lawful kind ≡ false → afterPad (Unpadded BlockType) d ≡ padOf kind d len target
   unfolding padOf
   pad-unlawful e = rw e
 
-  pub pad-refused : lawful kind ≡ true → padAllowed (unitOf kind) (length d) len target ≡ false → after (Unpadded Pad) d ≡ padOf kind d len target
+  pub pad-refused : lawful kind ≡ true → padAllowed (unitOf kind) (length d) len target ≡ false → afterPad (Unpadded Pad) d ≡ padOf kind d len target
   unfolding padOf
   pad-refused e f = rw (e, f)
 
-  pub pad-done : lawful kind ≡ true → padAllowed (unitOf kind) (length d) len target ≡ true → after Done (padded (unitOf kind) d len target) ≡ padOf kind d len target
+  pub pad-done : lawful kind ≡ true → padAllowed (unitOf kind) (length d) len target ≡ true → afterPad Done (padded (unitOf kind) d len target) ≡ padOf kind d len target
   unfolding padOf
   pad-done e f = rw (e, f)
 
@@ -113,9 +113,9 @@ pub record Allowed (u : Bytes) (size len target : ℕ) : Type 0 where
 pub allowed : (u : Bytes) (size len target : ℕ) → padAllowed u size len target ≡ true → Allowed u size len target
 unfolding padAllowed
 allowed u size len target e =
-    let p = and-true (leb len target && leb target size) (whole u len && whole u target) e in
+    let p = and-true (leb len target && leb target size) (wholeUnits u len && wholeUnits u target) e in
     let q = and-true (leb len target) (leb target size) (p .0) in
-    let r = and-true (whole u len) (whole u target) (p .1) in
+    let r = and-true (wholeUnits u len) (wholeUnits u target) (p .1) in
     record {
       longer = leb-true len target (q .0);
       within = leb-true target size (q .1);
@@ -128,8 +128,8 @@ module _ (u d : Bytes) (len target : ℕ) (a : Allowed u (length d) len target) 
   part-length = simp (length-take, length-drop) (omega (arith, a .longer, a .within))
 
   -- the part that is filled is whole units
-  pub part-whole : whole u (length (take (target - len) (drop len d))) ≡ true
-  unfolding whole
+  pub part-whole : wholeUnits u (length (take (target - len) (drop len d))) ≡ true
+  unfolding wholeUnits
   part-whole =
       eq-eqb (length (take (target - len) (drop len d)) % length u) 0
       (ap (λ (n : ℕ). n % length u) part-length ∙ difference (length u) target len (a .to) (a .from))

@@ -9,8 +9,8 @@ use lib.ListN.{length, take, drop, length-append}
 use lib.Seq.{length-take-le, take-at}
 use Rattle.buffer.specs.Bytes.{Bytes}
 use Rattle.kind.specs.Kind.{lawful}
-use Rattle.cut.specs.Cut.{unitOf, repeat, cutLength, whole, cutOf}
-use Rattle.cut.specs.Pad.{padded, padAllowed, after, AfterPad, padOf}
+use Rattle.cut.specs.Cut.{unitOf, repeat, cutLength, wholeUnits, cutOf}
+use Rattle.cut.specs.Pad.{padded, padAllowed, afterPad, AfterPad, padOf}
 use Rattle.cut.specs.declared.Kept.the-variants.{Length}
 use Rattle.cut.specs.declared.Padded.{Padded}
 use Rattle.cut.specs.declared.Padded.the-variants.{Done}
@@ -29,9 +29,9 @@ pub record IsCut (kind : ℕ) (b : Bytes) (n : ℕ) : Type 0 where
   pub size : n ≡ cutLength (unitOf kind) b
 
 pub is-cut : (kind : ℕ) (b : Bytes) (n : ℕ) → cutOf kind b ≡ Length n → IsCut kind b n
-is-cut kind b n e = go (lawful kind) (whole (unitOf kind) (length b)) refl refl
+is-cut kind b n e = go (lawful kind) (wholeUnits (unitOf kind) (length b)) refl refl
   where
-    go : (t s : Bool) → lawful kind ≡ t → whole (unitOf kind) (length b) ≡ s → IsCut kind b n
+    go : (t s : Bool) → lawful kind ≡ t → wholeUnits (unitOf kind) (length b) ≡ s → IsCut kind b n
     go false s l h = let r = cut-unlawful kind b l in let z : _≡_ {A = ℕ} 0 1 = cc in absurd (omega arith)
     go true false l h = let r = cut-ragged kind b l h in let z : _≡_ {A = ℕ} 0 1 = cc in absurd (omega arith)
     go true true l h =
@@ -43,10 +43,10 @@ pub record IsPadded (kind : ℕ) (d : Bytes) (len target : ℕ) (x : Bytes) : Ty
   pub lengths : Allowed (unitOf kind) (length d) len target
   pub bytes : x ≡ padded (unitOf kind) d len target
 
-pub is-padded : (kind : ℕ) (d : Bytes) (len target : ℕ) (x : Bytes) → padOf kind d len target ≡ after Done x → IsPadded kind d len target x
+pub is-padded : (kind : ℕ) (d : Bytes) (len target : ℕ) (x : Bytes) → padOf kind d len target ≡ afterPad Done x → IsPadded kind d len target x
 is-padded kind d len target x e = go (lawful kind) (padAllowed (unitOf kind) (length d) len target) refl refl
   where
-    answer : {a : Padded} {y : Bytes} → after a y ≡ padOf kind d len target → a ≡ Done
+    answer : {a : Padded} {y : Bytes} → afterPad a y ≡ padOf kind d len target → a ≡ Done
     answer q = ap (λ (r : AfterPad). r .answer) (q ∙ e)
 
     go : (t s : Bool) → lawful kind ≡ t → padAllowed (unitOf kind) (length d) len target ≡ s → IsPadded kind d len target x
@@ -77,8 +77,8 @@ cut-keeps-shortest kind b n e m j l s =
     let c = is-cut kind b n e in
     omega (arith, c .size, cut-shortest (unitOf kind) b (unit-positive kind) (c .units) m j l s)
 
-whole-of : (u : Bytes) (n : ℕ) → n % length u ≡ 0 → whole u n ≡ true
-unfolding whole
+whole-of : (u : Bytes) (n : ℕ) → n % length u ≡ 0 → wholeUnits u n ≡ true
+unfolding wholeUnits
 whole-of u n h = eq-eqb (n % length u) 0 h
 
 -- cutting, then padding to the old length, gives the old bytes back, in any buffer d whose front is what was kept
@@ -91,7 +91,7 @@ cut-then-pad kind b n e d l f =
     let a : padAllowed u (length d) n (length b) ≡ true =
     sym (pad-units u (length d) n (length b) (cut-never-longer kind b n e) l (whole-of u n un)) ∙ whole-of u (length b) (c .units) in
     sym (pad-done kind d n (length b) (c .type-lawful) a)
-    ∙ ap (after Done)
+    ∙ ap (afterPad Done)
     (ap (λ (x : Bytes). x ++ (repeat u ((length b - n) / length u) ++ drop (length b) d)) f
     ∙ sym (append-assoc (take n b) (repeat u ((length b - n) / length u)) (drop (length b) d))
     ∙ ap (λ (x : Bytes). x ++ drop (length b) d) (sym (cut-rest-units kind b n e)))

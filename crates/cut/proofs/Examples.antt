@@ -8,7 +8,7 @@ use lib.ListN.{length, replicate}
 use Rattle.buffer.specs.Bytes.{Bytes}
 use Rattle.kind.specs.Kind.{lawful, isPointer, zeroScore}
 use Rattle.kind.proofs.ZeroScore.{zero-score-bytes}
-use Rattle.cut.specs.Cut.{zeroByte, unitOf, kept, cutLength, whole, cutOf}
+use Rattle.cut.specs.Cut.{zeroByte, unitOf, kept, cutLength, wholeUnits, cutOf}
 use Rattle.cut.specs.Examples.{hello}
 use Rattle.cut.specs.declared.Kept.the-variants.{Length}
 use Rattle.cut.proofs.Units.{repeat-zeros}
@@ -37,10 +37,10 @@ all-zeros = zeros-after [] 1024
 
 -- twenty zero bytes aren't the zero score: a pointer block keeps them
 pub zero-bytes-kept : cutOf 3 (replicate 20 0) ≡ Length 20
-unfolding lawful isPointer unitOf kept cutLength whole cutOf
+unfolding lawful isPointer unitOf kept cutLength wholeUnits cutOf
 zero-bytes-kept = rw zero-score-bytes
 
 -- and loses a zero score
 pub zero-score-cut : cutOf 3 (replicate 20 7 ++ zeroScore) ≡ Length 20
-unfolding lawful isPointer unitOf kept cutLength whole cutOf
+unfolding lawful isPointer unitOf kept cutLength wholeUnits cutOf
 zero-score-cut = rw zero-score-bytes

@@ -10,7 +10,7 @@ use borrow.Author.Tests.{eqb-true, ne-eqb}
 use lib.ListN.{length, getD, take, drop}
 use lib.Seq.{take-at, drop-cons, drop-drop, drop-append-add, drop-length}
 use Rattle.buffer.specs.Bytes.{Bytes, same, put}
-use Rattle.cut.specs.Cut.{zeroByte, repeat, unitAt, kept, cutLength, whole}
+use Rattle.cut.specs.Cut.{zeroByte, repeat, unitAt, kept, cutLength, wholeUnits}
 use Rattle.cut.proofs.Units.{length-repeat, repeat-snoc, kept-more, kept-stop}
 use Rattle.cut.proofs.Multiples.{times, times-div, times-mod, Prior, prior, next, next-le}
 
@@ -125,8 +125,8 @@ fill-all u d₀ d at c l =
 
 -- ---- the tests as the code has them
 
-pub whole-units : (u : Bytes) (n : ℕ) → whole u n ≡ true → n % length u ≡ 0
-unfolding whole
+pub whole-units : (u : Bytes) (n : ℕ) → wholeUnits u n ≡ true → n % length u ≡ 0
+unfolding wholeUnits
 whole-units u n h = eqb-true (n % length u) 0 h
 
 -- the byte at i as a unit

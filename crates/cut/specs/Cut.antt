@@ -37,11 +37,11 @@ unfoldable pub cutLength : Bytes → Bytes → ℕ
 cutLength u b = length u * kept u (length b / length u) b
 
 -- "a pointer length not a multiple of 20" is refused with 22; every length is whole zero bytes
-unfoldable pub whole : Bytes → ℕ → Bool
-whole u n = eqb (n % length u) 0
+unfoldable pub wholeUnits : Bytes → ℕ → Bool
+wholeUnits u n = eqb (n % length u) 0
 
 -- "Both test 9, then 22"
 unfoldable pub cutOf : ℕ → Bytes → Kept
 cutOf kind b =
     cond (not (lawful kind)) (Refused BlockType)
-    (cond (not (whole (unitOf kind) (length b))) (Refused Pad) (Length (cutLength (unitOf kind) b)))
+    (cond (not (wholeUnits (unitOf kind) (length b))) (Refused Pad) (Length (cutLength (unitOf kind) b)))

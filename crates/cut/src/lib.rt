@@ -5,8 +5,8 @@ ghost use mathlib.Core.Bool.{true};
 ghost use Prim.Native.Nat.{_/_};
 ghost use lib.ListN.{length};
 ghost use Rattle.kind.specs.Kind.{zeroScore};
-ghost use Rattle.cut.specs.Cut.{zeroByte, unitOf, repeat, cutLength, whole, cutOf};
-ghost use Rattle.cut.specs.Pad.{padAllowed, after, padOf};
+ghost use Rattle.cut.specs.Cut.{zeroByte, unitOf, repeat, cutLength, wholeUnits, cutOf};
+ghost use Rattle.cut.specs.Pad.{padAllowed, afterPad, padOf};
 
 pub enum Kept {
     Length(usize),
@@ -20,7 +20,7 @@ pub enum Padded {
 
 // Whether n bytes are whole units of a block type.
 fn is_whole(kind: u8, n: usize) -> bool
-    ensures { λ r. ⌜ r ≡ whole (unitOf kind) n ⌝ }
+    ensures { λ r. ⌜ r ≡ wholeUnits (unitOf kind) n ⌝ }
 {
     !kind::is_pointer(kind) || n % 20 == 0
 }
@@ -42,7 +42,7 @@ fn cut_bytes(b: &[u8]) -> usize
 
 // The length of b, whole scores, without the zero scores at its end.
 fn cut_scores(b: &[u8]) -> usize
-    requires { ⌜ whole zeroScore (length (now b)) ≡ true ⌝ }
+    requires { ⌜ wholeUnits zeroScore (length (now b)) ≡ true ⌝ }
     ensures { λ r. ⌜ r ≡ cutLength zeroScore (now (b .entry)) ⌝ }
 {
     let mut n = b.len();
@@ -61,11 +61,11 @@ pub fn cut(kind: u8, block: &[u8]) -> Kept
     ensures { λ r. ⌜ r ≡ cutOf kind (now (block .entry)) ⌝ }
 {
     let lawful = kind::is_lawful(kind);
-    let whole = is_whole(kind, block.len());
+    let wholeUnits = is_whole(kind, block.len());
     if !lawful {
         return Kept::Refused(Refusal::BlockType);
     }
-    if !whole {
+    if !wholeUnits {
         return Kept::Refused(Refusal::Pad);
     }
     if kind::is_pointer(kind) {
@@ -76,7 +76,7 @@ pub fn cut(kind: u8, block: &[u8]) -> Kept
 
 // The whole of d, whole scores, becomes zero scores.
 fn fill_scores(d: &mut [u8])
-    requires { ⌜ whole zeroScore (length (now d)) ≡ true ⌝ }
+    requires { ⌜ wholeUnits zeroScore (length (now d)) ≡ true ⌝ }
     ensures { λ _. ⌜ now (d .exit) ≡ repeat zeroScore (length (now (d .entry)) / length zeroScore) ⌝ }
 {
     let z = kind::zero_score();
@@ -89,7 +89,7 @@ fn fill_scores(d: &mut [u8])
 
 // The whole of d becomes units of a block type.
 fn fill(kind: u8, d: &mut [u8])
-    requires { ⌜ whole (unitOf kind) (length (now d)) ≡ true ⌝ }
+    requires { ⌜ wholeUnits (unitOf kind) (length (now d)) ≡ true ⌝ }
     ensures { λ _. ⌜ now (d .exit) ≡ repeat (unitOf kind) (length (now (d .entry)) / length (unitOf kind)) ⌝ }
 {
     if !kind::is_pointer(kind) {
@@ -117,7 +117,7 @@ fn may_pad(kind: u8, size: usize, len: usize, target: usize) -> bool
 
 // Pads the block of `len` bytes at the front of the buffer to the target.
 pub fn pad(kind: u8, buffer: &mut [u8], len: usize, target: usize) -> Padded
-    ensures { λ r. ⌜ after r (now (buffer .exit)) ≡ padOf kind (now (buffer .entry)) len target ⌝ }
+    ensures { λ r. ⌜ afterPad r (now (buffer .exit)) ≡ padOf kind (now (buffer .entry)) len target ⌝ }
 {
     let size = buffer.len();
     let lawful_type = kind::is_lawful(kind);

@@ -27,7 +27,7 @@ use Rattle.ledger.proofs.Trace.{trace-keeps}
 use Rattle.ledger.proofs.Tests.{cond-ind, on-ind}
 use Rattle.ledger.proofs.Covers.{covers-reads, hit-not}
 use Rattle.ledger.proofs.Ends.{end-changed}
-use Rattle.demands.specs.Ledger.{Answer, Decision, outcome, firstRow, writeRow, decision, tell}
+use Rattle.demands.specs.Ledger.{Answer, Decision, rulingOf, firstRow, writeRow, decision, tell}
 use Rattle.demands.specs.Instance.{archive}
 use Rattle.demands.specs.Requests.{Writes}
 use Rattle.demands.proofs.First.{first-front, first-behind, intact-append}
@@ -74,7 +74,7 @@ module _ (t : ℕ) (d : Bytes) where
   module _ (L : Ledger archive) (size : ℕ) (m buffer : Bytes) where
     -- if a decision is answered, the ledger has the data afterwards
     abbrev Kept : Decision → Type 0
-    Kept w = (outcome Greeted m buffer w) .answer .number ≡ 0 → Known (next archive L (outcome Greeted m buffer w))
+    Kept w = (rulingOf Greeted m buffer w) .answer .number ≡ 0 → Known (next archive L (rulingOf Greeted m buffer w))
 
     write-kept : Kept (writeRow (intact archive L) (end archive L) size t d (tagOf m))
     write-kept =

@@ -23,7 +23,7 @@ use Rattle.archive.specs.declared.Session.{Session}
 use Rattle.archive.specs.declared.Session.the-variants.{Greeted}
 use Rattle.ledger.specs.Archive.{Seen}
 use Rattle.ledger.specs.Ledger.{shown}
-use Rattle.demands.specs.Ledger.{Answer, Decision, outcome, anyUncovered, firstRow}
+use Rattle.demands.specs.Ledger.{Answer, Decision, rulingOf, anyUncovered, firstRow}
 use Rattle.demands.specs.Instance.{archive}
 use Rattle.demands.proofs.LookUp.{first-same, absence-same}
 
@@ -54,7 +54,7 @@ seen o = record { answer = record { number = o .number; buffer = o .reply }; ses
 
 -- what is seen of the ledger's decision
 abbrev pub view : Bytes → Session → Bytes → Bytes → Decision → Seen Answer Session Bytes
-view log s m buffer d = shown archive log (outcome s m buffer d)
+view log s m buffer d = shown archive log (rulingOf s m buffer d)
 
 -- a log's sound blocks are these rows, none of them of the zero score, and its used part ends here
 pub record Mirrors (log : Bytes) (rows : List Row) (end : ℕ) : Type 0 where

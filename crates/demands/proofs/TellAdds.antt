@@ -26,7 +26,7 @@ use Rattle.archive.specs.declared.Session.{Session}
 use Rattle.archive.specs.declared.Session.the-variants.{Fresh, Greeted, Closed as Shut}
 use Rattle.ledger.specs.Ledger.{Ledger, intact, end}
 use Rattle.ledger.proofs.Tests.{on-ind}
-use Rattle.demands.specs.Ledger.{Asked, Decision, silence, refusal, reply, close, outcome, anyUncovered, firstRow, writeRow, readRow, decide, bySession, decision, tell}
+use Rattle.demands.specs.Ledger.{Asked, Decision, silence, refusal, reply, close, rulingOf, anyUncovered, firstRow, writeRow, readRow, decide, bySession, decision, tell}
 use Rattle.demands.specs.Instance.{archive}
 
 log-allowed : (m : ℕ) → logAllowed m ≡ true → sectors m ≤ mostSectors
@@ -70,7 +70,7 @@ added (refusal w) = none
 added (reply b s a) = a
 added close = none
 
-outcome-added : (s : Session) (m buffer : Bytes) (d : Decision) → (outcome s m buffer d) .adds ≡ added d
+outcome-added : (s : Session) (m buffer : Bytes) (d : Decision) → (rulingOf s m buffer d) .adds ≡ added d
 outcome-added s m buffer (silence w) = refl
 outcome-added s m buffer (refusal w) = refl
 outcome-added s m buffer (reply b s′ a) = refl
@@ -160,7 +160,7 @@ pub tell-adds : (L : Ledger archive) (size : ℕ) (s : Session) (q : Asked) (r :
 tell-adds L size s q r sm g = let f = tell-fits L size s q r sm g in (f .ok, f .here, f .room, f .owned)
 
 -- a row is added only with the answer 0
-pub added-answered : (s : Session) (m buffer : Bytes) (d : Decision) (r : Row) → (outcome s m buffer d) .adds ≡ some r → (outcome s m buffer d) .answer .number ≡ 0
+pub added-answered : (s : Session) (m buffer : Bytes) (d : Decision) (r : Row) → (rulingOf s m buffer d) .adds ≡ some r → (rulingOf s m buffer d) .answer .number ≡ 0
 added-answered s m buffer (silence w) r e = let z : _≡_ {A = ℕ} 0 1 = cc in absurd (omega arith)
 added-answered s m buffer (refusal w) r e = let z : _≡_ {A = ℕ} 0 1 = cc in absurd (omega arith)
 added-answered s m buffer (reply b s′ a) r e = refl

@@ -59,11 +59,11 @@ pub data Decision : Type 0 where
   close : Decision
 
 -- "a refusal ... has its outcome from the table and adds no row"
-abbrev pub outcome : Session → Bytes → Bytes → Decision → Ruling Answer Session Row
-outcome s m buffer (silence w) = record { answer = record { number = numberOf w; buffer = buffer }; session = s; adds = none }
-outcome s m buffer (refusal w) = record { answer = record { number = numberOf w; buffer = answered buffer (errorReply (tagOf m) w) }; session = s; adds = none }
-outcome s m buffer (reply b s′ a) = record { answer = record { number = 0; buffer = answered buffer b }; session = s′; adds = a }
-outcome s m buffer close = record { answer = record { number = 0; buffer = buffer }; session = Shut; adds = none }
+abbrev pub rulingOf : Session → Bytes → Bytes → Decision → Ruling Answer Session Row
+rulingOf s m buffer (silence w) = record { answer = record { number = numberOf w; buffer = buffer }; session = s; adds = none }
+rulingOf s m buffer (refusal w) = record { answer = record { number = numberOf w; buffer = answered buffer (errorReply (tagOf m) w) }; session = s; adds = none }
+rulingOf s m buffer (reply b s′ a) = record { answer = record { number = 0; buffer = answered buffer b }; session = s′; adds = a }
+rulingOf s m buffer close = record { answer = record { number = 0; buffer = buffer }; session = Shut; adds = none }
 
 -- by the session: "session closed", or open and whether a hello was accepted in it
 abbrev pub bySession : Session → Decision → (Bool → Decision) → Decision
@@ -129,4 +129,4 @@ abbrev pub tell : List Row → List ℕ → ℕ → Session → Asked → Ruling
 tell rows changed size s q =
     let intact = intactRows (λ (r : Row). r .first) parts changed rows in
     let end = max (rowsEnd (λ (r : Row). r .first) parts rows) (changedEnd changed) in
-    outcome s (q .message) (q .buffer) (decision intact end size s q)
+    rulingOf s (q .message) (q .buffer) (decision intact end size s q)

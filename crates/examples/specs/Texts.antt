@@ -12,13 +12,13 @@ use Rattle.message.specs.declared.Request.{Request}
 use Rattle.message.specs.declared.Request.the-variants.{Hello, Ill}
 
 -- "[s] is a two-byte count and text"
-abbrev pub counted : Bytes → Bytes
-counted t = beBytes 2 (length t) ++ t
+abbrev pub countedText : Bytes → Bytes
+countedText t = beBytes 2 (length t) ++ t
 
 -- a hello of tag 9, without crypto and codec
 abbrev pub helloOf : Bytes → Bytes → Bytes
 helloOf version uid =
-    beBytes 2 (2 + length (counted version ++ (counted uid ++ (0 ∷ 0 ∷ 0 ∷ [])))) ++ (4 ∷ 9 ∷ (counted version ++ (counted uid ++ (0 ∷ 0 ∷ 0 ∷ []))))
+    beBytes 2 (2 + length (countedText version ++ (countedText uid ++ (0 ∷ 0 ∷ 0 ∷ [])))) ++ (4 ∷ 9 ∷ (countedText version ++ (countedText uid ++ (0 ∷ 0 ∷ 0 ∷ []))))
 
 pub record Texts : Type 0 where
   pub version : map (λ (e : Example). requestOf (helloOf (e .text) [])) table ≡ map (λ (e : Example). cond (e .passes) Hello Ill) table

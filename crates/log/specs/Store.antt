@@ -17,12 +17,12 @@ use Rattle.log.specs.declared.Stored.the-variants.{New, Duplicate, Refus
 use Rattle.log.specs.declared.Receipt.{Receipt}
 
 -- what a store gives: the receipt, and the log afterwards
-pub record After : Type 0 where
+pub record AfterStore : Type 0 where
   pub receipt : Receipt
   pub log : Bytes
 
-abbrev pub after : Receipt → Bytes → After
-after r log = record { receipt = r; log = log }
+abbrev pub afterStore : Receipt → Bytes → AfterStore
+afterStore r log = record { receipt = r; log = log }
 
 abbrev pub receipt : Bytes → Stored → Receipt
 receipt score s = record { score = score; stored = s }
@@ -36,19 +36,19 @@ unfoldable pub roomFor : Bytes → Bytes → Bool
 roomFor log d = leb (used log + partsOf (length d)) (sectors (length log))
 
 -- a block that look-up did not find: "appended right after the used part", or 14
-abbrev pub appended : Bytes → ℕ → Bytes → After
+abbrev pub appended : Bytes → ℕ → Bytes → AfterStore
 appended log t d =
     cond (roomFor log d)
-    (after (receipt (sha1Of d) (New (record { 0 = used log }))) (written log (newRow log t d)))
-    (after (receipt (sha1Of d) (Refused NoRoom)) log)
+    (afterStore (receipt (sha1Of d) (New (record { 0 = used log }))) (written log (newRow log t d)))
+    (afterStore (receipt (sha1Of d) (Refused NoRoom)) log)
 
 -- one that it found: "a duplicate (look-up finds these very bytes; nothing stored)", else 15
-abbrev pub compared : Bytes → Bytes → ℕ → Bytes → After
+abbrev pub compared : Bytes → Bytes → ℕ → Bytes → AfterStore
 compared log bytes first d =
     cond (same bytes d)
-    (after (receipt (sha1Of d) (Duplicate (record { 0 = first }))) log)
-    (after (receipt (sha1Of d) (Refused Clash)) log)
+    (afterStore (receipt (sha1Of d) (Duplicate (record { 0 = first }))) log)
+    (afterStore (receipt (sha1Of d) (Refused Clash)) log)
 
 -- what look-up finds for the zero score is the empty block
-unfoldable pub store : Bytes → ℕ → Bytes → After
+unfoldable pub store : Bytes → ℕ → Bytes → AfterStore
 store log t d = on (held log t (sha1Of d)) (appended log t d) (λ r. compared log (r .bytes) (r .first) d)

@@ -12,7 +12,7 @@ use lib.Seq.{length-take-le, take-nil}
 use Rattle.buffer.specs.Bytes.{Bytes, same, zeros}
 use Rattle.buffer.proofs.Bytes.{and-true}
 use Rattle.word.specs.Number.{beNumber}
-use Rattle.utf8.specs.Grammar.{wellFormed}
+use Rattle.utf8.specs.Grammar.{wellFormedText}
 use Rattle.message.specs.declared.Request.{Request}
 use Rattle.message.specs.declared.Request.the-variants.{Read, Write, Unknown, Ill}
 use Rattle.message.specs.declared.Next.{Next}
@@ -58,7 +58,7 @@ module _ (m : Bytes) (at : ℕ) (w : at ≤ length m) where
       unfolding textEnd
       text-long l = rw (counted, le-leb (at + 2) (length m) (omega arith), le-leb (at + 2 + n) (length m) (omega arith), size, lt-leb n 1024 l)
 
-      module _ (l : n ≤ 1024) (b : Bool) (z : b ≡ wellFormed (take (at + 2 + n - (at + 2)) (drop (at + 2) m))) where
+      module _ (l : n ≤ 1024) (b : Bool) (z : b ≡ wellFormedText (take (at + 2 + n - (at + 2)) (drop (at + 2) m))) where
         told : textEnd m at ≡ cond b (At (at + 2 + n)) Bad
         unfolding textEnd
         told =

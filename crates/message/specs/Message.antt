@@ -5,7 +5,7 @@ use lib.Dec.{leb, eqb}
 use lib.ListN.{length, getD, take, drop}
 use Rattle.buffer.specs.Bytes.{Bytes, zeros}
 use Rattle.word.specs.Number.{beNumber}
-use Rattle.utf8.specs.Grammar.{wellFormed}
+use Rattle.utf8.specs.Grammar.{wellFormedText}
 use Rattle.message.specs.declared.Request.{Request}
 use Rattle.message.specs.declared.Request.the-variants.{Ping, Hello, Goodbye, Read, Write, Sync, Unknown, Ill}
 use Rattle.message.specs.declared.Next.{Next}
@@ -23,7 +23,7 @@ tagOf m = getD m 3 0
 
 -- "text of at most 1,024 bytes", "not characters"; "well-formed UTF-8 by RFC 3629 .. without NUL": `wellFormed` in utf8/specs/Grammar.antt
 abbrev pub isText : Bytes → Bool
-isText t = leb (length t) 1024 && wellFormed t
+isText t = leb (length t) 1024 && wellFormedText t
 
 -- "A read or write whose pad isn't all zeros is refused with 6"
 abbrev pub padAllowed : Bytes → Bool

@@ -12,14 +12,14 @@ use Rattle.refusal.specs.declared.Refusal.the-variants.{LogLength}
 use Rattle.log.specs.LookUp.{logAllowed}
 use Rattle.report.specs.declared.Reported.{Reported}
 use Rattle.report.specs.declared.Reported.the-variants.{Written, Refused}
-use Rattle.report.specs.Report.{reportText, Outcome, outcome, reportOf}
+use Rattle.report.specs.Report.{reportText, ReportOutcome, reportOutcome, reportOf}
 
-module _ (log b e : Bytes) (r : Reported) (h : 128 ≤ length b) (q : outcome r e ≡ reportOf log b) where
-  allowed : logAllowed (length log) ≡ true → outcome r e ≡ outcome (Written (length (reportText log))) (put b 0 (reportText log))
+module _ (log b e : Bytes) (r : Reported) (h : 128 ≤ length b) (q : reportOutcome r e ≡ reportOf log b) where
+  allowed : logAllowed (length log) ≡ true → reportOutcome r e ≡ reportOutcome (Written (length (reportText log))) (put b 0 (reportText log))
   unfolding reportOf
   allowed t = rw (le-ltb (length b) 128 h, t) at q
 
-  barred : logAllowed (length log) ≡ false → outcome r e ≡ outcome (Refused LogLength) b
+  barred : logAllowed (length log) ≡ false → reportOutcome r e ≡ reportOutcome (Refused LogLength) b
   unfolding reportOf
   barred t = rw (le-ltb (length b) 128 h, t) at q
 
@@ -28,10 +28,10 @@ module _ (log b e : Bytes) (r : Reported) (h : 128 ≤ length b) (q : outcome r 
     where
       go : (t : Bool) → logAllowed (length log) ≡ t → (logAllowed (length log) ≡ true) × (e ≡ put b 0 (reportText log)) × (n ≡ length (reportText log))
       go true p =
-          let a : Written n ≡ Written (length (reportText log)) = sym w ∙ ap (λ (o : Outcome). o .answer) (allowed p) in
-          (p, ap (λ (o : Outcome). o .buffer) (allowed p), cc)
+          let a : Written n ≡ Written (length (reportText log)) = sym w ∙ ap (λ (o : ReportOutcome). o .answer) (allowed p) in
+          (p, ap (λ (o : ReportOutcome). o .buffer) (allowed p), cc)
       go false p =
-          let a : Written n ≡ Refused LogLength = sym w ∙ ap (λ (o : Outcome). o .answer) (barred p) in
+          let a : Written n ≡ Refused LogLength = sym w ∙ ap (λ (o : ReportOutcome). o .answer) (barred p) in
           let z : _≡_ {A = ℕ} 0 1 = cc in
           absurd (omega arith)
 
@@ -40,14 +40,14 @@ module _ (log b e : Bytes) (r : Reported) (h : 128 ≤ length b) (q : outcome r 
     where
       go : (t : Bool) → logAllowed (length log) ≡ t → (logAllowed (length log) ≡ false) × (e ≡ b)
       go true p =
-          let a : Refused w ≡ Written (length (reportText log)) = sym v ∙ ap (λ (o : Outcome). o .answer) (allowed p) in
+          let a : Refused w ≡ Written (length (reportText log)) = sym v ∙ ap (λ (o : ReportOutcome). o .answer) (allowed p) in
           let z : _≡_ {A = ℕ} 0 1 = cc in
           absurd (omega arith)
-      go false p = (p, ap (λ (o : Outcome). o .buffer) (barred p))
+      go false p = (p, ap (λ (o : ReportOutcome). o .buffer) (barred p))
 
 -- what stands at the front of a buffer fits in it
 pub front-fits : (e x rest : Bytes) (r : ℕ) → e ≡ x ++ rest → r ≡ length x → r ≤ length e
 front-fits e x rest r p q = omega (arith, ap length p, length-append x rest)
 
-pub written-fits : (log b e : Bytes) (r : Reported) (n : ℕ) → outcome r e ≡ reportOf log b → r ≡ Written n → 128 ≤ length b → n ≤ length e
+pub written-fits : (log b e : Bytes) (r : Reported) (n : ℕ) → reportOutcome r e ≡ reportOf log b → r ≡ Written n → 128 ≤ length b → n ≤ length e
 written-fits log b e r n q w h = let g = if-written log b e r h q n w in front-fits e (reportText log) (drop (0 + length (reportText log)) b) n (g .1) (g .2)

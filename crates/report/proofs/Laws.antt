@@ -24,7 +24,7 @@ use Rattle.log.proofs.Records.{records-none, records-some, records-used}
 use Rattle.lookup.proofs.Laws.{sized, none-sound, allowed-sectors}
 use Rattle.report.specs.declared.Survey.{Survey}
 use Rattle.report.specs.declared.Reported.the-variants.{Written, Refused}
-use Rattle.report.specs.Report.{decimal, sectorsName, usedName, recordsName, doubtfulName, verdictName, verdict, surveyOf, textOf, reportText, outcome, reportOf}
+use Rattle.report.specs.Report.{decimal, sectorsName, usedName, recordsName, doubtfulName, verdictName, verdict, surveyOf, textOf, reportText, reportOutcome, reportOf}
 use Rattle.report.proofs.Decimal.{decimal-one, decimal-more, decimal-short}
 
 -- ---- writing
@@ -204,12 +204,12 @@ few-outside rows (suc k) = go (inBlock rows k) refl (few-outside rows k)
 -- ---- the call
 
 module _ (log b : Bytes) where
-  pub report-buffer : length b < 128 → outcome (Refused Buffer) b ≡ reportOf log b
+  pub report-buffer : length b < 128 → reportOutcome (Refused Buffer) b ≡ reportOf log b
   unfolding reportOf
   report-buffer h = rw (lt-ltb (length b) 128 h)
 
   module _ (h : 128 ≤ length b) (a : Bool) (p : a ≡ logAllowed (length log)) where
-    pub report-log : a ≡ false → outcome (Refused LogLength) b ≡ reportOf log b
+    pub report-log : a ≡ false → reportOutcome (Refused LogLength) b ≡ reportOf log b
     unfolding reportOf
     report-log q = rw (le-ltb (length b) 128 h, sym p ∙ q)
 
@@ -225,8 +225,8 @@ module _ (log b : Bytes) where
         (h, omega arith, omega arith, omega (arith, few-blocks log (sectors (length log)) 0), omega (arith, few-outside (blocks log) (used log)))
 
     pub report-written : (c : Bytes) (end : ℕ) (s : Survey) (r : ℕ) → a ≡ true → end ≡ used log → s ≡ surveyOf log
-        → (c ≡ put b 0 (textOf (length log / 512) end s)) × (r ≡ length (textOf (length log / 512) end s)) → outcome (Written r) c ≡ reportOf log b
+        → (c ≡ put b 0 (textOf (length log / 512) end s)) × (r ≡ length (textOf (length log / 512) end s)) → reportOutcome (Written r) c ≡ reportOf log b
     unfolding reportOf reportText
     report-written c end s r q e f w =
         let t : textOf (length log / 512) end s ≡ reportText log = ap₂ (textOf (length log / 512)) e f in
-        rw (le-ltb (length b) 128 h, sym p ∙ q) (λ i. outcome (Written ((w .1 ∙ ap length t) i)) ((w .0 ∙ ap (put b 0) t) i))
+        rw (le-ltb (length b) 128 h, sym p ∙ q) (λ i. reportOutcome (Written ((w .1 ∙ ap length t) i)) ((w .0 ∙ ap (put b 0) t) i))

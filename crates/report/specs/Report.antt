@@ -68,15 +68,15 @@ unfoldable pub reportText : Bytes → Bytes
 reportText log = textOf (sectors (length log)) (used log) (surveyOf log)
 
 -- what the call answers, and what the lent buffer then holds
-pub record Outcome : Type 0 where
+pub record ReportOutcome : Type 0 where
   pub answer : Reported
   pub buffer : Bytes
 
-abbrev pub outcome : Reported → Bytes → Outcome
-outcome r b = record { answer = r; buffer = b }
+abbrev pub reportOutcome : Reported → Bytes → ReportOutcome
+reportOutcome r b = record { answer = r; buffer = b }
 
 -- "It goes to the front of a lent buffer; tests 2, 3"; on refusal, and past the text, the buffer stays
-unfoldable pub reportOf : Bytes → Bytes → Outcome
+unfoldable pub reportOf : Bytes → Bytes → ReportOutcome
 reportOf log b =
-    cond (ltb (length b) 128) (outcome (Refused Buffer) b)
-    (cond (logAllowed (length log)) (outcome (Written (length (reportText log))) (put b 0 (reportText log))) (outcome (Refused LogLength) b))
+    cond (ltb (length b) 128) (reportOutcome (Refused Buffer) b)
+    (cond (logAllowed (length log)) (reportOutcome (Written (length (reportText log))) (put b 0 (reportText log))) (reportOutcome (Refused LogLength) b))

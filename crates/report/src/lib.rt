@@ -9,7 +9,7 @@ ghost use Rattle.buffer.specs.Bytes.{put};
 ghost use Rattle.sector.specs.Sector.{line};
 ghost use Rattle.block.specs.Log.{used};
 ghost use Rattle.log.specs.LookUp.{mostSectors};
-ghost use Rattle.report.specs.Report.{decimal, verdictName, verdict, surveyOf, textOf, reportText, outcome, reportOf};
+ghost use Rattle.report.specs.Report.{decimal, verdictName, verdict, surveyOf, textOf, reportText, reportOutcome, reportOf};
 
 // The sound blocks of a log and its doubtful sectors, counted.
 pub struct Survey {
@@ -99,7 +99,7 @@ fn write_text(d: &mut [u8], count: usize, end: usize, s: Survey) -> usize
 
 // The report of any log, at the front of the lent buffer.
 pub fn report(log: &[u8], buffer: &mut [u8]) -> Reported
-    ensures { λ r. ⌜ outcome r (now (buffer .exit)) ≡ reportOf (now (log .entry)) (now (buffer .entry)) ⌝ }
+    ensures { λ r. ⌜ reportOutcome r (now (buffer .exit)) ≡ reportOf (now (log .entry)) (now (buffer .entry)) ⌝ }
 {
     if buffer.len() < 128 {
         return Reported::Refused(Refusal::Buffer);

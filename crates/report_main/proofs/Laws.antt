@@ -7,7 +7,7 @@ use Rattle.buffer.specs.Bytes.{Bytes, put}
 use Rattle.refusal.specs.declared.Refusal.{Refusal}
 use Rattle.report.specs.declared.Reported.{Reported}
 use Rattle.report.specs.declared.Reported.the-variants.{Written, Refused}
-use Rattle.report.specs.Report.{outcome, reportOf}
+use Rattle.report.specs.Report.{reportOutcome, reportOf}
 use Rattle.report.proofs.Answer.{if-written, if-refused}
 use Rattle.report_main.specs.Printed.{why, printed}
 
@@ -19,7 +19,7 @@ pub print-long : (log d e : Bytes) (r : ℕ) → 65024 < length log → (e ≡ p
 unfolding printed
 print-long log d e r h w = rw (lt-leb (length log) 65024 h) w
 
-module _ (log d e : Bytes) (told : Reported) (h : length log ≤ 65024) (k : 128 ≤ length d) (q : outcome told e ≡ reportOf log d) where
+module _ (log d e : Bytes) (told : Reported) (h : length log ≤ 65024) (k : 128 ≤ length d) (q : reportOutcome told e ≡ reportOf log d) where
   pub print-refused : (w : Refusal) (f : Bytes) (r : ℕ) → told ≡ Refused w → (f ≡ put e 0 why) × (r ≡ 7) → Front d f (printed log) r
   unfolding printed
   print-refused w f r t p =

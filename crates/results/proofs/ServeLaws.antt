@@ -9,7 +9,7 @@ use Rattle.archive.specs.Step.{Outcome, whole}
 use Rattle.archive.specs.declared.Session.{Session}
 use Rattle.archive.specs.declared.Session.the-variants.{Fresh, Greeted, Closed}
 use Rattle.archive.specs.declared.Answer.{Answer}
-use Rattle.results.specs.Serve.{sessionOf, sessionNumber, served, outcome}
+use Rattle.results.specs.Serve.{sessionOf, sessionNumber, served, servedOf}
 
 pub is-fresh : (n : ℕ) → n ≡ 0 → Fresh ≡ sessionOf n
 unfolding sessionOf
@@ -28,5 +28,5 @@ session-most Fresh k e = omega arith
 session-most Greeted k e = omega arith
 session-most Closed k e = omega arith
 
-pub served-so : (a : Answer) (log reply : Bytes) (o : Outcome) (k : ℕ) → whole a log reply ≡ o → k ≡ sessionNumber (a .session) → served (a .number + 256 * k) log reply ≡ outcome o
-served-so a log reply o k e f = ap (λ (x : ℕ). served (a .number + 256 * x) log reply) f ∙ ap outcome e
+pub served-so : (a : Answer) (log reply : Bytes) (o : Outcome) (k : ℕ) → whole a log reply ≡ o → k ≡ sessionNumber (a .session) → served (a .number + 256 * k) log reply ≡ servedOf o
+served-so a log reply o k e f = ap (λ (x : ℕ). served (a .number + 256 * x) log reply) f ∙ ap servedOf e

@@ -21,7 +21,7 @@ use Rattle.block.proofs.Used.{used-le-sectors}
 use Rattle.log.specs.LookUp.{logAllowed}
 use Rattle.reader.specs.Reader.{sizeOf}
 use Rattle.report.specs.declared.Reported.{Reported}
-use Rattle.report.specs.Report.{sectorsName, usedName, recordsName, doubtfulName, verdictName, decimal, verdict, surveyOf, textOf, reportText, Outcome, outcome, reportOf}
+use Rattle.report.specs.Report.{sectorsName, usedName, recordsName, doubtfulName, verdictName, decimal, verdict, surveyOf, textOf, reportText, ReportOutcome, reportOutcome, reportOf}
 use Rattle.report.proofs.Laws.{verdict-length, line-short, report-room}
 use Rattle.results.specs.Survey.{reportNumber, textLength, reported, reportResult, soundResult}
 
@@ -45,13 +45,13 @@ text-short log q =
 told-short : (log b : Bytes) → textLength (reportOf log b .answer) ≤ 128
 unfolding reportOf
 told-short log b =
-    cond-ind (λ (o : Outcome). textLength (o .answer) ≤ 128) (ltb (length b) 128) _ _ (λ _. omega arith)
-    (λ _. cond-ind (λ (o : Outcome). textLength (o .answer) ≤ 128) (logAllowed (length log)) _ _ (λ q. text-short log q) (λ _. omega arith))
+    cond-ind (λ (o : ReportOutcome). textLength (o .answer) ≤ 128) (ltb (length b) 128) _ _ (λ _. omega arith)
+    (λ _. cond-ind (λ (o : ReportOutcome). textLength (o .answer) ≤ 128) (logAllowed (length log)) _ _ (λ q. text-short log q) (λ _. omega arith))
 
-pub report-short : (log b e : Bytes) (r : Reported) → outcome r e ≡ reportOf log b → textLength r ≤ 128
-report-short log b e r q = rw (ap (λ (o : Outcome). o .answer) q) (told-short log b)
+pub report-short : (log b e : Bytes) (r : Reported) → reportOutcome r e ≡ reportOf log b → textLength r ≤ 128
+report-short log b e r q = rw (ap (λ (o : ReportOutcome). o .answer) q) (told-short log b)
 
-pub reported-so : (r : Reported) (b : Bytes) (o : Outcome) (k : ℕ) → outcome r b ≡ o → k ≡ reportNumber r → reported k b ≡ reportResult o
+pub reported-so : (r : Reported) (b : Bytes) (o : ReportOutcome) (k : ℕ) → reportOutcome r b ≡ o → k ≡ reportNumber r → reported k b ≡ reportResult o
 reported-so r b o k e f = ap (λ (x : ℕ). reported x b) f ∙ ap reportResult e
 
 -- ---- the sound block at a sector

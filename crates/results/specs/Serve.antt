@@ -26,5 +26,5 @@ abbrev pub served : ℕ → Bytes → Bytes → Served
 served r log reply = record { result = r; log = log; reply = reply }
 
 -- the same of the archive's step: the number, and 256 times the session
-abbrev pub outcome : Outcome → Served
-outcome o = record { result = o .number + 256 * sessionNumber (o .session); log = o .log; reply = o .reply }
+abbrev pub servedOf : Outcome → Served
+servedOf o = record { result = o .number + 256 * sessionNumber (o .session); log = o .log; reply = o .reply }

@@ -10,7 +10,7 @@ use Rattle.log.specs.LookUp.{logAllowed}
 use Rattle.reader.specs.Reader.{sizeOf}
 use Rattle.report.specs.declared.Reported.{Reported}
 use Rattle.report.specs.declared.Reported.the-variants.{Written, Refused}
-use Rattle.report.specs.Report.{Outcome}
+use Rattle.report.specs.Report.{ReportOutcome}
 
 -- 256 times the length of the text, at most 128, or the number of the refusal
 abbrev pub reportNumber : Reported → ℕ
@@ -30,7 +30,7 @@ pub record Report : Type 0 where
 abbrev pub reported : ℕ → Bytes → Report
 reported r b = record { result = r; buffer = b }
 
-abbrev pub reportResult : Outcome → Report
+abbrev pub reportResult : ReportOutcome → Report
 reportResult o = reported (reportNumber (o .answer)) (o .buffer)
 
 -- 256 times the size of the sound block that starts at sector n, 0 where none does; refusal 3 for a log that is not allowed

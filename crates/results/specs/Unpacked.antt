@@ -22,7 +22,7 @@ use Rattle.archive.specs.Step.{step}
 use Rattle.archive.specs.declared.Session.{Session}
 use Rattle.file.specs.File.{located}
 use Rattle.walk.specs.Walk.{endNumber, walkOf}
-use Rattle.results.specs.Serve.{sessionOf, sessionNumber, outcome}
+use Rattle.results.specs.Serve.{sessionOf, sessionNumber, servedOf}
 use Rattle.results.specs.Blocks.{typeResult, cutResult}
 use Rattle.results.specs.Survey.{reportNumber, textLength, soundResult}
 use Rattle.results.specs.Tree.{packed, unpacked, runOf, walkResult}
@@ -40,7 +40,7 @@ SessionGoesRound = (s : Session) → sessionOf (sessionNumber s) ≡ s
 
 abbrev pub RequestUnpacks : Type 0
 RequestUnpacks = (s : Session) (m log buffer : Bytes)
-    → let o = step s m log buffer in (numberIn (outcome o .result) ≡ o .number) × (sessionOf (answerIn (outcome o .result)) ≡ o .session)
+    → let o = step s m log buffer in (numberIn (servedOf o .result) ≡ o .number) × (sessionOf (answerIn (servedOf o .result)) ≡ o .session)
 
 -- a file's run: the number, whether it is the page's, its start and its length
 abbrev pub RunUnpacks : Type 0

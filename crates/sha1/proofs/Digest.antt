@@ -7,15 +7,15 @@ use lib.ListN.{length, getD}
 use Rattle.word.specs.Number.{digits, beBytes}
 use Rattle.sha1_block.specs.declared.Hash.{Hash}
 use Rattle.sha1_block.specs.Block.{wordsOf, snocWord, scheduleOf, roundOf, roundsOf, addHash, compressOf}
-use Rattle.sha1.specs.Sha1.{hashOf, padOf, padded, digestOf, sha1Of}
+use Rattle.sha1.specs.Sha1.{hashOf, padOf, paddedMessage, digestOf, sha1Of}
 use Rattle.sha1.specs.Vectors.{OfNoBytes, OfAbc}
 
 pub empty : OfNoBytes
-unfolding wordsOf snocWord scheduleOf roundOf roundsOf addHash compressOf hashOf digits padOf padded digestOf sha1Of
+unfolding wordsOf snocWord scheduleOf roundOf roundsOf addHash compressOf hashOf digits padOf paddedMessage digestOf sha1Of
 empty = refl
 
 pub abc : OfAbc
-unfolding wordsOf snocWord scheduleOf roundOf roundsOf addHash compressOf hashOf digits padOf padded digestOf sha1Of
+unfolding wordsOf snocWord scheduleOf roundOf roundsOf addHash compressOf hashOf digits padOf paddedMessage digestOf sha1Of
 abc = refl
 
 pub digest-length : (m : List ℕ) → length (sha1Of m) ≡ 20

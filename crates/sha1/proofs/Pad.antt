@@ -8,7 +8,7 @@ use native.Mathlib.Omega.{arith}
 use lib.ListN.{length, take, set, replicate, length-append, length-replicate}
 use Rattle.word.specs.Number.{digits, beBytes}
 use Rattle.sha1.specs.declared.Stream.{Stream}
-use Rattle.sha1.specs.Sha1.{digestOf, zerosOf, padOf, padded, sha1Of}
+use Rattle.sha1.specs.Sha1.{digestOf, zerosOf, padOf, paddedMessage, sha1Of}
 use Rattle.sha1.specs.Stream.{Holds}
 
 take-replicate : (z n a : ℕ) → z ≤ n → take z (replicate n a) ≡ replicate z a
@@ -40,8 +40,8 @@ be-count n =
     rw e (sym (be-wrap 8 (n % 2 ^ 61 * 8) (n / 2 ^ 61)))
 
 pub pad-is : (m p : List ℕ) (len : ℕ) → len ≡ length m % 2 ^ 61 → p ≡ 0x80 ∷ replicate (zerosOf len) 0
-    → m ++ p ++ beBytes 8 (len % 2 ^ 61 * 8) ≡ padded m
-unfolding padded padOf
+    → m ++ p ++ beBytes 8 (len % 2 ^ 61 * 8) ≡ paddedMessage m
+unfolding paddedMessage padOf
 pad-is m p len e q =
     let z : len % 64 ≡ length m % 64 = omega arith in
     let b : len % 2 ^ 61 ≡ length m % 2 ^ 61 = omega arith in
@@ -57,12 +57,12 @@ be-length zero x = refl
 be-length (suc n) x = rw (length-append, be-length n (x / 256), add-one)
 
 -- so a padded message is whole blocks, and the digest reads all of it
-pub padded-blocks : (m : List ℕ) → length (padded m) % 64 ≡ 0
-unfolding padded padOf
+pub padded-blocks : (m : List ℕ) → length (paddedMessage m) % 64 ≡ 0
+unfolding paddedMessage padOf
 padded-blocks m = simp (length-append, length-replicate, be-length) (omega (arith, zeros-fill (length m)))
 
-pub ended : (u : Stream) (m : List ℕ) → Holds u (padded m) → digestOf (u .h) ≡ sha1Of m
+pub ended : (u : Stream) (m : List ℕ) → Holds u (paddedMessage m) → digestOf (u .h) ≡ sha1Of m
 unfolding sha1Of
 ended u m f =
-    let e : f .fed .k ≡ length (padded m) / 64 = omega (arith, f .fed .size) in
+    let e : f .fed .k ≡ length (paddedMessage m) / 64 = omega (arith, f .fed .size) in
     rw (f .fed .hashed, e)

@@ -17,8 +17,8 @@ unfoldable pub padOf : ℕ → List ℕ
 padOf n = (0x80 ∷ replicate (zerosOf n) 0) ++ beBytes 8 (n * 8)
 
 -- 5.1.1: the padded message
-unfoldable pub padded : List ℕ → List ℕ
-padded m = m ++ padOf (length m)
+unfoldable pub paddedMessage : List ℕ → List ℕ
+paddedMessage m = m ++ padOf (length m)
 
 -- 6.1.2: H(n), after the first n blocks of the padded message
 unfoldable pub hashOf : ℕ → List ℕ → Hash
@@ -31,4 +31,4 @@ digestOf h = beBytes 4 (h .a) ++ beBytes 4 (h .b) ++ beBytes 4 (h .c) ++ beBytes
 
 -- 6.1.2: the digest of a message
 unfoldable pub sha1Of : List ℕ → List ℕ
-sha1Of m = digestOf (hashOf (length (padded m) / 64) (padded m))
+sha1Of m = digestOf (hashOf (length (paddedMessage m) / 64) (paddedMessage m))

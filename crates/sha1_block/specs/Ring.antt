@@ -27,5 +27,5 @@ RingGoesOn = (m w : List ℕ) (t : ℕ) → 16 ≤ t → t < 80 → Ring m (t - 
 
 -- t rounds are done, from 16 on: the ring w is as round t - 1 left it, and s is the standard's working variables for the
 -- block m and the hash value h before it
-unfoldable pub After : List ℕ → Hash → ℕ → List ℕ → Hash → Type 0
-After m h t w s = Ring m (t - 1) w × (s ≡ roundsOf t (scheduleOf 64 m) h)
+unfoldable pub RoundsDone : List ℕ → Hash → ℕ → List ℕ → Hash → Type 0
+RoundsDone m h t w s = Ring m (t - 1) w × (s ≡ roundsOf t (scheduleOf 64 m) h)

@@ -4,7 +4,7 @@ ghost use mathlib.Core.List.{List};
 ghost use Prim.Native.Nat.{ℕ, _+_, _-_, _*_, _%_, _<_, _≤_};
 ghost use lib.ListN.{length, getD};
 ghost use Rattle.sha1_block.specs.Block.{chOf, parityOf, majOf, fOf, kOf, initial, roundOf, roundsOf, wordAt, wordsOf, scheduleOf, addHash, compressOf};
-ghost use Rattle.sha1_block.specs.Ring.{Ring, After};
+ghost use Rattle.sha1_block.specs.Ring.{Ring, RoundsDone};
 
 // The five words of a hash value, and of the working variables.
 pub struct Hash {
@@ -146,7 +146,7 @@ fn first_rounds(h: Hash, w: &[u32; 16]) -> Hash
 // Round t, of the quarter q, from round 16 on.
 fn turn(s: Hash, q: usize, w: &mut [u32; 16], t: usize) -> Hash
     requires { ⌜ (16 ≤ t) × (t < 80) × (20 * q ≤ t) × (t < 20 * q + 20) ⌝ }
-    ensures { λ r. ⌜ ((m : List ℕ) (h : Hash) → After m h t (now (w .entry)) s → After m h (t + 1) (now (w .exit)) r) ⌝ }
+    ensures { λ r. ⌜ ((m : List ℕ) (h : Hash) → RoundsDone m h t (now (w .entry)) s → RoundsDone m h (t + 1) (now (w .exit)) r) ⌝ }
 {
     let x = latest(w, t);
     round(s, q, x)
@@ -155,7 +155,7 @@ fn turn(s: Hash, q: usize, w: &mut [u32; 16], t: usize) -> Hash
 // The rounds from..to of the quarter q: two at a time, which the compiler unrolls.
 fn quarter(s: Hash, q: usize, w: &mut [u32; 16], from: usize, to: usize) -> Hash
     requires { ⌜ (16 ≤ from) × (to ≤ 80) × (from ≤ to) × ((to - from) % 2 ≡ 0) × (20 * q ≤ from) × (to ≤ 20 * q + 20) ⌝ }
-    ensures { λ r. ⌜ ((m : List ℕ) (h : Hash) → After m h from (now (w .entry)) s → After m h to (now (w .exit)) r) ⌝ }
+    ensures { λ r. ⌜ ((m : List ℕ) (h : Hash) → RoundsDone m h from (now (w .entry)) s → RoundsDone m h to (now (w .exit)) r) ⌝ }
 {
     let mut v = s;
     let mut t = from;
@@ -168,7 +168,7 @@ fn quarter(s: Hash, q: usize, w: &mut [u32; 16], from: usize, to: usize) -> Hash
 
 // The eighty rounds, over a ring that starts with the words of the block.
 fn rounds(h: Hash, w: &mut [u32; 16]) -> Hash
-    ensures { λ r. ⌜ ((m : List ℕ) → Ring m 15 (now (w .entry)) → After m h 80 (now (w .exit)) r) ⌝ }
+    ensures { λ r. ⌜ ((m : List ℕ) → Ring m 15 (now (w .entry)) → RoundsDone m h 80 (now (w .exit)) r) ⌝ }
 {
     let s = first_rounds(h, w);
     let s0 = quarter(s, 0, w, 16, 20);

@@ -22,35 +22,35 @@ use Rattle.lookup.specs.Place.{placeOf}
 use Rattle.lookup.specs.declared.Place.{Place}
 use Rattle.lookup.specs.declared.Place.the-variants.{At, Nowhere}
 use Rattle.log.specs.LookUp.{on, held}
-use Rattle.log.specs.Store.{After, after, receipt, newRow, roomFor, appended, compared, store}
+use Rattle.log.specs.Store.{AfterStore, afterStore, receipt, newRow, roomFor, appended, compared, store}
 use Rattle.log.specs.declared.Stored.{Stored}
 use Rattle.log.specs.declared.Stored.the-variants.{New, Duplicate, Refused}
 
 -- no room, and room
 pub no-room : (log : Bytes) (t : ℕ) (d : Bytes) → sectors (length log) < used log + partsOf (length d)
-    → after (receipt (sha1Of d) (Refused NoRoom)) log ≡ appended log t d
+    → afterStore (receipt (sha1Of d) (Refused NoRoom)) log ≡ appended log t d
 unfolding roomFor
 no-room log t d h = rw (lt-leb (used log + partsOf (length d)) (sectors (length log)) h)
 
 pub room : (log : Bytes) (t : ℕ) (d : Bytes) (u : ℕ) (s log′ : Bytes) → u ≡ used log → s ≡ sha1Of d → u + partsOf (length d) ≤ sectors (length log)
     → log′ ≡ written log (record { kind = t; score = s; bytes = d; first = u })
-    → after (receipt (sha1Of d) (New (record { 0 = u }))) log′ ≡ appended log t d
+    → afterStore (receipt (sha1Of d) (New (record { 0 = u }))) log′ ≡ appended log t d
 unfolding roomFor
 room log t d u s log′ e f h w =
     let q : log′ ≡ written log (newRow log t d) = w ∙ (λ i. written log (record { kind = t; score = f i; bytes = d; first = e i })) in
     let g : used log + partsOf (length d) ≤ sectors (length log) = omega arith in
-    rw (le-leb (used log + partsOf (length d)) (sectors (length log)) g) (λ i. after (receipt (sha1Of d) (New (record { 0 = e i }))) (q i))
+    rw (le-leb (used log + partsOf (length d)) (sectors (length log)) g) (λ i. afterStore (receipt (sha1Of d) (New (record { 0 = e i }))) (q i))
 
 -- a found block compared
-pub other-length : (log : Bytes) (n k : ℕ) (d : Bytes) → (k ≡ length d → ⊥) → after (receipt (sha1Of d) (Refused Clash)) log ≡ compared log (bytesAt log n k) n d
+pub other-length : (log : Bytes) (n k : ℕ) (d : Bytes) → (k ≡ length d → ⊥) → afterStore (receipt (sha1Of d) (Refused Clash)) log ≡ compared log (bytesAt log n k) n d
 other-length log n k d h = rw (same-false (bytesAt log n k) d (λ e. h (sym (length-bytes log n k) ∙ ap length e)))
 
 pub same-block : (log : Bytes) (n k : ℕ) (d : Bytes) (b : Bool) → k ≡ length d → b ≡ same (bytesAt log n (length d)) d → b ≡ true
-    → after (receipt (sha1Of d) (Duplicate (record { 0 = n }))) log ≡ compared log (bytesAt log n k) n d
+    → afterStore (receipt (sha1Of d) (Duplicate (record { 0 = n }))) log ≡ compared log (bytesAt log n k) n d
 same-block log n k d b e p q = rw (ap (λ (x : ℕ). same (bytesAt log n x) d) e ∙ sym p ∙ q)
 
 pub other-block : (log : Bytes) (n k : ℕ) (d : Bytes) (b : Bool) → k ≡ length d → b ≡ same (bytesAt log n (length d)) d → b ≡ false
-    → after (receipt (sha1Of d) (Refused Clash)) log ≡ compared log (bytesAt log n k) n d
+    → afterStore (receipt (sha1Of d) (Refused Clash)) log ≡ compared log (bytesAt log n k) n d
 other-block log n k d b e p q = rw (ap (λ (x : ℕ). same (bytesAt log n x) d) e ∙ sym p ∙ q)
 
 -- the place that look-up gives, as a row
@@ -70,7 +70,7 @@ found-within log t s p f n e z =
     omega (arith, a, b, w)
 
 pub store-found : (log : Bytes) (t : ℕ) (d s : Bytes) (p : Place) (f : SectorNumber) (n : ℕ) (r : Stored) → s ≡ sha1Of d → p ≡ placeOf (held log t s) → p ≡ At f n
-    → after (receipt (sha1Of d) r) log ≡ compared log (bytesAt log (f .0) n) (f .0) d → after (receipt s r) log ≡ store log t d
+    → afterStore (receipt (sha1Of d) r) log ≡ compared log (bytesAt log (f .0) n) (f .0) d → afterStore (receipt s r) log ≡ store log t d
 unfolding store
 store-found log t d s p f n r g e z c =
     let q = found-row (held log t s) p f n e z in
@@ -83,6 +83,6 @@ none-row none p e z = refl
 none-row (some r) p e z = let y : _≡_ {A = ℕ} 0 1 = cc in absurd (omega arith)
 
 pub store-new : (log log′ : Bytes) (t : ℕ) (d s : Bytes) (p : Place) (r : Stored) → s ≡ sha1Of d → p ≡ placeOf (held log t s) → p ≡ Nowhere
-    → after (receipt (sha1Of d) r) log′ ≡ appended log t d → after (receipt s r) log′ ≡ store log t d
+    → afterStore (receipt (sha1Of d) r) log′ ≡ appended log t d → afterStore (receipt s r) log′ ≡ store log t d
 unfolding store
 store-new log log′ t d s p r g e z c = rw (g, ap (held log t) (sym g) ∙ none-row (held log t s) p e z) c

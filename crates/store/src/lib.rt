@@ -12,13 +12,13 @@ ghost use Rattle.sha1.specs.Sha1.{sha1Of};
 ghost use Rattle.block.specs.Block.{partsOf};
 ghost use Rattle.block.specs.Log.{sectors};
 ghost use Rattle.reader.specs.Reader.{bytesAt};
-ghost use Rattle.log.specs.Store.{after, receipt, appended, compared};
+ghost use Rattle.log.specs.Store.{afterStore, receipt, appended, compared};
 ghost use Rattle.log.specs.Store.{store as storeOf};
 
 // Appends a block that look-up did not find, or refuses it for want of room.
 fn append_new(log: &mut [u8], kind: u8, score: &[u8; 20], data: &[u8]) -> Stored
     requires { ⌜ (length (now «data») ≤ 57344) × (now score ≡ sha1Of (now «data»)) ⌝ }
-    ensures { λ r. ⌜ after (receipt (sha1Of (now («data» .entry))) r) (now (log .exit)) ≡ appended (now (log .entry)) kind (now («data» .entry)) ⌝ }
+    ensures { λ r. ⌜ afterStore (receipt (sha1Of (now («data» .entry))) r) (now (log .exit)) ≡ appended (now (log .entry)) kind (now («data» .entry)) ⌝ }
 {
     let used = reader::used_part(log);
     let count = block::parts_of(data.len());
@@ -32,7 +32,7 @@ fn append_new(log: &mut [u8], kind: u8, score: &[u8; 20], data: &[u8]) -> Stored
 // A block that look-up found: a duplicate if it has these very bytes, else a clash.
 fn compare(log: &[u8], first: SectorNumber, size: usize, data: &[u8]) -> Stored
     requires { ⌜ first .0 + partsOf size ≤ sectors (length (now log)) ⌝ }
-    ensures { λ r. ⌜ after (receipt (sha1Of (now («data» .entry))) r) (now (log .entry)) ≡ compared (now (log .entry)) (bytesAt (now (log .entry)) (first .0) size) (first .0) (now («data» .entry)) ⌝ }
+    ensures { λ r. ⌜ afterStore (receipt (sha1Of (now («data» .entry))) r) (now (log .entry)) ≡ compared (now (log .entry)) (bytesAt (now (log .entry)) (first .0) size) (first .0) (now («data» .entry)) ⌝ }
 {
     if size != data.len() {
         return Stored::Refused(Refusal::Clash);
@@ -48,7 +48,7 @@ fn compare(log: &[u8], first: SectorNumber, size: usize, data: &[u8]) -> Stored
 // Stores a block of a type.
 pub fn store(log: &mut [u8], kind: u8, data: &[u8]) -> Receipt
     requires { ⌜ (sectors (length (now log)) ≤ 16 ^ 8) × (length (now «data») ≤ 57344) ⌝ }
-    ensures { λ r. ⌜ after r (now (log .exit)) ≡ storeOf (now (log .entry)) kind (now («data» .entry)) ⌝ }
+    ensures { λ r. ⌜ afterStore r (now (log .exit)) ≡ storeOf (now (log .entry)) kind (now («data» .entry)) ⌝ }
 {
     let score = sha1::sha1(data);
     let none = [0u8; 0];

@@ -9,7 +9,7 @@ use borrow.Author.Tests.{ltb-true, ltb-false, leb-true, leb-false, eqb-false, le
 use lib.ListN.{length, take, drop}
 use Rattle.buffer.specs.Bytes.{Bytes}
 use Rattle.buffer.proofs.Bytes.{and-true}
-use Rattle.utf8.specs.Grammar.{Range, range, tail, within, Row, some, utf8-char, follows}
+use Rattle.utf8.specs.Grammar.{Range, range, tail, inRange, Form, some, utf8-char, follows}
 use Rattle.utf8.specs.Encoding.{scalar, six, character, decodeFrom}
 use Rattle.utf8.proofs.Rows.{inside, before, behind, tells, rowAt, begins}
 
@@ -212,7 +212,7 @@ made-4 a b d f c e h k m n p q u v l t =
     (c, plain c (omega arith) t (λ g i. omega arith), line-4 c l ∙ rw (x, y, z, w))
 
 -- of every row
-abbrev Every : List Row → Type 0
+abbrev Every : List Form → Type 0
 Every [] = Unit
 Every (c ∷ cs) = AllSpans Made (c .first ∷ c .rest) × Every cs
 
@@ -260,21 +260,21 @@ unfolding follows
 parted [] bs e = ([], bs, tt, refl, omega arith, e)
 parted (r ∷ rs) [] e = absurd (false≢true e)
 parted (r ∷ rs) (b ∷ bs) e =
-    let p = and-true (within r b) (follows rs bs) e in
+    let p = and-true (inRange r b) (follows rs bs) e in
     let q = and-true (leb (r .low) b) (leb b (r .high)) (p .0) in
     let t = parted rs bs (p .1) in
     (b ∷ t .0, t .1, (leb-true (r .low) b (q .0), leb-true b (r .high) (q .1), t .2), ap (λ (y : Bytes). b ∷ y) (t .3), omega (arith, t .4), t .5)
 
 -- an octet of a row, and the rest of the row after it
-front-of : (c : Row) (b : ℕ) (bs : Bytes) → AllSpans Made (c .first ∷ c .rest) → tells b bs c ≡ true → Front (b ∷ bs)
+front-of : (c : Form) (b : ℕ) (bs : Bytes) → AllSpans Made (c .first ∷ c .rest) → tells b bs c ≡ true → Front (b ∷ bs)
 front-of c b bs f e =
-    let p = and-true (within (c .first) b) (follows (c .rest) bs) e in
+    let p = and-true (inRange (c .first) b) (follows (c .rest) bs) e in
     let q = and-true (leb (c .first .low) b) (leb b (c .first .high)) (p .0) in
     let t = parted (c .rest) bs (p .1) in
     let m = spans-all (λ x. Made (b ∷ x)) (c .rest) (f b (leb-true (c .first .low) b (q .0)) (leb-true b (c .first .high) (q .1))) (t .0) (t .2) in
     (m .0, t .1, m .1, ap (λ (y : Bytes). b ∷ y) (t .3) ∙ ap (λ (y : Bytes). y ++ t .1) (sym (m .2)), omega (arith, t .4), t .5)
 
-front-some : (cs : List Row) → Every cs → (b : ℕ) (bs : Bytes) → some (tells b bs) cs ≡ true → Front (b ∷ bs)
+front-some : (cs : List Form) → Every cs → (b : ℕ) (bs : Bytes) → some (tells b bs) cs ≡ true → Front (b ∷ bs)
 front-some [] f b bs e = absurd (false≢true e)
 front-some (c ∷ cs) f b bs e = go (tells b bs c) refl e (front-some cs (f .1) b bs)
   where

@@ -8,12 +8,12 @@ use lib.Dec.{eqb}
 use lib.ListN.{length}
 use Rattle.buffer.specs.Bytes.{Bytes}
 use Rattle.buffer.proofs.Bytes.{and-true}
-use Rattle.utf8.specs.Grammar.{follows, wellFormed}
+use Rattle.utf8.specs.Grammar.{follows, wellFormedText}
 use Rattle.utf8.specs.Encoding.{scalar, scalars, character, encode, decodeFrom, decode}
 use Rattle.utf8.specs.Pinned.{Pinned}
 use Rattle.utf8.proofs.Characters.{accept-character, decode-character, front}
 
-accepted : (cs : List ℕ) → scalars cs ≡ true → wellFormed (encode cs) ≡ true
+accepted : (cs : List ℕ) → scalars cs ≡ true → wellFormedText (encode cs) ≡ true
 unfolding encode follows
 accepted [] e = refl
 accepted (c ∷ cs) e =
@@ -30,7 +30,7 @@ abbrev Encoded : Bytes → Type 0
 Encoded s = (scalars (decode s) ≡ true) × (encode (decode s) ≡ s)
 
 -- the first character, and the rest, which is shorter
-first : (s : Bytes) → ((r : Bytes) → length r < length s → wellFormed r ≡ true → Encoded r) → wellFormed s ≡ true → Encoded s
+first : (s : Bytes) → ((r : Bytes) → length r < length s → wellFormedText r ≡ true → Encoded r) → wellFormedText s ≡ true → Encoded s
 unfolding encode decodeFrom
 first [] f e = (refl, refl)
 first (b ∷ bs) f e =
@@ -42,7 +42,7 @@ first (b ∷ bs) f e =
     (rw (d, t .2) (i .0), ap encode d ∙ ap (λ (y : Bytes). character c ++ y) (i .1) ∙ sym (t .3))
 
 -- of fewer than n bytes
-encoded : (n : ℕ) (s : Bytes) → length s < n → wellFormed s ≡ true → Encoded s
+encoded : (n : ℕ) (s : Bytes) → length s < n → wellFormedText s ≡ true → Encoded s
 encoded zero s h e = absurd (omega arith)
 encoded (suc n) s h e = first s (λ r k. encoded n r (omega arith)) e
 

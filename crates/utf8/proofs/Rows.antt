@@ -9,42 +9,42 @@ use lib.ListN.{getD, take, drop}
 use borrow.Author.Tests.{ltb-true, le-leb, lt-leb}
 use Rattle.buffer.specs.Bytes.{Bytes}
 use Rattle.buffer.proofs.Bytes.{and-true}
-use Rattle.utf8.specs.Grammar.{Range, octet, within, Row, row, some, utf8-char, follows}
+use Rattle.utf8.specs.Grammar.{Range, octet, inRange, Form, form, some, utf8-char, follows}
 
-pub inside : (r : Range) (b : ℕ) → r .low ≤ b → b ≤ r .high → within r b ≡ true
+pub inside : (r : Range) (b : ℕ) → r .low ≤ b → b ≤ r .high → inRange r b ≡ true
 inside r b h k = rw (le-leb (r .low) b h, le-leb b (r .high) k)
 
-pub under : (r : Range) (b : ℕ) → b < r .low → within r b ≡ false
+pub under : (r : Range) (b : ℕ) → b < r .low → inRange r b ≡ false
 under r b h = rw (lt-leb (r .low) b h)
 
-pub over : (r : Range) (b : ℕ) → r .high < b → within r b ≡ false
+pub over : (r : Range) (b : ℕ) → r .high < b → inRange r b ≡ false
 over r b h = rw (lt-leb b (r .high) h, and-false (leb (r .low) b))
 
 -- every row begins with octets under n; every row with octets over n
-abbrev pub before : ℕ → List Row → Bool
+abbrev pub before : ℕ → List Form → Bool
 before n [] = true
 before n (c ∷ cs) = ltb (c .first .high) n && before n cs
 
-abbrev pub behind : ℕ → List Row → Bool
+abbrev pub behind : ℕ → List Form → Bool
 behind n [] = true
 behind n (c ∷ cs) = ltb n (c .first .low) && behind n cs
 
 -- what a row says of octets
-abbrev pub tells : ℕ → Bytes → Row → Bool
-tells b bs c = within (c .first) b && follows (c .rest) bs
+abbrev pub tells : ℕ → Bytes → Form → Bool
+tells b bs c = inRange (c .first) b && follows (c .rest) bs
 
 -- row k of the grammar, counted from 0
-abbrev pub rowAt : ℕ → Row
-rowAt k = getD utf8-char k (row (octet 0) [])
+abbrev pub rowAt : ℕ → Form
+rowAt k = getD utf8-char k (form (octet 0) [])
 
 module _ (b : ℕ) (bs : Bytes) where
-  passed : (n : ℕ) (xs ys : List Row) → before n xs ≡ true → n ≤ b → some (tells b bs) (xs ++ ys) ≡ some (tells b bs) ys
+  passed : (n : ℕ) (xs ys : List Form) → before n xs ≡ true → n ≤ b → some (tells b bs) (xs ++ ys) ≡ some (tells b bs) ys
   passed n [] ys e h = refl
   passed n (c ∷ xs) ys e h =
       let p = and-true (ltb (c .first .high) n) (before n xs) e in
       rw (over (c .first) b (omega (arith, ltb-true (c .first .high) n (p .0)))) (passed n xs ys (p .1) h)
 
-  none : (n : ℕ) (ys : List Row) → behind n ys ≡ true → b ≤ n → some (tells b bs) ys ≡ false
+  none : (n : ℕ) (ys : List Form) → behind n ys ≡ true → b ≤ n → some (tells b bs) ys ≡ false
   none n [] e h = refl
   none n (c ∷ ys) e h =
       let p = and-true (ltb n (c .first .low)) (behind n ys) e in

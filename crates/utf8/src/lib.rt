@@ -1,7 +1,7 @@
 // Whether bytes are well-formed UTF-8, in one pass.
 ghost use mathlib.Core.Path.{_≡_};
 ghost use mathlib.Core.List.{[]};
-ghost use Rattle.utf8.specs.Grammar.{wellFormed};
+ghost use Rattle.utf8.specs.Grammar.{wellFormedText};
 ghost use Rattle.utf8.specs.Scan.{lowAfter, highAfter, wait, due, Tells};
 
 // What is due of a character: `left` bytes, the next one from `low` to `high`, those after it from 80 to BF.
@@ -101,7 +101,7 @@ fn after_byte(d: Due, b: u8) -> After
 
 // Whether the bytes are characters, one after another, the last one whole and none of them NUL.
 pub fn is_well_formed(s: &[u8]) -> bool
-    ensures { λ r. ⌜ r ≡ wellFormed (now (s .entry)) ⌝ }
+    ensures { λ r. ⌜ r ≡ wellFormedText (now (s .entry)) ⌝ }
 {
     let mut d = Due {
         left: 0,

@@ -3,7 +3,7 @@ use mathlib.Core.Path.{sym, ap, _∙_}
 use borrow.Author.Tests.{not-true, not-false}
 use lib.ListN.{length}
 use Rattle.buffer.specs.Bytes.{Bytes}
-use Rattle.cut.specs.Cut.{cutLength, whole}
+use Rattle.cut.specs.Cut.{cutLength, wholeUnits}
 use Rattle.cut.proofs.Cases.{unit-pointer, unit-other, cut-unlawful, cut-ragged, cut-done}
 use borrow.Author.Needs.{needs}
 use Rattle.cut.proofs.cut.Statement.{statement}
@@ -31,7 +31,7 @@ is-pointer-requires c κs = search needs
 cut-scores-requires : tie.Need-cut-scores-requires
 cut-scores-requires c κs =
     let a = c .before .before .before .before .before .before .before .args in
-    ap (λ (u : Bytes). whole u (length (a .block .now))) (sym (unit-pointer (a .kind) (sym (c .before .is-pointer .ensures) ∙ c .if3 .taken)))
+    ap (λ (u : Bytes). wholeUnits u (length (a .block .now))) (sym (unit-pointer (a .kind) (sym (c .before .is-pointer .ensures) ∙ c .if3 .taken)))
     ∙ (sym (c .before .before .before .before .is-whole .ensures) ∙ not-false _ (c .before .before .if2 .left))
 
 returns-3 : tie.Need-returns-3

@@ -3,7 +3,7 @@ use mathlib.Core.Path.{sym, ap, _∙_}
 use borrow.Author.Tests.{not-true, not-false}
 use lib.ListN.{length}
 use Rattle.buffer.specs.Bytes.{Bytes}
-use Rattle.cut.specs.Cut.{whole}
+use Rattle.cut.specs.Cut.{wholeUnits}
 use Rattle.cut.proofs.Cases.{unit-pointer, filled-scores, filled-bytes}
 use borrow.Author.Needs.{needs}
 use Rattle.cut.proofs.fill.Statement.{statement}
@@ -26,7 +26,7 @@ returns c =
 fill-scores-requires : tie.Need-fill-scores-requires
 fill-scores-requires c κs =
     let a = c .before .before .before .before .args in
-    ap (λ (u : Bytes). whole u (length (a .d .now))) (sym (unit-pointer (a .kind) (sym (c .before .before .is-pointer .ensures) ∙ not-false _ (c .before .if1 .left)))) ∙ c .before .before .before .before .pre
+    ap (λ (u : Bytes). wholeUnits u (length (a .d .now))) (sym (unit-pointer (a .kind) (sym (c .before .before .is-pointer .ensures) ∙ not-false _ (c .before .if1 .left)))) ∙ c .before .before .before .before .pre
 
 same-length-2 : tie.Need-same-length-2
 same-length-2 c = search needs

@@ -4,7 +4,7 @@ use native.Mathlib.Omega.{arith}
 use borrow.Author.Tests.{not-true, not-false}
 use lib.ListN.{length}
 use Rattle.cut.specs.Cut.{unitOf}
-use Rattle.cut.specs.Pad.{after}
+use Rattle.cut.specs.Pad.{afterPad}
 use Rattle.cut.specs.declared.Padded.the-variants.{Done}
 use Rattle.cut.proofs.Cases.{allowed, part-whole, part-filled, pad-unlawful, pad-refused, pad-done}
 use borrow.Author.Needs.{needs}
@@ -58,7 +58,7 @@ returns-3 : tie.Need-returns-3
 returns-3 c =
     let a = c .before .before .before .before .before .before .before .before .before .args in
     let h = allowed (unitOf (a .kind)) (length (a .buffer .now)) (a .len) (a .target) (sym (c .before .before .before .before .before .before .may-pad .ensures) ∙ not-false _ (c .before .before .before .before .if2 .left)) in
-    ap (after Done) (part-filled (unitOf (a .kind)) (a .buffer .now) (a .len) (a .target) h _ (c .before .before .fill .ensures))
+    ap (afterPad Done) (part-filled (unitOf (a .kind)) (a .buffer .now) (a .len) (a .target) h _ (c .before .before .fill .ensures))
     ∙ pad-done (a .kind) (a .buffer .now) (a .len) (a .target) (sym (c .before .before .before .before .before .before .before .is-lawful .ensures) ∙ not-false _ (c .before .before .before .before .before .if1 .left)) (sym (c .before .before .before .before .before .before .may-pad .ensures) ∙ not-false _ (c .before .before .before .before .if2 .left))
 
 pub pad-spec : {M : Type 1} → statement M

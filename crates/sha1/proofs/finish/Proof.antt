@@ -5,7 +5,7 @@ use Prim.Native.Nat.{_-_, _+_}
 use native.Mathlib.Omega.{arith}
 use borrow.Author.Needs.{needs}
 use lib.ListN.{length-take}
-use Rattle.sha1.specs.Sha1.{zerosOf, padded}
+use Rattle.sha1.specs.Sha1.{zerosOf, paddedMessage}
 use Rattle.sha1.proofs.Pad.{marked, mark, pad-is, ended}
 use Rattle.sha1.proofs.finish.Statement.{statement}
 use Rattle.sha1.proofs.finish.Tie as tie
@@ -48,7 +48,7 @@ returns c = λ m f.
     let len = c .before .before .before .before .before .before .args .s .len in
     let bits = c .before .before .before .be64 in
     let held = c .before .absorb2 .ensures _ (c .before .before .before .before .absorb .ensures m f) in
-    let p : m ++ marked (zerosOf len) ++ bits .result ≡ padded m = rw (bits .ensures) (pad-is m (marked (zerosOf len)) len (f .count) (mark (zerosOf len) (omega arith))) in
+    let p : m ++ marked (zerosOf len) ++ bits .result ≡ paddedMessage m = rw (bits .ensures) (pad-is m (marked (zerosOf len)) len (f .count) (mark (zerosOf len) (omega arith))) in
     c .digest-bytes .ensures ∙ ended (c .before .absorb2 .result) m (rw p at held)
 
 pub finish-spec : {M : Type 1} → statement M

@@ -3,7 +3,7 @@ use mathlib.Core.Path.{ap, _∙_}
 use borrow.Author.Needs.{needs}
 use Rattle.sha1_block.specs.declared.Hash.{Hash}
 use Rattle.sha1_block.specs.Block.{addHash, compressOf}
-use Rattle.sha1_block.specs.Ring.{After}
+use Rattle.sha1_block.specs.Ring.{RoundsDone}
 use Rattle.sha1_block.proofs.Schedule.{ring-first}
 use Rattle.sha1_block.proofs.compress.Statement.{statement}
 use Rattle.sha1_block.proofs.compress.Tie as tie
@@ -18,7 +18,7 @@ added-requires : tie.Need-added-requires
 added-requires c κs = search needs
 
 returns : tie.Need-returns
-unfolding compressOf After
+unfolding compressOf RoundsDone
 returns c =
     let a = c .before .before .before .before .before .args in
     let b = a .b .now in

@@ -5,14 +5,14 @@ use Prim.Native.Nat.{ℕ, _≤_, _-_, _+_, _%_}
 use native.Mathlib.Omega.{arith}
 use borrow.Author.Needs.{needs}
 use Rattle.sha1_block.specs.declared.Hash.{Hash}
-use Rattle.sha1_block.specs.Ring.{After}
+use Rattle.sha1_block.specs.Ring.{RoundsDone}
 use Rattle.sha1_block.proofs.Turns.{after-move}
 use Rattle.sha1_block.proofs.quarter.Statement.{statement}
 use Rattle.sha1_block.proofs.quarter.Tie as tie
 
 abbrev Inv-loop : tie.InvT-loop
 Inv-loop q w₀ from to v₀ t₀ w v t =
-    (from ≤ t) × (t ≤ to) × ((to - t) % 2 ≡ 0) × ((m : List ℕ) (h : Hash) → After m h from w₀ v₀ → After m h t w v)
+    (from ≤ t) × (t ≤ to) × ((to - t) % 2 ≡ 0) × ((m : List ℕ) (h : Hash) → RoundsDone m h from w₀ v₀ → RoundsDone m h t w v)
 
 abbrev μ-loop : tie.MeasureT-loop
 μ-loop q w₀ from to v₀ t₀ w v t = to - t

@@ -1,6 +1,6 @@
 -- `sha1_block::rounds` meets its contract. Assumes nothing.
 use borrow.Author.Needs.{needs}
-use Rattle.sha1_block.specs.Ring.{After}
+use Rattle.sha1_block.specs.Ring.{RoundsDone}
 use Rattle.sha1_block.proofs.rounds.Statement.{statement}
 use Rattle.sha1_block.proofs.rounds.Tie as tie
 
@@ -20,7 +20,7 @@ quarter-requires-4 : tie.Need-quarter-requires-4
 quarter-requires-4 c κs = search needs
 
 returns : tie.Need-returns
-unfolding After
+unfolding RoundsDone
 returns c =
     let h = c .before .before .before .before .before .before .before .before .before .before .args .h in
     λ m r. let s = c .before .before .before .before .before .before .before .before .first-rounds .ensures m r in

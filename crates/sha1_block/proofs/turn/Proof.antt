@@ -3,7 +3,7 @@ use Prim.Native.Nat.{_+_, _-_}
 use native.Mathlib.Omega.{arith}
 use borrow.Author.Needs.{needs}
 use Rattle.sha1_block.specs.Block.{scheduleOf}
-use Rattle.sha1_block.specs.Ring.{After}
+use Rattle.sha1_block.specs.Ring.{RoundsDone}
 use Rattle.sha1_block.proofs.Schedule.{ring-move}
 use Rattle.sha1_block.proofs.Turns.{round-more}
 use Rattle.sha1_block.proofs.turn.Statement.{statement}
@@ -16,7 +16,7 @@ round-requires : tie.Need-round-requires
 round-requires c κs = search needs
 
 returns : tie.Need-returns
-unfolding After
+unfolding RoundsDone
 returns c =
     let a = c .before .before .before .args in
     let x = c .before .latest .result in

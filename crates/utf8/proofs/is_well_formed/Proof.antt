@@ -2,7 +2,7 @@
 use mathlib.Core.Path.{_≡_, refl, _∙_}
 use Prim.Native.Nat.{_≤_, _-_}
 use lib.ListN.{length, drop}
-use Rattle.utf8.specs.Grammar.{follows, wellFormed}
+use Rattle.utf8.specs.Grammar.{follows, wellFormedText}
 use Rattle.utf8.specs.Scan.{due}
 use Rattle.utf8.proofs.Cases.{ends, goes-on, goes-ill}
 use native.Mathlib.Omega.{arith}
@@ -11,7 +11,7 @@ use Rattle.utf8.proofs.is_well_formed.Statement.{statement}
 use Rattle.utf8.proofs.is_well_formed.Tie as tie
 
 abbrev Inv-loop : tie.InvT-loop
-Inv-loop s d₀ i₀ d i = (i ≤ length s) × (follows (due d) (drop i s) ≡ wellFormed s)
+Inv-loop s d₀ i₀ d i = (i ≤ length s) × (follows (due d) (drop i s) ≡ wellFormedText s)
 
 abbrev μ-loop : tie.MeasureT-loop
 μ-loop s d₀ i₀ d i = length s - i
