@@ -4,6 +4,7 @@ use mathlib.Core.Option.{Option, none, some}
 use Prim.Native.Nat.{ℕ, _+_, _≤_}
 use native.Mathlib.Omega.{arith}
 use lib.ListN.{length}
+use Rattle.ground.specs.Choice.{on}
 use Rattle.buffer.specs.Bytes.{Bytes}
 use Rattle.kind.specs.Kind.{longest}
 use Rattle.refusal.specs.declared.Refusal.{Refusal}
@@ -12,7 +13,7 @@ use Rattle.block.specs.Block.{Row, partsOf, parts}
 use Rattle.block.specs.Log.{sectors}
 use Rattle.reader.specs.Reader.{bytesAt}
 use Rattle.log.specs.declared.Look.the-variants.{Found, Refused}
-use Rattle.log.specs.LookUp.{on, held, absence, lookUp}
+use Rattle.log.specs.LookUp.{held, absence, lookUp}
 use Rattle.lookup.proofs.Held.{Stands, held-stands}
 
 -- what was found, as a row

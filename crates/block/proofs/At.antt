@@ -9,11 +9,11 @@ use lib.Dec.{ltb}
 use borrow.Author.Tests.{ltb-true, ltb-false, lt-ltb, le-ltb}
 use lib.ListN.{length, take, drop, replicate, length-append, length-take, length-drop, length-replicate}
 use lib.Seq.{take-append-le, drop-append-le, drop-append-add}
+use Rattle.ground.proofs.Cases.{cond-ind}
 use Rattle.buffer.specs.Bytes.{Bytes, zeros}
 use Rattle.buffer.proofs.Bytes.{zeros-replicate}
 use Rattle.sector.specs.Sector.{blank}
 use Rattle.block.specs.Log.{sectors, at}
-use Rattle.block.proofs.Cases.{cond-ind}
 
 -- sector n of a run of bytes
 abbrev pub piece : Bytes → ℕ → Bytes

@@ -1,14 +1,10 @@
--- Tests taken apart: a choice by its test, and a test of each number of a range.
+-- Tests taken apart: a choice of something or none, and a test of each number of a range.
 use mathlib.Core.Path.{_≡_, refl, ap, _∙_}
 use mathlib.Core.Bool.{Bool, true, false, cond, _&&_}
 use mathlib.Core.Option.{none, some}
 use Prim.Native.Nat.{ℕ, zero, suc, _+_, _<_}
 use native.Mathlib.Omega.{arith}
-use Rattle.buffer.proofs.Bytes.{and-true}
-
-pub cond-ind {ℓ κ} : {A : Type ℓ} (P : A → Type κ) (b : Bool) (x y : A) → (b ≡ true → P x) → (b ≡ false → P y) → P (cond b x y)
-cond-ind P true x y f g = f refl
-cond-ind P false x y f g = g refl
+use Rattle.ground.proofs.Cases.{and-true}
 
 -- a choice of something or none that gives something
 pub cond-some : {A : Type 0} (b : Bool) (x y : A) → cond b (some x) none ≡ some y → (b ≡ true) × (x ≡ y)

@@ -6,8 +6,9 @@ use Prim.Native.Nat.{ℕ, _+_, _^_, _≤_, _<_}
 use native.Mathlib.Omega.{arith}
 use borrow.Author.Tests.{leb-true, le-leb}
 use lib.ListN.{length, take, drop}
+use Rattle.ground.proofs.Cases.{and-true}
 use Rattle.buffer.specs.Bytes.{Bytes, same, zeros}
-use Rattle.buffer.proofs.Bytes.{and-true, same-true, same-refl}
+use Rattle.buffer.proofs.Bytes.{same-true, same-refl}
 use Rattle.word.specs.Number.{small}
 use Rattle.sha1.specs.Sha1.{sha1Of}
 use Rattle.kind.specs.Kind.{lawful, longest}

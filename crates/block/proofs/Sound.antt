@@ -8,8 +8,9 @@ use native.Mathlib.Omega.{arith}
 use lib.Dec.{eqb}
 use borrow.Author.Tests.{eqb-true}
 use lib.ListN.{length, take, drop}
+use Rattle.ground.proofs.Cases.{and-true}
 use Rattle.buffer.specs.Bytes.{Bytes, same}
-use Rattle.buffer.proofs.Bytes.{and-true, same-true, same-refl}
+use Rattle.buffer.proofs.Bytes.{same-true, same-refl}
 use Rattle.word.specs.Hex.{hex, hexBytes}
 use Rattle.sector.specs.Sector.{kindField, sizeField, scoreField, scoreDigits}
 use Rattle.block.specs.Block.{Row, parts, image}

@@ -7,11 +7,11 @@ use native.Mathlib.Omega.{arith}
 use lib.Dec.{ltb, leb}
 use borrow.Author.Tests.{ltb-true, ltb-false, leb-true, leb-false}
 use lib.ListN.{length, replicate}
+use Rattle.ground.proofs.Cases.{cond-ind}
 use Rattle.buffer.specs.Bytes.{Bytes, zeros}
 use Rattle.buffer.proofs.Bytes.{zeros-replicated}
 use Rattle.sector.specs.Sector.{blank}
 use Rattle.block.specs.Log.{sectors, at, usedOf, used}
-use Rattle.block.proofs.Cases.{cond-ind}
 use Rattle.block.proofs.At.{at-past, blank-is, length-at}
 
 below-used : (log : Bytes) (k n : ℕ) → n < k → zeros (at log n) ≡ false → n < usedOf log k

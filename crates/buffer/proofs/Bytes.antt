@@ -8,12 +8,9 @@ use native.Mathlib.Omega.{arith}
 use lib.Dec.{ltb, eqb}
 use borrow.Author.Tests.{ltb-true, eqb-true, eqb-false, lt-ltb, eq-eqb, ne-eqb}
 use lib.ListN.{length, getD, take, drop, replicate}
+use Rattle.ground.proofs.Cases.{and-true}
 use Rattle.word.specs.Number.{small}
 use Rattle.buffer.specs.Bytes.{Bytes, same, zeros}
-
-pub and-true : (a b : Bool) → (a && b) ≡ true → (a ≡ true) × (b ≡ true)
-and-true true b e = (refl, e)
-and-true false b e = absurd (false≢true e)
 
 pub same-refl : (x : Bytes) → same x x ≡ true
 same-refl [] = refl

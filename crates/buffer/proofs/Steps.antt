@@ -11,8 +11,9 @@ use lib.Bits.{bitOr, bitAnd, or-add-and, and-le-l, and-le-r, or-zero-r}
 use borrow.Author.Tests.{eqb-true, eqb-false, eq-eqb, ne-eqb}
 use lib.ListN.{length, getD, take, drop, set, drop-of-length-le}
 use lib.Seq.{drop-cons, drop-length, paste, paste-suc, take-all}
+use Rattle.ground.proofs.Cases.{and-true}
 use Rattle.buffer.specs.Bytes.{Bytes, same, zeros, put}
-use Rattle.buffer.proofs.Bytes.{and-true, same-true, same-false, zeros-getD}
+use Rattle.buffer.proofs.Bytes.{same-true, same-false, zeros-getD}
 
 -- same: one byte more
 pub same-step : (a b : Bytes) (i : ℕ) → i < length a → i < length b → getD a i 0 ≡ getD b i 0 → same (drop i a) (drop i b) ≡ same (drop (i + 1) a) (drop (i + 1) b)

@@ -9,8 +9,8 @@ use lib.Dec.{eqb, leb}
 use borrow.Author.Tests.{le-leb, lt-leb, leb-true, eq-eqb}
 use borrow.Rule.Slice.PartMut.{putMid, post-is}
 use lib.ListN.{length, take, drop, replicate, length-take, length-drop}
+use Rattle.ground.proofs.Cases.{and-true}
 use Rattle.buffer.specs.Bytes.{Bytes}
-use Rattle.buffer.proofs.Bytes.{and-true}
 use Rattle.kind.specs.Kind.{lawful, isPointer, zeroScore}
 use Rattle.kind.proofs.ZeroScore.{length-zero-score}
 use Rattle.refusal.specs.declared.Refusal.the-variants.{BlockType, Pad}

@@ -9,6 +9,7 @@ use native.Mathlib.Omega.{arith}
 use lib.Dec.{ltb, eqb}
 use lib.ListN.{length}
 use borrow.Author.Tests.{lt-leb, le-ltb, leb-false, ltb-false, eq-eqb}
+use Rattle.ground.proofs.Cases.{cond-ind}
 use Rattle.buffer.specs.Bytes.{Bytes, same}
 use Rattle.buffer.proofs.Bytes.{same-false, same-true, same-refl}
 use Rattle.word.specs.Number.{small}
@@ -32,7 +33,6 @@ use Rattle.archive.specs.declared.Session.the-variants.{Greeted}
 use Rattle.ledger.specs.Ledger.{next, has, hit, intact, end}
 use Rattle.ledger.specs.Trace.{trace}
 use Rattle.ledger.specs.History.{Item, AllOfBytes, Standing, answer, Books, recount}
-use Rattle.ledger.proofs.Tests.{cond-ind}
 use Rattle.ledger.proofs.Covers.{hit-has}
 use Rattle.ledger.proofs.Intact.{intact-out}
 use Rattle.ledger.proofs.Trace.{Agree}

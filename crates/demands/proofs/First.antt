@@ -8,8 +8,9 @@ use Prim.Native.Nat.{ℕ}
 use native.Mathlib.Omega.{arith}
 use lib.Dec.{eqb}
 use borrow.Author.Tests.{eqb-true}
+use Rattle.ground.proofs.Cases.{and-true}
 use Rattle.buffer.specs.Bytes.{Bytes, same}
-use Rattle.buffer.proofs.Bytes.{and-true, same-true}
+use Rattle.buffer.proofs.Bytes.{same-true}
 use Rattle.block.specs.Block.{Row}
 use Rattle.ledger.specs.Ledger.{hit, intactOf}
 use Rattle.demands.specs.Ledger.{firstRow}

@@ -9,6 +9,8 @@ use native.Mathlib.Omega.{arith}
 use lib.Dec.{ltb, eqb}
 use lib.ListN.{length}
 use borrow.Author.Tests.{eqb-true, eq-eqb, le-leb}
+use Rattle.ground.proofs.Cases.{cond-ind, on-ind}
+use Rattle.ground.specs.Choice.{on}
 use Rattle.buffer.specs.Bytes.{Bytes, same}
 use Rattle.buffer.proofs.Bytes.{same-refl, same-true}
 use Rattle.sha1.specs.Sha1.{sha1Of}
@@ -19,12 +21,11 @@ use Rattle.block.specs.Log.{sectors}
 use Rattle.archive.specs.Step.{replyRoom}
 use Rattle.archive.specs.declared.Session.{Session}
 use Rattle.archive.specs.declared.Session.the-variants.{Greeted}
-use Rattle.ledger.specs.Archive.{Ruling, on}
+use Rattle.ledger.specs.Archive.{Ruling}
 use Rattle.ledger.specs.Ledger.{Ledger, has, covers, hit, intactOf, intact, enter, end, next}
 use Rattle.ledger.specs.Trace.{trace}
 use Rattle.ledger.specs.History.{Item, AllOfBytes, given, Books, recount}
 use Rattle.ledger.proofs.Trace.{trace-keeps}
-use Rattle.ledger.proofs.Tests.{cond-ind, on-ind}
 use Rattle.ledger.proofs.Covers.{covers-reads, hit-not}
 use Rattle.ledger.proofs.Ends.{end-changed}
 use Rattle.demands.specs.Ledger.{Answer, Decision, rulingOf, firstRow, writeRow, decision, tell}

@@ -8,29 +8,20 @@ use native.Mathlib.Omega.{arith}
 use lib.Dec.{leb, ltb, eqb}
 use lib.ListN.{length}
 use borrow.Author.Tests.{ne-eqb}
+use Rattle.ground.specs.Places.{within}
+use Rattle.ground.specs.Choice.{on}
 use Rattle.buffer.specs.Bytes.{Bytes, same}
 use Rattle.refusal.specs.declared.Refusal.the-variants.{NotHeld, NotKnown}
 use Rattle.block.specs.Block.{Row, parts}
 use Rattle.block.specs.Log.{sectors, used, sound}
 use Rattle.log.specs.LookUp as look
-use Rattle.ledger.specs.Archive.{on}
-use Rattle.ledger.specs.Ledger.{blocksFrom, blocks}
+use Rattle.ledger.specs.Ledger.{blocks}
 use Rattle.demands.specs.Ledger.{coveredBy, anyUncovered, firstRow}
 use Rattle.demands.specs.Instance.{archive}
 
-from-same : (log : Bytes) (k n : ℕ) → look.blocksFrom log k n ≡ blocksFrom archive log k n
-unfolding look.blocksFrom
-from-same log zero n = refl
-from-same log (suc k) n = go (sound log n) (from-same log k (suc n))
-  where
-    go : (o : Option Row) → look.blocksFrom log k (suc n) ≡ blocksFrom archive log k (suc n)
-        → look.on o (look.blocksFrom log k (suc n)) (λ r. r ∷ look.blocksFrom log k (suc n)) ≡ on o (blocksFrom archive log k (suc n)) (λ r. r ∷ blocksFrom archive log k (suc n))
-    go none e = e
-    go (some r) e = ap (λ (l : List Row). r ∷ l) e
-
 pub blocks-same : (log : Bytes) → look.blocks log ≡ blocks archive log
 unfolding look.blocks blocks
-blocks-same log = from-same log (sectors (length log)) 0
+blocks-same log = refl
 
 pub first-same : (t : ℕ) (s : Bytes) (rows : List Row) → look.firstOf t s rows ≡ firstRow t s rows
 unfolding look.firstOf firstRow
@@ -40,7 +31,7 @@ first-same t s (r ∷ rows) = ap (λ (o : Option Row). cond (eqb (r .kind) t && 
 in-same : (rows : List Row) (n : ℕ) → look.inBlock rows n ≡ coveredBy rows n
 unfolding look.inBlock coveredBy
 in-same [] n = refl
-in-same (r ∷ rows) n = ap (λ (b : Bool). (leb (r .first) n && ltb n (r .first + parts r)) || b) (in-same rows n)
+in-same (r ∷ rows) n = ap (λ (b : Bool). within (r .first) (parts r) n || b) (in-same rows n)
 
 pub outside-none : (rows : List Row) (k : ℕ) → eqb (look.outside rows k) 0 ≡ not (anyUncovered rows k)
 unfolding look.outside anyUncovered

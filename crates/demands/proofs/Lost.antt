@@ -7,6 +7,7 @@ use mathlib.Core.Option.{Option, none, some}
 use Prim.Native.Nat.{ℕ}
 use lib.ListN.{length}
 use borrow.Author.Tests.{eq-eqb}
+use Rattle.ground.specs.Choice.{on}
 use Rattle.buffer.specs.Bytes.{Bytes}
 use Rattle.buffer.proofs.Bytes.{same-refl}
 use Rattle.sha1.specs.Sha1.{sha1Of}
@@ -15,7 +16,7 @@ use Rattle.message.specs.Message.{dataOf, requestOf}
 use Rattle.message.specs.declared.Request.the-variants.{Write}
 use Rattle.block.specs.Block.{Row}
 use Rattle.archive.specs.declared.Session.{Session}
-use Rattle.ledger.specs.Archive.{Ruling, Seen, on}
+use Rattle.ledger.specs.Archive.{Ruling, Seen}
 use Rattle.ledger.specs.Ledger.{Ledger, empty, hit, enter, intactOf, intact, end, next}
 use Rattle.ledger.specs.Trace.{trace}
 use Rattle.ledger.specs.History.{Item, AllOfBytes, given, Standing, answer, Books, recount}

@@ -8,6 +8,7 @@ use native.Mathlib.Omega.{arith}
 use lib.Dec.{leb, ltb, eqb}
 use lib.ListN.{length}
 use borrow.Author.Tests.{leb-true, ltb-false, eqb-true, not-false}
+use Rattle.ground.specs.Choice.{on}
 use Rattle.buffer.specs.Bytes.{Bytes, same}
 use Rattle.buffer.proofs.Bytes.{small-drop}
 use Rattle.word.specs.Number.{small}
@@ -39,7 +40,7 @@ module _ {log : Bytes} where
   by-test true f g = f refl
   by-test false f g = g refl
 
-  by-row : (o : Option Row) {x : steps.Outcome} {f : Row → steps.Outcome} → (o ≡ none → AtMostOne log x) → ((r : Row) → o ≡ some r → AtMostOne log (f r)) → AtMostOne log (look.on o x f)
+  by-row : (o : Option Row) {x : steps.Outcome} {f : Row → steps.Outcome} → (o ≡ none → AtMostOne log x) → ((r : Row) → o ≡ some r → AtMostOne log (f r)) → AtMostOne log (on o x f)
   by-row none g h = g refl
   by-row (some r) g h = h r refl
 
@@ -73,7 +74,7 @@ module _ (log m buffer : Bytes) where
   held-ways : (t : ℕ) (d : Bytes) (r : Row) → AtMostOne log (kept m buffer (storedAs log t d (some r)))
   held-ways t d r = go (same (r .bytes) d)
     where
-      go : (b : Bool) → AtMostOne log (kept m buffer (cond b (stores.after (stores.receipt (sha1Of d) (Duplicate (record { 0 = r .first }))) log) (stores.after (stores.receipt (sha1Of d) (Refused Clash)) log)))
+      go : (b : Bool) → AtMostOne log (kept m buffer (cond b (stores.afterStore (stores.receipt (sha1Of d) (Duplicate (record { 0 = r .first }))) log) (stores.afterStore (stores.receipt (sha1Of d) (Refused Clash)) log)))
       go true = plain refl (λ e. omega arith)
       go false = plain refl (λ e. omega arith)
 

@@ -8,6 +8,7 @@ use native.Mathlib.Omega.{arith}
 use lib.Dec.{leb, ltb}
 use lib.ListN.{length}
 use borrow.Author.Tests.{le-ltb}
+use Rattle.ground.specs.Choice.{on}
 use Rattle.buffer.specs.Bytes.{Bytes, same}
 use Rattle.refusal.specs.declared.Refusal.the-variants.{BlockType, OverCount, NotKnown, NotHeld}
 use Rattle.message.specs.Message.{tagOf}
@@ -17,7 +18,6 @@ use Rattle.block.specs.Block.{Row}
 use Rattle.log.specs.LookUp as look
 use Rattle.archive.specs.Step as steps
 use Rattle.archive.specs.declared.Session.the-variants.{Greeted}
-use Rattle.ledger.specs.Archive.{on}
 use Rattle.demands.specs.Ledger.{Decision, refusal, reply, anyUncovered, firstRow, readRow}
 use Rattle.demands.proofs.Tests.{contrary, ltb-not}
 use Rattle.demands.proofs.Seen.{given, seen, view, Mirrors, held-zero, held-other, absence-is}

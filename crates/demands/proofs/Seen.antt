@@ -6,6 +6,7 @@ use mathlib.Core.Option.{Option, none, some}
 use Prim.Native.Nat.{ℕ}
 use lib.Dec.{ltb}
 use lib.ListN.{length}
+use Rattle.ground.specs.Choice.{on}
 use Rattle.buffer.specs.Bytes.{Bytes, same}
 use Rattle.buffer.proofs.Bytes.{same-refl}
 use Rattle.sha1.specs.Sha1.{sha1Of}
@@ -30,22 +31,22 @@ use Rattle.demands.proofs.LookUp.{first-same, absence-same}
 -- what the archive answers of a read, by what is held
 abbrev pub given : Bytes → Bytes → Bytes → ℕ → Option Row → steps.Outcome
 given log m buffer count o =
-    look.on o (steps.refused (look.absence log) (tagOf m) Greeted log buffer)
+    on o (steps.refused (look.absence log) (tagOf m) Greeted log buffer)
     (λ r. cond (ltb count (length (r .bytes))) (steps.refused OverCount (tagOf m) Greeted log buffer) (steps.granted (readReply (tagOf m) (r .bytes)) Greeted log buffer))
 
 -- what a store gives, by what is held
-abbrev pub storedAs : Bytes → ℕ → Bytes → Option Row → stores.After
+abbrev pub storedAs : Bytes → ℕ → Bytes → Option Row → stores.AfterStore
 storedAs log t d o =
-    look.on o
+    on o
     (cond (stores.roomFor log d)
-    (stores.after (stores.receipt (sha1Of d) (New (record { 0 = used log }))) (written log (stores.newRow log t d)))
-    (stores.after (stores.receipt (sha1Of d) (Refused NoRoom)) log))
+    (stores.afterStore (stores.receipt (sha1Of d) (New (record { 0 = used log }))) (written log (stores.newRow log t d)))
+    (stores.afterStore (stores.receipt (sha1Of d) (Refused NoRoom)) log))
     (λ r. cond (same (r .bytes) d)
-    (stores.after (stores.receipt (sha1Of d) (Duplicate (record { 0 = r .first }))) log)
-    (stores.after (stores.receipt (sha1Of d) (Refused Clash)) log))
+    (stores.afterStore (stores.receipt (sha1Of d) (Duplicate (record { 0 = r .first }))) log)
+    (stores.afterStore (stores.receipt (sha1Of d) (Refused Clash)) log))
 
 -- what the archive answers of a store
-abbrev pub kept : Bytes → Bytes → stores.After → steps.Outcome
+abbrev pub kept : Bytes → Bytes → stores.AfterStore → steps.Outcome
 kept m buffer a = steps.written (a .receipt .stored) (tagOf m) (a .receipt .score) (a .log) buffer
 
 -- what is seen of the archive's outcome

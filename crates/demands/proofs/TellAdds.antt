@@ -8,6 +8,7 @@ use native.Mathlib.Omega.{arith}
 use lib.Dec.{leb, ltb, eqb}
 use lib.ListN.{length}
 use borrow.Author.Tests.{ltb-false, leb-true, eqb-false}
+use Rattle.ground.proofs.Cases.{on-ind}
 use Rattle.buffer.specs.Bytes.{Bytes, same}
 use Rattle.buffer.proofs.Bytes.{small-drop}
 use Rattle.word.specs.Number.{small}
@@ -25,7 +26,6 @@ use Rattle.archive.specs.Step.{replyRoom, version}
 use Rattle.archive.specs.declared.Session.{Session}
 use Rattle.archive.specs.declared.Session.the-variants.{Fresh, Greeted, Closed as Shut}
 use Rattle.ledger.specs.Ledger.{Ledger, intact, end}
-use Rattle.ledger.proofs.Tests.{on-ind}
 use Rattle.demands.specs.Ledger.{Asked, Decision, silence, refusal, reply, close, rulingOf, anyUncovered, firstRow, writeRow, readRow, decide, bySession, decision, tell}
 use Rattle.demands.specs.Instance.{archive}
 

@@ -8,6 +8,7 @@ use native.Mathlib.Omega.{arith}
 use lib.Dec.{leb, ltb}
 use lib.ListN.{length}
 use borrow.Author.Tests.{ne-eqb}
+use Rattle.ground.specs.Choice.{on}
 use Rattle.buffer.specs.Bytes.{Bytes, same}
 use Rattle.buffer.proofs.Bytes.{same-refl, same-true}
 use Rattle.sha1.specs.Sha1.{sha1Of}
@@ -22,14 +23,14 @@ use Rattle.log.specs.Store as stores
 use Rattle.archive.specs.Step as steps
 use Rattle.archive.specs.declared.Session.{Session}
 use Rattle.archive.specs.declared.Session.the-variants.{Greeted}
-use Rattle.ledger.specs.Archive.{Seen, on}
+use Rattle.ledger.specs.Archive.{Seen}
 use Rattle.demands.specs.Ledger.{Answer, Decision, refusal, reply, firstRow, newRow, writeRow}
 use Rattle.demands.proofs.Tests.{alike, contrary, ltb-not}
 use Rattle.demands.proofs.Seen.{storedAs, kept, seen, view, Mirrors, held-zero, empty-score, held-other}
 
 module _ (log : Bytes) (rows : List Row) (end : ℕ) (M : Mirrors log rows end) (m buffer : Bytes) (t : ℕ) where
   -- what is seen of a store
-  abbrev view-kept : stores.After → Seen Answer Session Bytes
+  abbrev view-kept : stores.AfterStore → Seen Answer Session Bytes
   view-kept a = seen (kept m buffer a)
 
   -- what the ledger decides of data that is not empty, by its first row

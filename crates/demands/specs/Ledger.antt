@@ -7,6 +7,8 @@ use mathlib.Core.Option.{Option, none, some}
 use Prim.Native.Nat.{ℕ, zero, suc, _+_, max}
 use lib.Dec.{leb, ltb, eqb}
 use lib.ListN.{length}
+use Rattle.ground.specs.Places.{within}
+use Rattle.ground.specs.Choice.{on}
 use Rattle.buffer.specs.Bytes.{Bytes, same}
 use Rattle.sha1.specs.Sha1.{sha1Of}
 use Rattle.refusal.specs.Number.{numberOf}
@@ -23,7 +25,7 @@ use Rattle.log.specs.LookUp.{logAllowed}
 use Rattle.archive.specs.Step.{replyRoom, version}
 use Rattle.archive.specs.declared.Session.{Session}
 use Rattle.archive.specs.declared.Session.the-variants.{Fresh, Greeted, Closed as Shut}
-use Rattle.ledger.specs.Archive.{Ruling, on}
+use Rattle.ledger.specs.Archive.{Ruling}
 use Rattle.ledger.specs.Ledger.{intactRows, rowsEnd, changedEnd}
 
 -- "a message, the reply buffer" lent with it
@@ -39,7 +41,7 @@ pub record Answer : Type 0 where
 -- "an uncovered sector is before it [the end] and in no intact row": whether there is one
 unfoldable pub coveredBy : List Row → ℕ → Bool
 coveredBy [] n = false
-coveredBy (r ∷ rows) n = (leb (r .first) n && ltb n (r .first + parts r)) || coveredBy rows n
+coveredBy (r ∷ rows) n = within (r .first) (parts r) n || coveredBy rows n
 
 unfoldable pub anyUncovered : List Row → ℕ → Bool
 anyUncovered rows zero = false

@@ -7,6 +7,7 @@ use native.Mathlib.Omega.{arith}
 use lib.Dec.{leb, ltb}
 use borrow.Author.Tests.{le-leb, lt-leb, ltb-true}
 use lib.ListN.{length}
+use Rattle.ground.specs.Choice.{on}
 use Rattle.buffer.specs.Bytes.{Bytes}
 use Rattle.refusal.specs.declared.Refusal.{Refusal}
 use Rattle.refusal.specs.declared.Refusal.the-variants as why
@@ -14,7 +15,7 @@ use Rattle.sector.specs.declared.SectorNumber.{SectorNumber}
 use Rattle.block.specs.Block.{Row}
 use Rattle.log.specs.declared.Look.{Look}
 use Rattle.log.specs.declared.Look.the-variants as look
-use Rattle.log.specs.LookUp.{on, held, absence, lookUp, counted}
+use Rattle.log.specs.LookUp.{held, absence, lookUp, counted}
 use Rattle.log.proofs.Counted.{counted-found}
 use Rattle.lookup.proofs.Held.{Stands, held-stands}
 use Rattle.file.specs.declared.Located.{Located}

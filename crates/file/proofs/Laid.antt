@@ -10,8 +10,9 @@ use lib.Dec.{ltb, eqb}
 use borrow.Author.Tests.{ltb-true, ltb-false, eqb-false, not-true}
 use lib.ListN.{length, take, drop, getD, length-append, length-take, length-drop, List·getD-append}
 use lib.Seq.{length-take-le, getD-take, getD-drop, getD-append-add}
+use Rattle.ground.proofs.Cases.{and-true}
 use Rattle.buffer.specs.Bytes.{Bytes, zeros}
-use Rattle.buffer.proofs.Bytes.{and-true, zeros-getD}
+use Rattle.buffer.proofs.Bytes.{zeros-getD}
 use Rattle.block.specs.Block.{Row}
 use Rattle.log.specs.LookUp.{held}
 use Rattle.entry.specs.declared.Entry.{Entry}

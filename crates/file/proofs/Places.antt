@@ -9,13 +9,13 @@ use lib.Dec.{leb}
 use borrow.Author.Tests.{le-leb, lt-leb, leb-false}
 use lib.ListN.{length, take, drop, getD, set, length-take, length-drop}
 use lib.Seq.{getD-take, getD-drop, take-suc, take-suc-set, take-all}
+use Rattle.ground.proofs.Cases.{cond-ind}
 use Rattle.buffer.specs.Bytes.{Bytes}
 use Rattle.sha1.proofs.Digest.{digest-length}
 use Rattle.kind.specs.Kind.{zeroScore}
 use Rattle.block.specs.Block.{partsOf}
 use Rattle.block.specs.Log.{sectors, at, payloads}
 use Rattle.block.proofs.At.{at-piece}
-use Rattle.block.proofs.Cases.{cond-ind}
 use Rattle.block.proofs.Payloads.{payloads-getD}
 use Rattle.reader.specs.Reader.{bytesAt}
 use Rattle.reader.proofs.Pieces.{length-bytes}

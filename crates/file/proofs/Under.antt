@@ -3,13 +3,12 @@ use mathlib.Core.Path.{_≡_}
 use Prim.Native.Nat.{ℕ, zero, suc, _%_}
 use lib.Dec.{leb, eqb}
 use lib.ListN.{length}
+use Rattle.ground.proofs.Cases.{cond-ind, on-ind}
 use Rattle.buffer.specs.Bytes.{Bytes, same}
 use Rattle.kind.specs.Kind.{zeroScore}
 use Rattle.refusal.specs.declared.Refusal.{Refusal}
 use Rattle.block.specs.Block.{Row}
-use Rattle.block.proofs.Cases.{cond-ind}
 use Rattle.log.specs.LookUp.{held}
-use Rattle.log.proofs.Cases.{on-ind}
 use Rattle.lookup.proofs.Held.{Stands, held-stands}
 use Rattle.entry.specs.declared.Entry.{Entry}
 use Rattle.file.specs.declared.Located.{Located}

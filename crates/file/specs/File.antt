@@ -3,13 +3,14 @@ use mathlib.Core.Bool.{Bool, not, cond, _&&_}
 use Prim.Native.Nat.{ℕ, zero, suc, _+_, _-_, _*_, _/_, _%_, _^_, min}
 use lib.Dec.{leb, ltb, eqb}
 use lib.ListN.{length, take, drop}
+use Rattle.ground.specs.Choice.{on}
 use Rattle.buffer.specs.Bytes.{Bytes, same, zeros}
 use Rattle.kind.specs.Kind.{zeroScore}
 use Rattle.refusal.specs.declared.Refusal.{Refusal}
 use Rattle.refusal.specs.declared.Refusal.the-variants as why
 use Rattle.refusal.specs.Number.{numberOf}
 use Rattle.block.specs.Block.{Row}
-use Rattle.log.specs.LookUp.{on, held, absence, logAllowed}
+use Rattle.log.specs.LookUp.{held, absence, logAllowed}
 use Rattle.entry.specs.declared.Entry.{Entry}
 use Rattle.entry.specs.Entry.{entryOf, entryAllowed, scoreOf, pointers}
 use Rattle.file.specs.declared.Located.{Located}

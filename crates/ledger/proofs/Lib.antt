@@ -1,4 +1,3 @@
-pub mod Tests
 pub mod Ascending
 pub mod Covers
 pub mod Apart

@@ -2,7 +2,8 @@
 use mathlib.Core.Path.{_≡_, refl, ap, ap₂, subst, _∙_}
 use mathlib.Core.List.{List, [], _∷_, _++_}
 use mathlib.Core.Option.{Option, none, some}
-use Rattle.ledger.specs.Archive.{Ruling, Seen, on, Archive}
+use Rattle.ground.specs.Choice.{on}
+use Rattle.ledger.specs.Archive.{Ruling, Seen, Archive}
 use Rattle.ledger.specs.Ledger.{Ledger, shown, enter, next}
 use Rattle.ledger.specs.Laws.{Lawful}
 use Rattle.ledger.specs.Trace.{trace}

@@ -7,6 +7,7 @@ use mathlib.Core.Logic.{_⊎_, inl, inr}
 use Prim.Native.Nat.{ℕ, _+_, _-_, _≤_, _<_}
 use native.Mathlib.Nat.{le-antisymm}
 use native.Mathlib.Omega.{arith}
+use Rattle.ground.proofs.Places.{found-in, found-out}
 use Rattle.ledger.specs.Archive.{Archive}
 use Rattle.ledger.specs.Ledger.{has, Ledger, covers, hit, intact, end, blocks}
 use Rattle.ledger.specs.Reflects.{cell, Reflects}
@@ -16,7 +17,7 @@ use Rattle.ledger.proofs.Covers.{covers-reads, covers-in, hit-none, hit
 use Rattle.ledger.proofs.Ends.{end-row, end-rows-le, end-changed, end-changed-le}
 use Rattle.ledger.proofs.Intact.{intact-in, intact-out, intact-ascends}
 use Rattle.ledger.proofs.Cells.{cell-in, cell-blank, cell-cases, Held}
-use Rattle.ledger.proofs.Blocks.{blocks-in, blocks-out, blocks-ascend}
+use Rattle.ledger.proofs.Blocks.{blocks-ascend}
 
 module _ (A : Archive) (W : Lawful A) (log : A .Log) (L : Ledger A) (R : Reflects A log L) where
   open Archive A using (extent, sectors, at, blank, isBlank, fits, used, Row, first, parts, image, valid, sound)
@@ -108,7 +109,7 @@ module _ (A : Archive) (W : Lawful A) (log : A .Log) (L : Ledger A) (R : Reflect
   unfolding blocks
   blocks-intact = ascending-ext A 0 (blocks A log) (intact A L) (blocks-ascend A W log (sectors (extent log)) 0)
       (intact-ascends A (L .changed) 0 (L .rows) (λ r m. parts-pos r (R .valids r m)) (R .apart))
-      (λ r m. let s = blocks-out A log (sectors (extent log)) 0 r m in let p = sound-row (s .0) r (s .1) in intact-in A (L .changed) (L .rows) r (p .0) (p .1))
+      (λ r m. let s = found-out (sound log) (sectors (extent log)) 0 r m in let p = sound-row (s .0) r (s .2) in intact-in A (L .changed) (L .rows) r (p .0) (p .1))
       (λ r m. let p = intact-out A (L .changed) (L .rows) r m in
       let v : 0 < parts r = parts-pos r (R .valids r (p .0)) in
-      blocks-in A log (sectors (extent log)) 0 (first r) r (omega arith) (omega (arith, R .room, end-row A (L .rows) r (p .0))) (row-sound r (p .0) (p .1)))
+      found-in (sound log) (sectors (extent log)) 0 (first r) r (omega arith) (omega (arith, R .room, end-row A (L .rows) r (p .0))) (row-sound r (p .0) (p .1)))

@@ -6,7 +6,8 @@ use mathlib.Core.Option.{Option, none, some}
 use mathlib.Core.Logic.{_⊎_, inl, inr}
 use Prim.Native.Nat.{ℕ, _+_, _-_, _≤_}
 use native.Mathlib.Omega.{arith}
-use Rattle.ledger.specs.Archive.{Ruling, on, Archive}
+use Rattle.ground.specs.Choice.{on}
+use Rattle.ledger.specs.Archive.{Ruling, Archive}
 use Rattle.ledger.specs.Ledger.{has, Ledger, empty, told, enter, covers, end, shown, next}
 use Rattle.ledger.specs.Laws.{Lawful}
 use Rattle.ledger.specs.History.{Damage}

@@ -18,14 +18,6 @@ pub record Ruling (Answer Session Row : Type 0) : Type 0 where
   pub session : Session
   pub adds : Option Row
 
--- n is one of the k numbers from f on
-abbrev pub within : ℕ → ℕ → ℕ → Bool
-within f k n = leb f n && ltb n (f + k)
-
-abbrev pub on {ℓ} : {B : Type 0} {A : Type ℓ} → Option B → A → (B → A) → A
-on none a f = a
-on (some r) a f = f r
-
 pub record Archive : Type 1 where
   -- the log: what the ledger is told of it, the number of its sectors, a log all blank, a sector (past the end a blank one)
   pub Log : Type 0

@@ -7,7 +7,8 @@ use mathlib.Core.Logic.{_≢_, _⊎_}
 use mathlib.Core.Option.{Option}
 use Prim.Native.Nat.{ℕ, _<_}
 use lib.ListN.{getD}
-use Rattle.ledger.specs.Archive.{Seen, Ruling, on, Archive}
+use Rattle.ground.specs.Choice.{on}
+use Rattle.ledger.specs.Archive.{Seen, Ruling, Archive}
 use Rattle.ledger.specs.Ledger.{has, Ledger, empty, told, next}
 use Rattle.ledger.specs.Trace.{Turn, trace, All}
 

@@ -5,7 +5,8 @@ use mathlib.Core.List.{List·Memᴰ}
 use mathlib.Core.Logic.{_≢_}
 use mathlib.Core.Option.{some}
 use Prim.Native.Nat.{ℕ, _+_, _-_, _≤_, _<_}
-use Rattle.ledger.specs.Archive.{within, Archive}
+use Rattle.ground.specs.Places.{within}
+use Rattle.ledger.specs.Archive.{Archive}
 use Rattle.ledger.specs.Ledger.{Ledger, intact, end, blocks, shown}
 
 module _ (A : Archive) where

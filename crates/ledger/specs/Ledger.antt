@@ -3,7 +3,9 @@ use mathlib.Core.Bool.{Bool, false, cond, _||_}
 use mathlib.Core.List.{List, [], _∷_, _++_}
 use Prim.Native.Nat.{ℕ, zero, suc, _+_, max}
 use lib.Dec.{eqb}
-use Rattle.ledger.specs.Archive.{Ruling, Seen, within, on, Archive}
+use Rattle.ground.specs.Choice.{on}
+use Rattle.ground.specs.Places.{foundFrom, within}
+use Rattle.ledger.specs.Archive.{Ruling, Seen, Archive}
 
 -- n is one of the numbers
 abbrev pub has : ℕ → List ℕ → Bool
@@ -75,13 +77,9 @@ module _ (A : Archive) where
   abbrev pub end : Ledger → ℕ
   end L = max (endRows (L .rows)) (endChanged (L .changed))
 
-  -- the sound blocks of a log that start at one of k sectors from n on; all of them, in the log's order
-  abbrev pub blocksFrom : Log → ℕ → ℕ → List Row
-  blocksFrom log zero n = []
-  blocksFrom log (suc k) n = on (sound log n) (blocksFrom log k (suc n)) (λ r. r ∷ blocksFrom log k (suc n))
-
+  -- the sound blocks of a log, in its order
   unfoldable pub blocks : Log → List Row
-  blocks log = blocksFrom log (sectors (extent log)) 0
+  blocks log = foundFrom (sound log) (sectors (extent log)) 0
 
   -- the ledger's outcome as it is seen on a log: the row that it adds is written
   abbrev pub shown : Log → Ruling Answer Session Row → Seen Answer Session Log

@@ -1,10 +1,11 @@
 -- Two logs with the same sectors hold the same blocks: look-up and doubt are the same.
 use mathlib.Core.Path.{_≡_, sym, ap, _∙_}
 use Prim.Native.Nat.{ℕ}
+use Rattle.ground.specs.Places.{foundFrom}
 use Rattle.buffer.specs.Bytes.{Bytes}
-use Rattle.block.specs.Log.{Alike, used}
+use Rattle.block.specs.Log.{Alike, used, sound}
 use Rattle.block.proofs.Alike.{used-alike, sound-alike}
-use Rattle.log.specs.LookUp.{blocksFrom, blocks, held, doubtful, firstDoubtful, absence, lookUp}
+use Rattle.log.specs.LookUp.{blocks, held, doubtful, firstDoubtful, absence, lookUp}
 use Rattle.log.proofs.Blocks.{blocks-used}
 use Rattle.log.proofs.Written.{same-blocks}
 
@@ -12,7 +13,7 @@ module _ (a b : Bytes) (f : Alike a b) where
   pub blocks-alike : blocks a ≡ blocks b
   blocks-alike =
       sym (blocks-used a)
-      ∙ ap (λ (k : ℕ). blocksFrom a k 0) (used-alike a b f)
+      ∙ ap (λ (k : ℕ). foundFrom (sound a) k 0) (used-alike a b f)
       ∙ same-blocks b a (used b) 0 (λ m h. sound-alike a b f m)
       ∙ blocks-used b
 

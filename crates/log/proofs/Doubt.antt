@@ -15,8 +15,9 @@ use Rattle.block.specs.Log.{used, sound}
 use Rattle.block.proofs.Sound.{sound-reads}
 use Rattle.block.proofs.Apart.{none-inside}
 use Rattle.log.specs.LookUp.{blocks, inBlock, outside, doubtful}
+use Rattle.ground.proofs.Places.{within-in, within-before, within-after}
 use Rattle.log.proofs.Blocks.{blocks-in, blocks-out}
-use Rattle.log.proofs.InBlock.{covers, covers-in, covers-before, covers-after, in-none, in-some, outside-in, outside-out, outside-mono}
+use Rattle.log.proofs.InBlock.{covers, in-none, in-some, outside-in, outside-out, outside-mono}
 
 -- a sector has one answer
 clash : (log : Bytes) (m n : ℕ) (r : Row) → m ≡ n → sound log n ≡ none → sound log m ≡ some r → ⊥
@@ -57,9 +58,9 @@ module _ (log : Bytes) where
   clear n r w e f = go (ltb (r .first) n) (eqb (r .first) n) refl refl
     where
       go : (a b : Bool) → ltb (r .first) n ≡ a → eqb (r .first) n ≡ b → covers r n ≡ false
-      go true b p q = covers-after r n (w (r .first) r (ltb-true (r .first) n p) f)
+      go true b p q = within-after (r .first) (parts r) n (w (r .first) r (ltb-true (r .first) n p) f)
       go false true p q = absurd (clash log (r .first) n r (eqb-true (r .first) n q) e f)
-      go false false p q = covers-before r n (omega (arith, ltb-false (r .first) n p, eqb-false (r .first) n q))
+      go false false p q = within-before (r .first) (parts r) n (omega (arith, ltb-false (r .first) n p, eqb-false (r .first) n q))
 
   pub doubtful-at : (n : ℕ) → Walked n → sound log n ≡ none → inBlock (blocks log) n ≡ false
   doubtful-at n w e = in-none (blocks log) n (λ r m. clear n r w e (blocks-out log r m))
@@ -83,7 +84,7 @@ module _ (log : Bytes) where
       go (suc j) h =
           let z : n + suc j ≡ suc (n + j) = omega arith in
           ap (outside (blocks log)) z
-          ∙ outside-in (blocks log) (n + j) (in-some (blocks log) r (n + j) held (covers-in r (n + j) (omega (arith, here)) (omega (arith, here))))
+          ∙ outside-in (blocks log) (n + j) (in-some (blocks log) r (n + j) held (within-in (r .first) (parts r) (n + j) (omega (arith, here)) (omega (arith, here))))
           ∙ go j (omega arith)
 
   -- where none starts in the used part, a sector is doubtful

@@ -7,23 +7,25 @@ use Prim.Native.Nat.{ℕ, suc}
 use native.Mathlib.Omega.{arith}
 use lib.Dec.{eqb}
 use borrow.Author.Tests.{eqb-true, eq-eqb}
+use Rattle.ground.specs.Places.{foundFrom}
+use Rattle.ground.proofs.Cases.{and-true}
 use Rattle.buffer.specs.Bytes.{Bytes, same}
-use Rattle.buffer.proofs.Bytes.{and-true, same-true, same-refl}
+use Rattle.buffer.proofs.Bytes.{same-true, same-refl}
 use Rattle.block.specs.Block.{Row}
 use Rattle.block.specs.Log.{soundAs, sound}
 use Rattle.block.proofs.Sound.{as-reads, as-other}
-use Rattle.log.specs.LookUp.{blocksFrom, blocks, firstOf}
+use Rattle.log.specs.LookUp.{blocks, firstOf}
 use Rattle.log.proofs.Blocks.{blocks-out, step-none, one-some}
 
-pub first-none : (log : Bytes) (k n t : ℕ) (s : Bytes) → soundAs log n t s ≡ none → firstOf t s (blocksFrom log (suc k) n) ≡ firstOf t s (blocksFrom log k (suc n))
+pub first-none : (log : Bytes) (k n t : ℕ) (s : Bytes) → soundAs log n t s ≡ none → firstOf t s (foundFrom (sound log) (suc k) n) ≡ firstOf t s (foundFrom (sound log) k (suc n))
 unfolding firstOf
 first-none log k n t s e = go (sound log n) refl
   where
-    go : (o : Option Row) → sound log n ≡ o → firstOf t s (blocksFrom log (suc k) n) ≡ firstOf t s (blocksFrom log k (suc n))
+    go : (o : Option Row) → sound log n ≡ o → firstOf t s (foundFrom (sound log) (suc k) n) ≡ firstOf t s (foundFrom (sound log) k (suc n))
     go none q = ap (firstOf t s) (step-none log k n q)
     go (some r) q = ap (firstOf t s) (one-some log k n r q) ∙ rw (as-other log n t s r q e)
 
-pub first-some : (log : Bytes) (k n t : ℕ) (s : Bytes) (r : Row) → soundAs log n t s ≡ some r → firstOf t s (blocksFrom log (suc k) n) ≡ some r
+pub first-some : (log : Bytes) (k n t : ℕ) (s : Bytes) (r : Row) → soundAs log n t s ≡ some r → firstOf t s (foundFrom (sound log) (suc k) n) ≡ some r
 unfolding firstOf
 first-some log k n t s r e =
     let p = as-reads log n t s r e in

@@ -7,27 +7,14 @@ use Prim.Native.Nat.{ℕ, zero, suc, _+_, _≤_, _<_}
 use native.Mathlib.Omega.{arith}
 use lib.Dec.{leb, ltb, eqb}
 use borrow.Author.Tests.{eqb-true, eqb-false, le-leb, lt-leb, lt-ltb, le-ltb}
+use Rattle.ground.specs.Places.{within}
+use Rattle.ground.proofs.Cases.{cond-ind, or-right}
 use Rattle.block.specs.Block.{Row, parts}
-use Rattle.block.proofs.Cases.{cond-ind}
 use Rattle.log.specs.LookUp.{inBlock, outside}
-use Rattle.log.proofs.Cases.{or-right}
 
 -- sector n is one of the row's
 abbrev pub covers : Row → ℕ → Bool
-covers r n = leb (r .first) n && ltb n (r .first + parts r)
-
-pub covers-in : (r : Row) (n : ℕ) → r .first ≤ n → n < r .first + parts r → covers r n ≡ true
-covers-in r n a b = simp (le-leb (r .first) n a, lt-ltb n (r .first + parts r) b)
-
-pub covers-before : (r : Row) (n : ℕ) → n < r .first → covers r n ≡ false
-covers-before r n a = simp (lt-leb (r .first) n a)
-
-pub covers-after : (r : Row) (n : ℕ) → r .first + parts r ≤ n → covers r n ≡ false
-covers-after r n a = rw (le-ltb n (r .first + parts r) a) (go (leb (r .first) n))
-  where
-    go : (b : Bool) → (b && false) ≡ false
-    go true = refl
-    go false = refl
+covers r n = within (r .first) (parts r) n
 
 pub in-none : (rows : List Row) (n : ℕ) → ((r : Row) → List·Memᴰ r rows → covers r n ≡ false) → inBlock rows n ≡ false
 unfolding inBlock

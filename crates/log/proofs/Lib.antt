@@ -1,6 +1,5 @@
 -- Laws for the scans of a log: `Blocks`, what it holds; `Records`, how many; `First`, the first of a type and score; `Doubt`, what is
 -- doubtful; `Written`, after an append; `Alike`, of two logs with the same sectors; `Parts`, of a log and what waits behind it; `Counted`, look-up with a count. `Cases`: options and tests taken apart; `InBlock`: sectors in and outside of a list of blocks.
-pub mod Cases
 pub mod Blocks
 pub mod Records
 pub mod First

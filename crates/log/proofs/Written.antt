@@ -8,6 +8,7 @@ use native.Mathlib.Omega.{arith}
 use lib.Dec.{eqb, leb}
 use borrow.Author.Tests.{lt-leb, le-leb, lt-ltb, leb-true, leb-false}
 use lib.ListN.{length}
+use Rattle.ground.specs.Places.{foundFrom}
 use Rattle.buffer.specs.Bytes.{Bytes, same}
 use Rattle.kind.specs.Kind.{lawful, zeroScore}
 use Rattle.block.specs.Block.{Row, parts, image, valid, written}
@@ -18,7 +19,7 @@ use Rattle.block.proofs.Used.{used-le-sectors}
 use Rattle.block.proofs.Written.{length-written, at-written}
 use Rattle.block.proofs.Sound.{sound-reads, sound-finds}
 use Rattle.block.proofs.Apart.{sound-used}
-use Rattle.log.specs.LookUp.{blocksFrom, blocks, firstOf, emptyRow, held}
+use Rattle.log.specs.LookUp.{blocks, firstOf, emptyRow, held}
 use Rattle.log.proofs.Blocks.{blocks-append, blocks-used}
 use Rattle.log.specs.Laws.{HeldStays}
 
@@ -33,8 +34,8 @@ first-front t s (x ∷ xs) ys r e = go (eqb (x .kind) t && same (x .score) s) e 
     go false e f = f e
 
 -- the same sound blocks at each of k sectors
-pub same-blocks : (log log′ : Bytes) (k n : ℕ) → ((m : ℕ) → m < n + k → sound log′ m ≡ sound log m) → blocksFrom log′ k n ≡ blocksFrom log k n
-unfolding blocksFrom
+pub same-blocks : (log log′ : Bytes) (k n : ℕ) → ((m : ℕ) → m < n + k → sound log′ m ≡ sound log m) → foundFrom (sound log′) k n ≡ foundFrom (sound log) k n
+unfolding foundFrom
 same-blocks log log′ zero n f = refl
 same-blocks log log′ (suc k) n f = rw (f n (omega arith), same-blocks log log′ k (suc n) (λ m h. f m (omega arith)))
 
@@ -91,14 +92,14 @@ module _ (log : Bytes) (r : Row) (v : valid r ≡ true) (end : r .first ≡ used
       go none none p q = refl
       go none (some x) p q = sym (before n x h q) ∙ p
 
-  same-front : blocks (written log r) ≡ blocks log ++ blocksFrom (written log r) (sectors (length log) - used log) (0 + used log)
+  same-front : blocks (written log r) ≡ blocks log ++ foundFrom (sound (written log r)) (sectors (length log) - used log) (0 + used log)
   unfolding blocks
   same-front =
       let k = sectors (length log) - used log in
       let a : sectors (length (written log r)) ≡ used log + k = ap sectors (length-written log r v room) ∙ omega (arith, used-le-sectors log) in
-      ap (λ (x : ℕ). blocksFrom (written log r) x 0) a
+      ap (λ (x : ℕ). foundFrom (sound (written log r)) x 0) a
       ∙ blocks-append (written log r) (used log) k 0
-      ∙ ap (λ (l : List Row). l ++ blocksFrom (written log r) k (0 + used log)) (same-blocks log (written log r) (used log) 0 (λ m h. same-sound m (omega arith)) ∙ blocks-used log)
+      ∙ ap (λ (l : List Row). l ++ foundFrom (sound (written log r)) k (0 + used log)) (same-blocks log (written log r) (used log) 0 (λ m h. same-sound m (omega arith)) ∙ blocks-used log)
 
 pub held-written : HeldStays
 unfolding held
@@ -106,4 +107,4 @@ held-written log r v end room t s x e = go (lawful t && same s zeroScore) e
   where
     go : (b : Bool) → cond b (some (emptyRow t)) (firstOf t s (blocks log)) ≡ some x → cond b (some (emptyRow t)) (firstOf t s (blocks (written log r))) ≡ some x
     go true q = q
-    go false q = ap (firstOf t s) (same-front log r v end room) ∙ first-front t s (blocks log) (blocksFrom (written log r) (sectors (length log) - used log) (0 + used log)) x q
+    go false q = ap (firstOf t s) (same-front log r v end room) ∙ first-front t s (blocks log) (foundFrom (sound (written log r)) (sectors (length log) - used log) (0 + used log)) x q

@@ -5,6 +5,8 @@ use mathlib.Core.Option.{Option, none, some}
 use Prim.Native.Nat.{ℕ, zero, suc, _+_, _/_, _%_}
 use lib.Dec.{leb, ltb, eqb}
 use lib.ListN.{length}
+use Rattle.ground.specs.Choice.{on}
+use Rattle.ground.specs.Places.{foundFrom, within}
 use Rattle.buffer.specs.Bytes.{Bytes, same}
 use Rattle.kind.specs.Kind.{lawful, zeroScore}
 use Rattle.refusal.specs.Number.{numberOf}
@@ -16,23 +18,14 @@ use Rattle.log.specs.Parts.{tape}
 use Rattle.log.specs.declared.Look.{Look}
 use Rattle.log.specs.declared.Look.the-variants.{Found, Refused}
 
--- by what may be there
-abbrev pub on {ℓ} : {B : Type 0} {A : Type ℓ} → Option B → A → (B → A) → A
-on none a f = a
-on (some r) a f = f r
-
--- the sound blocks that start at one of k sectors from n on, in the log's order; and all of them
-unfoldable pub blocksFrom : Bytes → ℕ → ℕ → List Row
-blocksFrom log zero n = []
-blocksFrom log (suc k) n = on (sound log n) (blocksFrom log k (suc n)) (λ r. r ∷ blocksFrom log k (suc n))
-
+-- the sound blocks, in the log's order
 unfoldable pub blocks : Bytes → List Row
-blocks log = blocksFrom log (sectors (length log)) 0
+blocks log = foundFrom (sound log) (sectors (length log)) 0
 
 -- sector n is in one of the blocks
 unfoldable pub inBlock : List Row → ℕ → Bool
 inBlock [] n = false
-inBlock (r ∷ rows) n = (leb (r .first) n && ltb n (r .first + parts r)) || inBlock rows n
+inBlock (r ∷ rows) n = within (r .first) (parts r) n || inBlock rows n
 
 -- "A doubtful sector is in the used part and in no sound block": how many of the first k sectors are in no block of the list
 unfoldable pub outside : List Row → ℕ → ℕ

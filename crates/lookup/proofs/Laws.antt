@@ -9,6 +9,8 @@ use native.Mathlib.Numerals.{add-one}
 use lib.Dec.{leb, eqb}
 use borrow.Author.Tests.{eq-eqb, ne-eqb, leb-true, lt-ltb, le-ltb}
 use lib.ListN.{length}
+use Rattle.ground.specs.Places.{foundFrom}
+use Rattle.ground.specs.Choice.{on}
 use Rattle.buffer.specs.Bytes.{Bytes, same}
 use Rattle.word.specs.Hex.{hexBytes}
 use Rattle.sector.specs.Sector.{scoreDigits}
@@ -26,7 +28,7 @@ use Rattle.refusal.specs.declared.Refusal.the-variants.{LogLength, BlockType, N
 use Rattle.sector.specs.declared.SectorNumber.{SectorNumber}
 use Rattle.log.specs.declared.Look.{Look}
 use Rattle.log.specs.declared.Look.the-variants.{Found, Refused}
-use Rattle.log.specs.LookUp.{on, blocks, blocksFrom, firstOf, outside, firstDoubtful, mostSectors, logAllowed, held, absence, lookUp, counted, lookUpAsked}
+use Rattle.log.specs.LookUp.{blocks, firstOf, outside, firstDoubtful, mostSectors, logAllowed, held, absence, lookUp, counted, lookUpAsked}
 use Rattle.log.specs.Parts.{tape}
 use Rattle.log.proofs.First.{first-none, first-some}
 use Rattle.log.proofs.Doubt.{Walked, walked-some, doubtful-at, doubt-some}
@@ -72,29 +74,29 @@ other-digits log n t s d x b e f q z = go (soundAs log n t s) refl
         absurd (true≢false (sym (as-digits log n t s r p) ∙ ap (λ (y : Bytes). same (scoreDigits y) (hexBytes s)) (sym e) ∙ ap (same (scoreDigits x)) (sym f) ∙ sym q ∙ z))
 
 -- one turn of the look-up's loop
-module _ (log : Bytes) (n t : ℕ) (s : Bytes) (h : n < sectors (length log)) (inv : firstOf t s (blocksFrom log (sectors (length log) - n) n) ≡ firstOf t s (blocks log)) where
+module _ (log : Bytes) (n t : ℕ) (s : Bytes) (h : n < sectors (length log)) (inv : firstOf t s (foundFrom (sound log) (sectors (length log) - n) n) ≡ firstOf t s (blocks log)) where
   more : sectors (length log) - n ≡ suc (sectors (length log) - (n + 1))
   more = omega arith
 
-  pub find-more : soundAs log n t s ≡ none → firstOf t s (blocksFrom log (sectors (length log) - (n + 1)) (n + 1)) ≡ firstOf t s (blocks log)
+  pub find-more : soundAs log n t s ≡ none → firstOf t s (foundFrom (sound log) (sectors (length log) - (n + 1)) (n + 1)) ≡ firstOf t s (blocks log)
   find-more e =
-      ap (λ (x : ℕ). firstOf t s (blocksFrom log (sectors (length log) - (n + 1)) x)) (add-one n)
+      ap (λ (x : ℕ). firstOf t s (foundFrom (sound log) (sectors (length log) - (n + 1)) x)) (add-one n)
       ∙ sym (first-none log (sectors (length log) - (n + 1)) n t s e)
-      ∙ ap (λ (x : ℕ). firstOf t s (blocksFrom log x n)) (sym more) ∙ inv
+      ∙ ap (λ (x : ℕ). firstOf t s (foundFrom (sound log) x n)) (sym more) ∙ inv
 
   pub find-found : (k : ℕ) → k ≡ sizeOf (soundAs log n t s) → 0 < k → At (record { 0 = n }) k ≡ placeOf (firstOf t s (blocks log))
   find-found k e p =
       let r = sized (soundAs log n t s) k e p in
-      let f : firstOf t s (blocks log) ≡ some (r .0) = sym inv ∙ ap (λ (x : ℕ). firstOf t s (blocksFrom log x n)) more ∙ first-some log (sectors (length log) - (n + 1)) n t s (r .0) (r .1) in
+      let f : firstOf t s (blocks log) ≡ some (r .0) = sym inv ∙ ap (λ (x : ℕ). firstOf t s (foundFrom (sound log) x n)) more ∙ first-some log (sectors (length log) - (n + 1)) n t s (r .0) (r .1) in
       let at-n : n ≡ (r .0) .first = sym ((sound-reads log n (r .0) ((as-reads log n t s (r .0) (r .1)) .0)) .1) in
       rw f (λ i. At (record { 0 = at-n i }) (r .2 i))
 
 pub find-nowhere : (log : Bytes) (n t : ℕ) (s : Bytes) → n ≤ sectors (length log) → sectors (length log) ≤ n
-    → firstOf t s (blocksFrom log (sectors (length log) - n) n) ≡ firstOf t s (blocks log) → Nowhere ≡ placeOf (firstOf t s (blocks log))
-unfolding blocksFrom firstOf
+    → firstOf t s (foundFrom (sound log) (sectors (length log) - n) n) ≡ firstOf t s (blocks log) → Nowhere ≡ placeOf (firstOf t s (blocks log))
+unfolding foundFrom firstOf
 find-nowhere log n t s a b inv =
     let z : sectors (length log) - n ≡ 0 = omega arith in
-    ap placeOf (sym (ap (λ (x : ℕ). firstOf t s (blocksFrom log x n)) z) ∙ inv)
+    ap placeOf (sym (ap (λ (x : ℕ). firstOf t s (foundFrom (sound log) x n)) z) ∙ inv)
 
 -- one turn of the walk for doubt
 abbrev pub Passed : Bytes → ℕ → Type 0

@@ -9,8 +9,8 @@ use lib.Dec.{leb, eqb}
 use borrow.Author.Tests.{leb-true, le-leb, lt-leb, eq-eqb, ne-eqb}
 use lib.ListN.{length, getD, take, drop, length-drop, drop-of-length-le}
 use lib.Seq.{length-take-le, take-nil}
+use Rattle.ground.proofs.Cases.{and-true}
 use Rattle.buffer.specs.Bytes.{Bytes, same, zeros}
-use Rattle.buffer.proofs.Bytes.{and-true}
 use Rattle.word.specs.Number.{beNumber}
 use Rattle.utf8.specs.Grammar.{wellFormedText}
 use Rattle.message.specs.declared.Request.{Request}

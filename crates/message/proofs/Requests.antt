@@ -7,8 +7,9 @@ use native.Mathlib.Omega.{arith}
 use lib.Dec.{leb, eqb}
 use borrow.Author.Tests.{leb-true, eqb-true}
 use lib.ListN.{length, getD, take, drop, length-take, length-drop}
+use Rattle.ground.proofs.Cases.{and-true}
 use Rattle.buffer.specs.Bytes.{Bytes, zeros}
-use Rattle.buffer.proofs.Bytes.{and-true, small-getD, small-take, small-drop}
+use Rattle.buffer.proofs.Bytes.{small-getD, small-take, small-drop}
 use Rattle.word.specs.Number.{beNumber, small}
 use Rattle.word.proofs.NumberLaws.{value-lt}
 use Rattle.message.specs.declared.Request.{Request}

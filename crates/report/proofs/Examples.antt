@@ -3,12 +3,13 @@ use mathlib.Core.Path.{_≡_, refl, ap, _∙_}
 use mathlib.Core.List.{[], _∷_, _++_}
 use native.Mathlib.Omega.{arith}
 use lib.ListN.{replicate}
+use Rattle.ground.specs.Places.{foundFrom}
 use Rattle.buffer.specs.Bytes.{Bytes}
 use Rattle.sector.specs.Sector.{blank}
 use Rattle.word.specs.Hex.{charDigit, readBytes}
 use Rattle.word.specs.Number.{valueFrom}
 use Rattle.block.specs.Log.{at, usedOf, used, soundAs, sound}
-use Rattle.log.specs.LookUp.{mostSectors, blocksFrom, blocks, outside, doubtful}
+use Rattle.log.specs.LookUp.{mostSectors, blocks, outside, doubtful}
 use Rattle.report.specs.Report.{digits, decimal, verdict, textOf, reportText}
 use Rattle.report.proofs.Decimal.{decimal-more}
 
@@ -33,5 +34,5 @@ blank-report : reportText (replicate 1024 0)
     ∷ 100 ∷ 111 ∷ 117 ∷ 98 ∷ 116 ∷ 102 ∷ 117 ∷ 108 ∷ 61 ∷ 48 ∷ 10
     ∷ 118 ∷ 101 ∷ 114 ∷ 100 ∷ 105 ∷ 99 ∷ 116 ∷ 61 ∷ 115 ∷ 111 ∷ 117 ∷ 110 ∷ 100 ∷ 10
     ∷ []
-unfolding reportText textOf decimal digits verdict doubtful outside blocks blocksFrom sound soundAs used usedOf at charDigit valueFrom readBytes
+unfolding reportText textOf decimal digits verdict doubtful outside blocks foundFrom sound soundAs used usedOf at charDigit valueFrom readBytes
 blank-report = refl

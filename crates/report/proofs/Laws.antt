@@ -9,6 +9,8 @@ use native.Mathlib.Nat.{zero-add}
 use lib.Dec.{eqb}
 use borrow.Author.Tests.{ne-eqb, lt-ltb, le-ltb}
 use lib.ListN.{length, set, length-append}
+use Rattle.ground.specs.Places.{foundFrom}
+use Rattle.ground.specs.Choice.{on}
 use Rattle.buffer.specs.Bytes.{Bytes, put}
 use Rattle.buffer.proofs.Put.{length-put, put-next, put-one}
 use Rattle.refusal.specs.declared.Refusal.the-variants.{Buffer, LogLength}
@@ -18,7 +20,7 @@ use Rattle.block.specs.Log.{sectors, used, sound}
 use Rattle.block.proofs.Apart.{sound-used}
 use Rattle.block.proofs.Used.{used-le-sectors}
 use Rattle.reader.specs.Reader.{sizeOf}
-use Rattle.log.specs.LookUp.{on, blocksFrom, blocks, inBlock, outside, doubtful, mostSectors, logAllowed}
+use Rattle.log.specs.LookUp.{blocks, inBlock, outside, doubtful, mostSectors, logAllowed}
 use Rattle.log.proofs.Doubt.{Walked, walked-zero, walked-none, walked-some, doubt-none, doubt-some}
 use Rattle.log.proofs.Records.{records-none, records-some, records-used}
 use Rattle.lookup.proofs.Laws.{sized, none-sound, allowed-sectors}
@@ -138,12 +140,12 @@ text-written d d₁ d₂ d₃ d₄ d₅ count end s a b c e r h w₁ w₂ w₃ w
 pub record Counted (log : Bytes) (n records doubts : ℕ) : Type 0 where
   pub walked : Walked log n
   pub inside : n ≤ used log
-  pub blocks-before : records ≡ length (blocksFrom log n 0)
+  pub blocks-before : records ≡ length (foundFrom (sound log) n 0)
   pub doubts-before : doubts ≡ outside (blocks log) n
   pub few : records + doubts ≤ n
 
 pub counted-zero : (log : Bytes) → Counted log 0 0 0
-unfolding blocksFrom outside
+unfolding foundFrom outside
 counted-zero log = record { walked = walked-zero log; inside = omega arith; blocks-before = refl; doubts-before = refl; few = omega arith }
 
 pub counted-none : (log : Bytes) (n r d k : ℕ) → Counted log n r d → n < used log → k ≡ sizeOf (sound log n) → k ≡ 0 → Counted log (n + 1) r (d + 1)
@@ -178,17 +180,17 @@ pub counted-end : (log : Bytes) (n r d : ℕ) → Counted log n r d → used log
 unfolding doubtful
 counted-end log n r d p h =
     let z : n ≡ used log = omega (arith, p .inside) in
-    let a : r ≡ length (blocks log) = p .blocks-before ∙ ap (λ (x : ℕ). length (blocksFrom log x 0)) z ∙ records-used log in
+    let a : r ≡ length (blocks log) = p .blocks-before ∙ ap (λ (x : ℕ). length (foundFrom (sound log) x 0)) z ∙ records-used log in
     let b : d ≡ outside (blocks log) (used log) = p .doubts-before ∙ ap (outside (blocks log)) z in
     λ i. record { records = a i; doubtful = b i }
 
 -- no more blocks and no more doubtful sectors than sectors
-few-blocks : (log : Bytes) (k n : ℕ) → length (blocksFrom log k n) ≤ k
-unfolding blocksFrom
+few-blocks : (log : Bytes) (k n : ℕ) → length (foundFrom (sound log) k n) ≤ k
+unfolding foundFrom
 few-blocks log zero n = omega arith
 few-blocks log (suc k) n = go (sound log n) refl (few-blocks log k (suc n))
   where
-    go : (o : Option Row) → sound log n ≡ o → length (blocksFrom log k (suc n)) ≤ k → length (blocksFrom log (suc k) n) ≤ suc k
+    go : (o : Option Row) → sound log n ≡ o → length (foundFrom (sound log) k (suc n)) ≤ k → length (foundFrom (sound log) (suc k) n) ≤ suc k
     go none q h = rw q (omega arith)
     go (some r) q h = rw q (omega arith)
 
@@ -220,7 +222,7 @@ module _ (log b : Bytes) where
     report-room end s q e f =
         let k = allowed-sectors (length log) a p q in
         let u = used-le-sectors log in
-        let r : s .records ≡ length (blocksFrom log (sectors (length log)) 0) = ap (λ (x : Survey). x .records) f in
+        let r : s .records ≡ length (foundFrom (sound log) (sectors (length log)) 0) = ap (λ (x : Survey). x .records) f in
         let d : s .doubtful ≡ outside (blocks log) (used log) = ap (λ (x : Survey). x .doubtful) f in
         (h, omega arith, omega arith, omega (arith, few-blocks log (sectors (length log)) 0), omega (arith, few-outside (blocks log) (used log)))
 

@@ -7,6 +7,7 @@ use Prim.Native.Nat.{ℕ, _+_, _*_, _/_, _≤_}
 use native.Mathlib.Omega.{arith}
 use lib.Dec.{ltb}
 use lib.ListN.{length, replicate, length-append}
+use Rattle.ground.proofs.Cases.{cond-ind}
 use Rattle.buffer.specs.Bytes.{Bytes}
 use Rattle.refusal.specs.Number.{numberOf}
 use Rattle.refusal.specs.declared.Refusal.the-variants.{LogLength}
@@ -14,7 +15,6 @@ use Rattle.sector.specs.Sector.{line, lines}
 use Rattle.block.specs.Block.{Row}
 use Rattle.block.specs.Log.{used, sound}
 use Rattle.block.proofs.Apart.{none-past}
-use Rattle.block.proofs.Cases.{cond-ind}
 use Rattle.block.proofs.Facts.{valid-facts}
 use Rattle.block.proofs.Sound.{sound-reads}
 use Rattle.block.proofs.Used.{used-le-sectors}

@@ -6,6 +6,7 @@ use Prim.Native.Nat.{ℕ, _+_, _*_, _/_, _%_, _≤_, _<_}
 use native.Mathlib.Omega.{arith}
 use lib.Dec.{ltb}
 use lib.ListN.{length}
+use Rattle.ground.proofs.Cases.{cond-ind, on-ind}
 use Rattle.buffer.specs.Bytes.{Bytes, same}
 use Rattle.refusal.specs.Number.{numberOf}
 use Rattle.refusal.specs.declared.Refusal.{Refusal}
@@ -19,12 +20,10 @@ use Rattle.message.specs.declared.Request.the-variants.{Ping, Hello, Goodbye, R
 use Rattle.block.specs.Block.{Row}
 use Rattle.block.specs.Log.{sound}
 use Rattle.reader.specs.Reader.{sizeOf}
-use Rattle.block.proofs.Cases.{cond-ind}
 use Rattle.log.specs.LookUp.{held, absence, logAllowed}
 use Rattle.log.specs.Store.{store}
 use Rattle.log.specs.declared.Stored.{Stored}
 use Rattle.log.specs.declared.Stored.the-variants as stored
-use Rattle.log.proofs.Cases.{on-ind}
 use Rattle.report.specs.declared.Reported.{Reported}
 use Rattle.report.specs.declared.Reported.the-variants as told
 use Rattle.archive.specs.Step as steps

@@ -5,10 +5,9 @@ use native.Mathlib.Omega.{arith}
 use lib.Dec.{eqb, ltb}
 use lib.ListN.{length}
 use borrow.Author.Tests.{eqb-false, ltb-false}
+use Rattle.ground.proofs.Cases.{cond-ind, on-ind}
 use Rattle.buffer.specs.Bytes.{Bytes}
-use Rattle.block.proofs.Cases.{cond-ind}
 use Rattle.log.specs.LookUp.{held, logAllowed}
-use Rattle.log.proofs.Cases.{on-ind}
 use Rattle.entry.specs.declared.Entry.{Entry}
 use Rattle.entry.specs.Entry.{entryOf, entryAllowed, scoreOf}
 use Rattle.entry.specs.Root.{rootWellFormed, rootScore}

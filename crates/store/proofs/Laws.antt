@@ -7,6 +7,7 @@ use native.Mathlib.Omega.{arith}
 use lib.Dec.{leb}
 use borrow.Author.Tests.{le-leb, lt-leb}
 use lib.ListN.{length}
+use Rattle.ground.specs.Choice.{on}
 use Rattle.buffer.specs.Bytes.{Bytes, same}
 use Rattle.buffer.proofs.Bytes.{same-false}
 use Rattle.sha1.specs.Sha1.{sha1Of}
@@ -21,7 +22,7 @@ use Rattle.lookup.proofs.Held.{held-stands}
 use Rattle.lookup.specs.Place.{placeOf}
 use Rattle.lookup.specs.declared.Place.{Place}
 use Rattle.lookup.specs.declared.Place.the-variants.{At, Nowhere}
-use Rattle.log.specs.LookUp.{on, held}
+use Rattle.log.specs.LookUp.{held}
 use Rattle.log.specs.Store.{AfterStore, afterStore, receipt, newRow, roomFor, appended, compared, store}
 use Rattle.log.specs.declared.Stored.{Stored}
 use Rattle.log.specs.declared.Stored.the-variants.{New, Duplicate, Refused}

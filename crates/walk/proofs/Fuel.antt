@@ -7,9 +7,10 @@ use native.Mathlib.Omega.{arith}
 use lib.Dec.{eqb, ltb}
 use lib.ListN.{length}
 use borrow.Author.Tests.{eqb-false}
+use Rattle.ground.specs.Choice.{on}
 use Rattle.buffer.specs.Bytes.{Bytes}
 use Rattle.block.specs.Block.{Row}
-use Rattle.log.specs.LookUp.{on, held}
+use Rattle.log.specs.LookUp.{held}
 use Rattle.entry.specs.Entry.{entryOf, scoreOf}
 use Rattle.walk.specs.declared.Walked.{Walked}
 use Rattle.walk.specs.declared.End.{End}

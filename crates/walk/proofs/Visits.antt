@@ -7,6 +7,7 @@ use native.Mathlib.Omega.{arith}
 use lib.Dec.{eqb, ltb}
 use borrow.Author.Tests.{ltb-false, eqb-false, lt-ltb, le-ltb, eq-eqb, ne-eqb}
 use lib.ListN.{length}
+use Rattle.ground.specs.Choice.{on}
 use Rattle.buffer.specs.Bytes.{Bytes, same}
 use Rattle.refusal.specs.declared.Refusal.{Refusal}
 use Rattle.refusal.specs.declared.Refusal.the-variants.{OverCount, Nest, Spent}
@@ -17,7 +18,7 @@ use Rattle.block.specs.Log.{sectors, sound}
 use Rattle.reader.specs.Reader.{bytesAt}
 use Rattle.log.specs.declared.Look.{Look}
 use Rattle.log.specs.declared.Look.the-variants.{Found, Refused}
-use Rattle.log.specs.LookUp.{on, held, absence, lookUp, counted, emptyRow}
+use Rattle.log.specs.LookUp.{held, absence, lookUp, counted, emptyRow}
 use Rattle.lookup.proofs.Held.{held-stands}
 use Rattle.walk.specs.declared.Walked.{Walked}
 use Rattle.walk.specs.declared.Met.{Met}

@@ -5,11 +5,12 @@ use mathlib.Core.List.{_++_}
 use Prim.Native.Nat.{ℕ, zero, suc, _+_, _-_, _*_, _/_, _%_, _≤_}
 use lib.Dec.{eqb, ltb}
 use lib.ListN.{length, take, drop, replicate}
+use Rattle.ground.specs.Choice.{on}
 use Rattle.buffer.specs.Bytes.{Bytes}
 use Rattle.refusal.specs.declared.Refusal.the-variants.{LogLength, OverCount, Entry as IllFormed, Pointers, Nest, Spent, Allowance}
 use Rattle.refusal.specs.Number.{numberOf}
 use Rattle.block.specs.Block.{Row}
-use Rattle.log.specs.LookUp.{on, held, absence, logAllowed}
+use Rattle.log.specs.LookUp.{held, absence, logAllowed}
 use Rattle.entry.specs.declared.Entry.{Entry}
 use Rattle.entry.specs.Entry.{entryOf, entryAllowed, scoreOf}
 use Rattle.entry.specs.Root.{rootWellFormed, rootScore}

@@ -9,14 +9,11 @@ use lib.Dec.{ltb}
 use lib.Arith.{digits-div, digits-mod, digits-lt as digit-lt}
 use borrow.Author.Tests.{ltb-true, lt-ltb}
 use lib.ListN.{length, take, drop, replicate, length-append}
+use Rattle.ground.proofs.Cases.{and-true}
 use Rattle.word.specs.Number.{digits, valueFrom, Below, below}
 use Rattle.word.specs.Laws.{ValueOfDigits, DigitsOfValue}
 
 -- ---- every element below b: the fact and the test
-
-pub and-true : (p q : Bool) → (p && q) ≡ true → (p ≡ true) × (q ≡ true)
-and-true true q e = (refl, e)
-and-true false q e = absurd (false≢true e)
 
 pub below-test : (b : ℕ) (s : List ℕ) → Below b s → below b s ≡ true
 below-test b [] h = refl

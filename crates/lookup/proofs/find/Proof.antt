@@ -5,11 +5,12 @@ use Prim.Native.Nat.{ℕ, _-_, _≤_}
 use native.Mathlib.Nat.{sub-zero}
 use native.Mathlib.Omega.{arith}
 use lib.ListN.{length}
+use Rattle.ground.specs.Places.{foundFrom}
 use Rattle.word.specs.Hex.{hexBytes}
-use Rattle.block.specs.Log.{sectors, joined}
+use Rattle.block.specs.Log.{sectors, joined, sound}
 use Rattle.block.proofs.At.{length-at}
 use Rattle.block.proofs.Joined.{sectors-joined}
-use Rattle.log.specs.LookUp.{blocks, blocksFrom, firstOf}
+use Rattle.log.specs.LookUp.{blocks, firstOf}
 use Rattle.lookup.proofs.Laws.{none-as, other-digits, find-more, find-found, find-nowhere}
 use borrow.Author.Needs.{needs}
 use Rattle.lookup.proofs.find.Statement.{statement}
@@ -21,7 +22,7 @@ Inv-loop log end waiting kind score digits count n₀ n =
     (n ≤ count)
     × (count ≡ sectors (length both))
     × (digits ≡ hexBytes score)
-    × (firstOf kind score (blocksFrom both (sectors (length both) - n) n) ≡ firstOf kind score (blocks both))
+    × (firstOf kind score (foundFrom (sound both) (sectors (length both) - n) n) ≡ firstOf kind score (blocks both))
 
 abbrev μ-loop : tie.MeasureT-loop
 μ-loop log end waiting kind score digits count n₀ n = count - n
@@ -44,7 +45,7 @@ loop-holds c =
       omega arith,
       omega (arith, e),
       c .before .before .put-hex-bytes .ensures,
-      ap (λ (k : ℕ). firstOf (a .kind) (a .score .now) (blocksFrom log k 0)) (sub-zero (sectors (length log))),
+      ap (λ (k : ℕ). firstOf (a .kind) (a .score .now) (foundFrom (sound log) k 0)) (sub-zero (sectors (length log))),
     )
 
 sector-at-requires : tie.Need-sector-at-requires Inv-loop μ-loop

@@ -6,7 +6,7 @@ use lib.ListN.{length}
 use Rattle.word.specs.Hex.{hexBytes}
 use Rattle.block.specs.Log.{sectors, used}
 use Rattle.block.proofs.Used.{used-le-sectors}
-use Rattle.log.specs.LookUp.{blocks, blocksFrom, firstOf, outside}
+use Rattle.log.specs.LookUp.{blocks, firstOf, outside}
 use Rattle.log.proofs.Doubt.{walked-zero}
 use Rattle.lookup.proofs.Laws.{ragged, whole, none-as, other-digits, find-more, find-found, find-nowhere, Passed, walk-stops, walk-on, walk-ends}
 use borrow.Author.Needs.{needs}
