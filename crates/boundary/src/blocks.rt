@@ -7,7 +7,7 @@ ghost use lib.ListN.{length};
 ghost use Rattle.kind.specs.Kind.{wireType};
 ghost use Rattle.cut.specs.Cut.{cutOf};
 ghost use Rattle.cut.specs.Pad.{padOf};
-ghost use Rattle.results.specs.Blocks.{typeResult, cutResult, padNumber, padding, padResult};
+ghost use Rattle.results.specs.Blocks.{typeResult, cutResult, padNumber, paddedBuffer, padResult};
 
 // The block type of a number of the enumeration: 256 times the type, or the number of the refusal.
 #[no_mangle]
@@ -22,10 +22,10 @@ pub extern "C" fn skywimple_block_type(e: u64) -> u32
 }
 
 // The number of a padding: 0 where it is done.
-fn pad_number(padding: Padded) -> u32
-    ensures { λ r. ⌜ r ≡ padNumber padding ⌝ }
+fn pad_number(padded: Padded) -> u32
+    ensures { λ r. ⌜ r ≡ padNumber padded ⌝ }
 {
-    match padding {
+    match padded {
         Padded::Done => 0,
         Padded::Refused(why) => refusal::number(why) as u32,
     }
@@ -34,7 +34,7 @@ fn pad_number(padding: Padded) -> u32
 // Pads the block of `len` bytes at the front of the buffer to the target. The result is the number of the refusal, 0 for none.
 #[no_mangle]
 pub extern "C" fn skywimple_pad(kind: u8, buffer: &mut [u8], len: usize, target: usize) -> u32
-    ensures { λ r. ⌜ padding r (now (buffer .exit)) ≡ padResult (padOf kind (now (buffer .entry)) len target) ⌝ }
+    ensures { λ r. ⌜ paddedBuffer r (now (buffer .exit)) ≡ padResult (padOf kind (now (buffer .entry)) len target) ⌝ }
 {
     pad_number(cut::pad(kind, buffer, len, target))
 }

@@ -10,7 +10,7 @@ use Rattle.cut.specs.declared.Padded.{Padded}
 use Rattle.cut.specs.Cut.{cutOf}
 use Rattle.cut.specs.Pad.{AfterPad, afterPad}
 use Rattle.cut.proofs.CutAndPad.{cut-never-longer}
-use Rattle.results.specs.Blocks.{cutResult, padNumber, padding, padResult}
+use Rattle.results.specs.Blocks.{cutResult, padNumber, paddedBuffer, padResult}
 use Rattle.results.proofs.Numbers.{number-bounds}
 
 -- a caller tells the two results of cutting apart: a length is at most the block's, a refusal is more
@@ -21,5 +21,5 @@ module _ (kind : ℕ) (b : Bytes) where
   pub cut-refused : (w : Refusal) → cutOf kind b ≡ Refused w → length b < cutResult (length b) (cutOf kind b)
   cut-refused w e = rw e (omega (arith, (number-bounds w) .0))
 
-pub padded-so : (a : Padded) (b : Bytes) (o : AfterPad) (k : ℕ) → afterPad a b ≡ o → k ≡ padNumber a → padding k b ≡ padResult o
-padded-so a b o k e f = ap (λ (x : ℕ). padding x b) f ∙ ap padResult e
+pub padded-so : (a : Padded) (b : Bytes) (o : AfterPad) (k : ℕ) → afterPad a b ≡ o → k ≡ padNumber a → paddedBuffer k b ≡ padResult o
+padded-so a b o k e f = ap (λ (x : ℕ). paddedBuffer x b) f ∙ ap padResult e

@@ -30,8 +30,8 @@ pub record Padding : Type 0 where
   pub result : ℕ
   pub buffer : Bytes
 
-abbrev pub padding : ℕ → Bytes → Padding
-padding r b = record { result = r; buffer = b }
+abbrev pub paddedBuffer : ℕ → Bytes → Padding
+paddedBuffer r b = record { result = r; buffer = b }
 
 abbrev pub padResult : AfterPad → Padding
-padResult a = padding (padNumber (a .answer)) (a .buffer)
+padResult a = paddedBuffer (padNumber (a .answer)) (a .buffer)
