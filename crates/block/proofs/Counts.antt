@@ -1,14 +1,13 @@
 -- The table of sector counts is what the definitions say.
 use mathlib.Core.Path.{_≡_, refl}
-use mathlib.Core.List.{map}
 use Prim.Native.Nat.{_-_, _*_}
 use lib.ListN.{length, drop, length-drop}
 use Rattle.buffer.specs.Bytes.{Bytes}
 use Rattle.word.specs.Hex.{digitChar, hex}
 use Rattle.block.specs.Block.{partsOf}
-use Rattle.block.specs.Counts.{Count, table, countOf}
+use Rattle.block.specs.Counts.{countOf, Counts}
 
-pub counts : map (λ (c : Count). countOf (c .size)) table ≡ table
+pub counts : Counts
 unfolding partsOf hex digitChar
 counts = refl
 

@@ -1,5 +1,6 @@
 -- "403 bytes take 1 sector, 404 take 2, 57,344 take 143 (of=008f, last payload 118)": the table, and what the definitions say.
-use mathlib.Core.List.{List, [], _∷_}
+use mathlib.Core.Path.{_≡_}
+use mathlib.Core.List.{List, [], _∷_, map}
 use Prim.Native.Nat.{ℕ, _-_, _*_}
 use Rattle.buffer.specs.Bytes.{Bytes}
 use Rattle.word.specs.Hex.{hex}
@@ -26,3 +27,7 @@ table =
 -- the same of a size, by the definitions: before the last payload each has 403 bytes
 abbrev pub countOf : ℕ → Count
 countOf size = count size (partsOf size) (hex 4 (partsOf size)) (size - 403 * (partsOf size - 1))
+
+-- the definitions give the table
+abbrev pub Counts : Type 0
+Counts = map (λ (c : Count). countOf (c .size)) table ≡ table

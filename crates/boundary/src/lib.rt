@@ -6,7 +6,7 @@ pub mod tree;
 
 use archive::Session;
 ghost use mathlib.Core.Path.{_≡_};
-ghost use Rattle.crc32.specs.Crc32.{crc32Of};
+ghost use Rattle.crc32_rule.specs.Crc32.{crc32Of};
 ghost use Rattle.archive.specs.Step.{step};
 ghost use Rattle.boundary.specs.Digest.{digestNumber, digestBuffer};
 ghost use Rattle.results.specs.Serve.{sessionOf, sessionNumber, served, servedOf};

@@ -1,611 +1,74 @@
-// CRC-32 of IEEE 802.3, eight bytes at once by a table of their hexadecimal digits, and what is left by a table of bytes.
+// CRC-32 of IEEE 802.3, sixteen bytes at once, and what is left eight at once and one by one.
 ghost use mathlib.Core.Path.{_≡_};
-ghost use Prim.Native.Nat.{_+_, _%_, _≤_};
-ghost use lib.Bits.{bitXor};
-ghost use lib.ListN.{length, take, drop};
-ghost use Rattle.crc32.specs.Crc32.{bits, byte, feed, crc32Of, table};
-ghost use Rattle.crc32.specs.Burst.{pack};
-ghost use Rattle.crc32.specs.Digits.{rows};
-
-// Entry k is the register after the byte k, from 0.
-const TABLE: [u32; 256] = [
-    0x00000000,
-    0x77073096,
-    0xee0e612c,
-    0x990951ba,
-    0x076dc419,
-    0x706af48f,
-    0xe963a535,
-    0x9e6495a3,
-    0x0edb8832,
-    0x79dcb8a4,
-    0xe0d5e91e,
-    0x97d2d988,
-    0x09b64c2b,
-    0x7eb17cbd,
-    0xe7b82d07,
-    0x90bf1d91,
-    0x1db71064,
-    0x6ab020f2,
-    0xf3b97148,
-    0x84be41de,
-    0x1adad47d,
-    0x6ddde4eb,
-    0xf4d4b551,
-    0x83d385c7,
-    0x136c9856,
-    0x646ba8c0,
-    0xfd62f97a,
-    0x8a65c9ec,
-    0x14015c4f,
-    0x63066cd9,
-    0xfa0f3d63,
-    0x8d080df5,
-    0x3b6e20c8,
-    0x4c69105e,
-    0xd56041e4,
-    0xa2677172,
-    0x3c03e4d1,
-    0x4b04d447,
-    0xd20d85fd,
-    0xa50ab56b,
-    0x35b5a8fa,
-    0x42b2986c,
-    0xdbbbc9d6,
-    0xacbcf940,
-    0x32d86ce3,
-    0x45df5c75,
-    0xdcd60dcf,
-    0xabd13d59,
-    0x26d930ac,
-    0x51de003a,
-    0xc8d75180,
-    0xbfd06116,
-    0x21b4f4b5,
-    0x56b3c423,
-    0xcfba9599,
-    0xb8bda50f,
-    0x2802b89e,
-    0x5f058808,
-    0xc60cd9b2,
-    0xb10be924,
-    0x2f6f7c87,
-    0x58684c11,
-    0xc1611dab,
-    0xb6662d3d,
-    0x76dc4190,
-    0x01db7106,
-    0x98d220bc,
-    0xefd5102a,
-    0x71b18589,
-    0x06b6b51f,
-    0x9fbfe4a5,
-    0xe8b8d433,
-    0x7807c9a2,
-    0x0f00f934,
-    0x9609a88e,
-    0xe10e9818,
-    0x7f6a0dbb,
-    0x086d3d2d,
-    0x91646c97,
-    0xe6635c01,
-    0x6b6b51f4,
-    0x1c6c6162,
-    0x856530d8,
-    0xf262004e,
-    0x6c0695ed,
-    0x1b01a57b,
-    0x8208f4c1,
-    0xf50fc457,
-    0x65b0d9c6,
-    0x12b7e950,
-    0x8bbeb8ea,
-    0xfcb9887c,
-    0x62dd1ddf,
-    0x15da2d49,
-    0x8cd37cf3,
-    0xfbd44c65,
-    0x4db26158,
-    0x3ab551ce,
-    0xa3bc0074,
-    0xd4bb30e2,
-    0x4adfa541,
-    0x3dd895d7,
-    0xa4d1c46d,
-    0xd3d6f4fb,
-    0x4369e96a,
-    0x346ed9fc,
-    0xad678846,
-    0xda60b8d0,
-    0x44042d73,
-    0x33031de5,
-    0xaa0a4c5f,
-    0xdd0d7cc9,
-    0x5005713c,
-    0x270241aa,
-    0xbe0b1010,
-    0xc90c2086,
-    0x5768b525,
-    0x206f85b3,
-    0xb966d409,
-    0xce61e49f,
-    0x5edef90e,
-    0x29d9c998,
-    0xb0d09822,
-    0xc7d7a8b4,
-    0x59b33d17,
-    0x2eb40d81,
-    0xb7bd5c3b,
-    0xc0ba6cad,
-    0xedb88320,
-    0x9abfb3b6,
-    0x03b6e20c,
-    0x74b1d29a,
-    0xead54739,
-    0x9dd277af,
-    0x04db2615,
-    0x73dc1683,
-    0xe3630b12,
-    0x94643b84,
-    0x0d6d6a3e,
-    0x7a6a5aa8,
-    0xe40ecf0b,
-    0x9309ff9d,
-    0x0a00ae27,
-    0x7d079eb1,
-    0xf00f9344,
-    0x8708a3d2,
-    0x1e01f268,
-    0x6906c2fe,
-    0xf762575d,
-    0x806567cb,
-    0x196c3671,
-    0x6e6b06e7,
-    0xfed41b76,
-    0x89d32be0,
-    0x10da7a5a,
-    0x67dd4acc,
-    0xf9b9df6f,
-    0x8ebeeff9,
-    0x17b7be43,
-    0x60b08ed5,
-    0xd6d6a3e8,
-    0xa1d1937e,
-    0x38d8c2c4,
-    0x4fdff252,
-    0xd1bb67f1,
-    0xa6bc5767,
-    0x3fb506dd,
-    0x48b2364b,
-    0xd80d2bda,
-    0xaf0a1b4c,
-    0x36034af6,
-    0x41047a60,
-    0xdf60efc3,
-    0xa867df55,
-    0x316e8eef,
-    0x4669be79,
-    0xcb61b38c,
-    0xbc66831a,
-    0x256fd2a0,
-    0x5268e236,
-    0xcc0c7795,
-    0xbb0b4703,
-    0x220216b9,
-    0x5505262f,
-    0xc5ba3bbe,
-    0xb2bd0b28,
-    0x2bb45a92,
-    0x5cb36a04,
-    0xc2d7ffa7,
-    0xb5d0cf31,
-    0x2cd99e8b,
-    0x5bdeae1d,
-    0x9b64c2b0,
-    0xec63f226,
-    0x756aa39c,
-    0x026d930a,
-    0x9c0906a9,
-    0xeb0e363f,
-    0x72076785,
-    0x05005713,
-    0x95bf4a82,
-    0xe2b87a14,
-    0x7bb12bae,
-    0x0cb61b38,
-    0x92d28e9b,
-    0xe5d5be0d,
-    0x7cdcefb7,
-    0x0bdbdf21,
-    0x86d3d2d4,
-    0xf1d4e242,
-    0x68ddb3f8,
-    0x1fda836e,
-    0x81be16cd,
-    0xf6b9265b,
-    0x6fb077e1,
-    0x18b74777,
-    0x88085ae6,
-    0xff0f6a70,
-    0x66063bca,
-    0x11010b5c,
-    0x8f659eff,
-    0xf862ae69,
-    0x616bffd3,
-    0x166ccf45,
-    0xa00ae278,
-    0xd70dd2ee,
-    0x4e048354,
-    0x3903b3c2,
-    0xa7672661,
-    0xd06016f7,
-    0x4969474d,
-    0x3e6e77db,
-    0xaed16a4a,
-    0xd9d65adc,
-    0x40df0b66,
-    0x37d83bf0,
-    0xa9bcae53,
-    0xdebb9ec5,
-    0x47b2cf7f,
-    0x30b5ffe9,
-    0xbdbdf21c,
-    0xcabac28a,
-    0x53b39330,
-    0x24b4a3a6,
-    0xbad03605,
-    0xcdd70693,
-    0x54de5729,
-    0x23d967bf,
-    0xb3667a2e,
-    0xc4614ab8,
-    0x5d681b02,
-    0x2a6f2b94,
-    0xb40bbe37,
-    0xc30c8ea1,
-    0x5a05df1b,
-    0x2d02ef8d,
-];
-
-// Entry 16 * j + k is the register after eight bytes, from 0, whose number has k as its hexadecimal digit j, the
-// lowest first, and no other digits.
-const DIGITS: [u32; 256] = [
-    0x00000000,
-    0xccaa009e,
-    0x4225077d,
-    0x8e8f07e3,
-    0x844a0efa,
-    0x48e00e64,
-    0xc66f0987,
-    0x0ac50919,
-    0xd3e51bb5,
-    0x1f4f1b2b,
-    0x91c01cc8,
-    0x5d6a1c56,
-    0x57af154f,
-    0x9b0515d1,
-    0x158a1232,
-    0xd92012ac,
-    0x00000000,
-    0x7cbb312b,
-    0xf9766256,
-    0x85cd537d,
-    0x299dc2ed,
-    0x5526f3c6,
-    0xd0eba0bb,
-    0xac509190,
-    0x533b85da,
-    0x2f80b4f1,
-    0xaa4de78c,
-    0xd6f6d6a7,
-    0x7aa64737,
-    0x061d761c,
-    0x83d02561,
-    0xff6b144a,
-    0x00000000,
-    0xa6770bb4,
-    0x979f1129,
-    0x31e81a9d,
-    0xf44f2413,
-    0x52382fa7,
-    0x63d0353a,
-    0xc5a73e8e,
-    0x33ef4e67,
-    0x959845d3,
-    0xa4705f4e,
-    0x020754fa,
-    0xc7a06a74,
-    0x61d761c0,
-    0x503f7b5d,
-    0xf64870e9,
-    0x00000000,
-    0x67de9cce,
-    0xcfbd399c,
-    0xa863a552,
-    0x440b7579,
-    0x23d5e9b7,
-    0x8bb64ce5,
-    0xec68d02b,
-    0x8816eaf2,
-    0xefc8763c,
-    0x47abd36e,
-    0x20754fa0,
-    0xcc1d9f8b,
-    0xabc30345,
-    0x03a0a617,
-    0x647e3ad9,
-    0x00000000,
-    0xcb5cd3a5,
-    0x4dc8a10b,
-    0x869472ae,
-    0x9b914216,
-    0x50cd91b3,
-    0xd659e31d,
-    0x1d0530b8,
-    0xec53826d,
-    0x270f51c8,
-    0xa19b2366,
-    0x6ac7f0c3,
-    0x77c2c07b,
-    0xbc9e13de,
-    0x3a0a6170,
-    0xf156b2d5,
-    0x00000000,
-    0x03d6029b,
-    0x07ac0536,
-    0x047a07ad,
-    0x0f580a6c,
-    0x0c8e08f7,
-    0x08f40f5a,
-    0x0b220dc1,
-    0x1eb014d8,
-    0x1d661643,
-    0x191c11ee,
-    0x1aca1375,
-    0x11e81eb4,
-    0x123e1c2f,
-    0x16441b82,
-    0x15921919,
-    0x00000000,
-    0x3d6029b0,
-    0x7ac05360,
-    0x47a07ad0,
-    0xf580a6c0,
-    0xc8e08f70,
-    0x8f40f5a0,
-    0xb220dc10,
-    0x30704bc1,
-    0x0d106271,
-    0x4ab018a1,
-    0x77d03111,
-    0xc5f0ed01,
-    0xf890c4b1,
-    0xbf30be61,
-    0x825097d1,
-    0x00000000,
-    0x60e09782,
-    0xc1c12f04,
-    0xa121b886,
-    0x58f35849,
-    0x3813cfcb,
-    0x9932774d,
-    0xf9d2e0cf,
-    0xb1e6b092,
-    0xd1062710,
-    0x70279f96,
-    0x10c70814,
-    0xe915e8db,
-    0x89f57f59,
-    0x28d4c7df,
-    0x4834505d,
-    0x00000000,
-    0xb8bc6765,
-    0xaa09c88b,
-    0x12b5afee,
-    0x8f629757,
-    0x37def032,
-    0x256b5fdc,
-    0x9dd738b9,
-    0xc5b428ef,
-    0x7d084f8a,
-    0x6fbde064,
-    0xd7018701,
-    0x4ad6bfb8,
-    0xf26ad8dd,
-    0xe0df7733,
-    0x58631056,
-    0x00000000,
-    0x5019579f,
-    0xa032af3e,
-    0xf02bf8a1,
-    0x9b14583d,
-    0xcb0d0fa2,
-    0x3b26f703,
-    0x6b3fa09c,
-    0xed59b63b,
-    0xbd40e1a4,
-    0x4d6b1905,
-    0x1d724e9a,
-    0x764dee06,
-    0x2654b999,
-    0xd67f4138,
-    0x866616a7,
-    0x00000000,
-    0x01c26a37,
-    0x0384d46e,
-    0x0246be59,
-    0x0709a8dc,
-    0x06cbc2eb,
-    0x048d7cb2,
-    0x054f1685,
-    0x0e1351b8,
-    0x0fd13b8f,
-    0x0d9785d6,
-    0x0c55efe1,
-    0x091af964,
-    0x08d89353,
-    0x0a9e2d0a,
-    0x0b5c473d,
-    0x00000000,
-    0x1c26a370,
-    0x384d46e0,
-    0x246be590,
-    0x709a8dc0,
-    0x6cbc2eb0,
-    0x48d7cb20,
-    0x54f16850,
-    0xe1351b80,
-    0xfd13b8f0,
-    0xd9785d60,
-    0xc55efe10,
-    0x91af9640,
-    0x8d893530,
-    0xa9e2d0a0,
-    0xb5c473d0,
-    0x00000000,
-    0x191b3141,
-    0x32366282,
-    0x2b2d53c3,
-    0x646cc504,
-    0x7d77f445,
-    0x565aa786,
-    0x4f4196c7,
-    0xc8d98a08,
-    0xd1c2bb49,
-    0xfaefe88a,
-    0xe3f4d9cb,
-    0xacb54f0c,
-    0xb5ae7e4d,
-    0x9e832d8e,
-    0x87981ccf,
-    0x00000000,
-    0x4ac21251,
-    0x958424a2,
-    0xdf4636f3,
-    0xf0794f05,
-    0xbabb5d54,
-    0x65fd6ba7,
-    0x2f3f79f6,
-    0x3b83984b,
-    0x71418a1a,
-    0xae07bce9,
-    0xe4c5aeb8,
-    0xcbfad74e,
-    0x8138c51f,
-    0x5e7ef3ec,
-    0x14bce1bd,
-    0x00000000,
-    0x77073096,
-    0xee0e612c,
-    0x990951ba,
-    0x076dc419,
-    0x706af48f,
-    0xe963a535,
-    0x9e6495a3,
-    0x0edb8832,
-    0x79dcb8a4,
-    0xe0d5e91e,
-    0x97d2d988,
-    0x09b64c2b,
-    0x7eb17cbd,
-    0xe7b82d07,
-    0x90bf1d91,
-    0x00000000,
-    0x1db71064,
-    0x3b6e20c8,
-    0x26d930ac,
-    0x76dc4190,
-    0x6b6b51f4,
-    0x4db26158,
-    0x5005713c,
-    0xedb88320,
-    0xf00f9344,
-    0xd6d6a3e8,
-    0xcb61b38c,
-    0x9b64c2b0,
-    0x86d3d2d4,
-    0xa00ae278,
-    0xbdbdf21c,
-];
-
-// The register after one more byte. The table is lent: a function that names TABLE puts all of it on
-// its stack at each call.
-fn next(t: &[u32; 256], c: u32, b: u8) -> u32
-    requires { ⌜ now t ≡ table ⌝ }
-    ensures { λ r. ⌜ r ≡ byte c b ⌝ }
-{
-    let x = c ^ (b as u32);
-    (x >> 8) ^ t[(x & 255) as usize]
-}
+ghost use Prim.Native.Nat.{_%_};
+ghost use lib.ListN.{length};
+ghost use Rattle.crc32_rule.specs.Crc32.{feed, crc32Of};
+ghost use Rattle.crc32_tables.specs.Digits.{rows};
 
 // The register after the bytes s, from the register c, one by one.
 fn update(c: u32, s: &[u8]) -> u32
     ensures { λ r. ⌜ r ≡ feed c (now (s .entry)) ⌝ }
 {
-    let t = TABLE;
+    let t = crc32_tables::bytes::table();
     let mut r = c;
     let mut i = 0;
     while i < s.len() {
-        r = next(&t, r, s[i]);
+        r = crc32_steps::next(&t, r, s[i]);
         i += 1;
     }
     r
 }
 
-// The number of the four bytes from i on, the first one the lowest.
-fn half(s: &[u8], i: usize) -> u32
-    requires { ⌜ i + 4 ≤ length (now s) ⌝ }
-    ensures { λ r. ⌜ r ≡ pack (take 4 (drop i (now (s .entry)))) ⌝ }
-{
-    (((s[i + 3] as u32) * 256 + (s[i + 2] as u32)) * 256 + (s[i + 1] as u32)) * 256 + (s[i] as u32)
-}
-
-// The number of the eight bytes from i on, the first one the lowest.
-fn number(s: &[u8], i: usize) -> u64
-    requires { ⌜ i + 8 ≤ length (now s) ⌝ }
-    ensures { λ r. ⌜ r ≡ pack (take 8 (drop i (now (s .entry)))) ⌝ }
-{
-    let high = half(s, i + 4);
-    let low = half(s, i);
-    (high as u64) * 0x1_0000_0000 + (low as u64)
-}
-
-// The register after eight bytes, from the register c, where v is their number. The digits from the
-// highest down: those that wait for the register come last.
-fn eight(t: &[u32; 256], c: u32, v: u64) -> u32
-    requires { ⌜ now t ≡ rows 16 ⌝ }
-    ensures { λ r. ⌜ r ≡ bits 64 (bitXor v c) ⌝ }
-{
-    let x = v ^ (c as u64);
-    let mut r = 0u32;
-    let mut j = 16;
-    while j > 0 {
-        j -= 1;
-        r = r ^ t[16 * j + ((x >> (4 * j)) % 16) as usize];
-    }
-    r
-}
-
 // The register after the bytes s, from the register c, eight at a time.
-fn eights(c: u32, s: &[u8]) -> u32
-    requires { ⌜ length (now s) % 8 ≡ 0 ⌝ }
+fn eights(high: &[u32; 256], c: u32, s: &[u8]) -> u32
+    requires { ⌜ (now high ≡ rows 0 16) × (length (now s) % 8 ≡ 0) ⌝ }
     ensures { λ r. ⌜ r ≡ feed c (now (s .entry)) ⌝ }
 {
-    let t = DIGITS;
     let mut r = c;
     let mut i = 0;
     while i < s.len() {
-        r = eight(&t, r, number(s, i));
+        r = crc32_steps::eight(high, r, crc32_steps::number(s, i));
         i += 8;
     }
     r
 }
 
-// The CRC-32 of s.
+// The register after the bytes s, from the register c: whole eights, and what is left one by one.
+fn rest(high: &[u32; 256], c: u32, s: &[u8]) -> u32
+    requires { ⌜ now high ≡ rows 0 16 ⌝ }
+    ensures { λ r. ⌜ r ≡ feed c (now (s .entry)) ⌝ }
+{
+    let whole = s.len() / 8 * 8;
+    let r = eights(high, c, &s[..whole]);
+    update(r, &s[whole..])
+}
+
+// The register after the bytes s, from the register c, sixteen at a time.
+fn sixteens(high: &[u32; 256], c: u32, s: &[u8]) -> u32
+    requires { ⌜ (now high ≡ rows 0 16) × (length (now s) % 16 ≡ 0) ⌝ }
+    ensures { λ r. ⌜ r ≡ feed c (now (s .entry)) ⌝ }
+{
+    let low = crc32_tables::digits::low();
+    let mut r = c;
+    let mut i = 0;
+    while i < s.len() {
+        let first = crc32_steps::number(s, i);
+        let last = crc32_steps::number(s, i + 8);
+        r = crc32_steps::sixteen(&low, high, r, first, last);
+        i += 16;
+    }
+    r
+}
+
+// The CRC-32 of s. Below 128 bytes a second table of digits costs more than it gains.
 pub fn crc32(s: &[u8]) -> u32
     ensures { λ r. ⌜ r ≡ crc32Of (now (s .entry)) ⌝ }
 {
-    let whole = s.len() / 8 * 8;
-    let r = eights(0xffff_ffff, &s[..whole]);
-    update(r, &s[whole..]) ^ 0xffff_ffff
+    let high = crc32_tables::digits::high();
+    if s.len() < 128 {
+        return rest(&high, 0xffff_ffff, s) ^ 0xffff_ffff;
+    }
+    let whole = s.len() / 16 * 16;
+    let r = sixteens(&high, 0xffff_ffff, &s[..whole]);
+    rest(&high, r, &s[whole..]) ^ 0xffff_ffff
 }

@@ -1,4 +1,4 @@
--- After every history the log reflects the ledger: the one step from the invariant to whole histories.
+-- What holds of every history: the log reflects the ledger, and the ledger before and after the damage.
 use mathlib.Core.Path.{_≡_}
 use mathlib.Core.List.{[]}
 use Rattle.ledger.specs.Ledger.{Ledger, told}
@@ -7,15 +7,15 @@ use Rattle.ledger.specs.History.{Books, blank-books, harmed-books, first-books}
 use Rattle.ledger.proofs.Lists.{Stands, changed-after}
 use Rattle.ledger.proofs.After.{reflects-clean, stands-hurt, second-list}
 use Rattle.demands.specs.Instance.{archive}
-use Rattle.demands.specs.Histories.{History, cleanLog, atDamage, logOf, ledgerOf, Keeps}
+use Rattle.demands.specs.Histories.{History, cleanLog, atDamage, logOf, ledgerOf, Reflected, Keeps}
 use Rattle.demands.proofs.Laws.{lawful}
 use Rattle.demands.proofs.Lost.{Single, single-after, single-empty}
 use Rattle.demands.proofs.Keeps.{list-keeps}
 
-module _ (h : History) where
-  pub reflected : Reflects archive (logOf h) (ledgerOf h)
-  reflected = second-list archive lawful (h .size) (h .before) (h .before-of-bytes) (h .changed) (h .hurt) (h .damage) (h .later) (h .later-of-bytes) .left .mirrors
+pub reflected : Reflected
+reflected h = second-list archive lawful (h .size) (h .before) (h .before-of-bytes) (h .changed) (h .hurt) (h .damage) (h .later) (h .later-of-bytes) .left .mirrors
 
+module _ (h : History) where
   -- the books when the damage has been told
   abbrev pub toldBooks : Books archive
   toldBooks = harmed-books archive (h .changed) (h .hurt) (first-books archive (h .size) (h .before))

@@ -14,6 +14,7 @@ use Rattle.block.specs.Block.{Row}
 use Rattle.log.specs.LookUp.{held}
 use Rattle.archive.specs.declared.Session.{Session}
 use Rattle.ledger.specs.Ledger.{Ledger, told, hit}
+use Rattle.ledger.specs.Reflects.{Reflects}
 use Rattle.ledger.specs.Trace.{trace}
 use Rattle.ledger.specs.History.{Item, AllOfBytes, Damage, Standing, answer, harmed, first-log, first-books, second-log, second-books}
 use Rattle.demands.specs.Instance.{archive}
@@ -48,6 +49,10 @@ module _ (h : History) where
 
   abbrev pub ledgerOf : Ledger archive
   ledgerOf = second-books archive (h .size) (h .before) (h .changed) (h .hurt) (h .later) .ledger
+
+-- after every history the log reflects the ledger: the one step from the invariant to whole histories
+abbrev pub Reflected : Type 0
+Reflected = (h : History) → Reflects archive (logOf h) (ledgerOf h)
 
 -- the log after further requests, which may go on from sessions `past`
 abbrev pub afterwards : Bytes → List Session → List (Item archive) → Bytes

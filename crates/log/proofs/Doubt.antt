@@ -16,6 +16,7 @@ use Rattle.block.proofs.Sound.{sound-reads}
 use Rattle.block.proofs.Apart.{none-inside}
 use Rattle.log.specs.LookUp.{blocks, inBlock, outside, doubtful}
 use Rattle.ground.proofs.Places.{within-in, within-before, within-after}
+use Rattle.log.specs.Laws.{Walked, DoubtNone, DoubtSome}
 use Rattle.log.proofs.Blocks.{blocks-in, blocks-out}
 use Rattle.log.proofs.InBlock.{covers, in-none, in-some, outside-in, outside-out, outside-mono}
 
@@ -27,21 +28,17 @@ clash log m n r h e f =
     omega arith
 
 module _ (log : Bytes) where
-  -- the pass stands at n: no block that starts before reaches past it
-  abbrev pub Walked : ℕ → Type 0
-  Walked n = (m : ℕ) (r : Row) → m < n → sound log m ≡ some r → m + parts r ≤ n
-
-  pub walked-zero : Walked 0
+  pub walked-zero : Walked log 0
   walked-zero m r h e = absurd (omega arith)
 
-  pub walked-none : (n : ℕ) → Walked n → sound log n ≡ none → Walked (n + 1)
+  pub walked-none : (n : ℕ) → Walked log n → sound log n ≡ none → Walked log (n + 1)
   walked-none n w e m r h f = go (eqb m n) refl
     where
       go : (b : Bool) → eqb m n ≡ b → m + parts r ≤ n + 1
       go true q = absurd (clash log m n r (eqb-true m n q) e f)
       go false q = omega (arith, w m r (omega (arith, eqb-false m n q)) f)
 
-  pub walked-some : (n : ℕ) (r : Row) → Walked n → sound log n ≡ some r → Walked (n + parts r)
+  pub walked-some : (n : ℕ) (r : Row) → Walked log n → sound log n ≡ some r → Walked log (n + parts r)
   walked-some n r w e m s h f = go (ltb m n) (eqb m n) refl refl
     where
       go : (a b : Bool) → ltb m n ≡ a → eqb m n ≡ b → m + parts s ≤ n + parts r
@@ -54,7 +51,7 @@ module _ (log : Bytes) where
           let k : m ≡ n + (m - n) = omega (arith, ltb-false m n p) in
           absurd (clash log m (n + (m - n)) s k (none-inside log n (m - n) r e (omega (arith, ltb-false m n p, eqb-false m n q)) (omega (arith, ltb-false m n p))) f)
 
-  clear : (n : ℕ) (r : Row) → Walked n → sound log n ≡ none → sound log (r .first) ≡ some r → covers r n ≡ false
+  clear : (n : ℕ) (r : Row) → Walked log n → sound log n ≡ none → sound log (r .first) ≡ some r → covers r n ≡ false
   clear n r w e f = go (ltb (r .first) n) (eqb (r .first) n) refl refl
     where
       go : (a b : Bool) → ltb (r .first) n ≡ a → eqb (r .first) n ≡ b → covers r n ≡ false
@@ -62,35 +59,36 @@ module _ (log : Bytes) where
       go false true p q = absurd (clash log (r .first) n r (eqb-true (r .first) n q) e f)
       go false false p q = within-before (r .first) (parts r) n (omega (arith, ltb-false (r .first) n p, eqb-false (r .first) n q))
 
-  pub doubtful-at : (n : ℕ) → Walked n → sound log n ≡ none → inBlock (blocks log) n ≡ false
+  pub doubtful-at : (n : ℕ) → Walked log n → sound log n ≡ none → inBlock (blocks log) n ≡ false
   doubtful-at n w e = in-none (blocks log) n (λ r m. clear n r w e (blocks-out log r m))
 
-  -- passing a sector where no block starts adds one
-  pub doubt-none : (n : ℕ) → Walked n → sound log n ≡ none → outside (blocks log) (n + 1) ≡ suc (outside (blocks log) n)
-  doubt-none n w e = ap (outside (blocks log)) (add-one n) ∙ outside-out (blocks log) n (doubtful-at n w e)
+-- passing a sector where no block starts adds one
+pub doubt-none : DoubtNone
+doubt-none log n w e = ap (outside (blocks log)) (add-one n) ∙ outside-out (blocks log) n (doubtful-at log n w e)
 
-  -- passing a block adds nothing
-  pub doubt-some : (n : ℕ) (r : Row) → sound log n ≡ some r → outside (blocks log) (n + parts r) ≡ outside (blocks log) n
-  doubt-some n r e = go (parts r) (omega arith)
-    where
-      here : r .first ≡ n
-      here = (sound-reads log n r e) .1
+-- passing a block adds nothing
+pub doubt-some : DoubtSome
+doubt-some log n r e = go (parts r) (omega arith)
+  where
+    here : r .first ≡ n
+    here = (sound-reads log n r e) .1
 
-      held : List·Memᴰ r (blocks log)
-      held = blocks-in log r (ap (sound log) here ∙ e)
+    held : List·Memᴰ r (blocks log)
+    held = blocks-in log r (ap (sound log) here ∙ e)
 
-      go : (j : ℕ) → j ≤ parts r → outside (blocks log) (n + j) ≡ outside (blocks log) n
-      go zero h = let z : n + 0 ≡ n = omega arith in ap (outside (blocks log)) z
-      go (suc j) h =
-          let z : n + suc j ≡ suc (n + j) = omega arith in
-          ap (outside (blocks log)) z
-          ∙ outside-in (blocks log) (n + j) (in-some (blocks log) r (n + j) held (within-in (r .first) (parts r) (n + j) (omega (arith, here)) (omega (arith, here))))
-          ∙ go j (omega arith)
+    go : (j : ℕ) → j ≤ parts r → outside (blocks log) (n + j) ≡ outside (blocks log) n
+    go zero h = let z : n + 0 ≡ n = omega arith in ap (outside (blocks log)) z
+    go (suc j) h =
+        let z : n + suc j ≡ suc (n + j) = omega arith in
+        ap (outside (blocks log)) z
+        ∙ outside-in (blocks log) (n + j) (in-some (blocks log) r (n + j) held (within-in (r .first) (parts r) (n + j) (omega (arith, here)) (omega (arith, here))))
+        ∙ go j (omega arith)
 
+module _ (log : Bytes) where
   -- where none starts in the used part, a sector is doubtful
-  pub doubt-first : (n : ℕ) → Walked n → n < used log → sound log n ≡ none → doubtful log ≢ 0
+  pub doubt-first : (n : ℕ) → Walked log n → n < used log → sound log n ≡ none → doubtful log ≢ 0
   unfolding doubtful
-  doubt-first n w h e z = omega (arith, doubt-none n w e, outside-mono (blocks log) (n + 1) (used log) (omega arith))
+  doubt-first n w h e z = omega (arith, doubt-none log n w e, outside-mono (blocks log) (n + 1) (used log) (omega arith))
 
   -- a pass to the end that met no such sector
   pub doubt-nowhere : (n : ℕ) → used log ≤ n → outside (blocks log) n ≡ 0 → doubtful log ≡ 0

@@ -68,14 +68,10 @@ abbrev pub counted : ℕ → Look → Look
 counted count (Found first size) = cond (ltb count size) (Refused OverCount) (Found first size)
 counted count (Refused w) = Refused w
 
--- "gives this paper's number and values": a look-up's number, 0 where it finds a block, and then the block's first sector and size
+-- "gives this paper's number and values": a look-up's number, 0 where it finds a block; the values are then its first sector and size
 abbrev pub lookNumber : Look → ℕ
 lookNumber (Found first size) = 0
 lookNumber (Refused w) = numberOf w
-
-abbrev pub lookPlace : Look → Option (ℕ × ℕ)
-lookPlace (Found first size) = some (first .0, size)
-lookPlace (Refused w) = none
 
 -- "The limit of 131,072 sectors becomes 1,048,576, with refusal 3 beyond it"
 abbrev pub mostSectors : ℕ

@@ -31,7 +31,8 @@ use Rattle.log.specs.declared.Look.the-variants.{Found, Refused}
 use Rattle.log.specs.LookUp.{blocks, firstOf, outside, firstDoubtful, mostSectors, logAllowed, held, absence, lookUp, counted, lookUpAsked}
 use Rattle.log.specs.Parts.{tape}
 use Rattle.log.proofs.First.{first-none, first-some}
-use Rattle.log.proofs.Doubt.{Walked, walked-some, doubtful-at, doubt-some}
+use Rattle.log.specs.Laws.{Walked}
+use Rattle.log.proofs.Doubt.{walked-some, doubtful-at, doubt-some}
 use Rattle.log.proofs.FirstDoubt.{first-at, first-end, absence-known, absence-held}
 use Rattle.log.proofs.Alike.{blocks-alike}
 use Rattle.log.proofs.Parts.{tape-alone}

@@ -9,6 +9,7 @@ use native.Mathlib.Nat.{zero-add}
 use lib.Dec.{eqb}
 use borrow.Author.Tests.{ne-eqb, lt-ltb, le-ltb}
 use lib.ListN.{length, set, length-append}
+use Rattle.ground.specs.Choice.{on}
 use Rattle.ground.specs.Places.{foundFrom}
 use Rattle.ground.specs.Choice.{on}
 use Rattle.buffer.specs.Bytes.{Bytes, put}
@@ -21,7 +22,8 @@ use Rattle.block.proofs.Apart.{sound-used}
 use Rattle.block.proofs.Used.{used-le-sectors}
 use Rattle.reader.specs.Reader.{sizeOf}
 use Rattle.log.specs.LookUp.{blocks, inBlock, outside, doubtful, mostSectors, logAllowed}
-use Rattle.log.proofs.Doubt.{Walked, walked-zero, walked-none, walked-some, doubt-none, doubt-some}
+use Rattle.log.proofs.Doubt.{walked-zero, walked-none, walked-some, doubt-none, doubt-some}
+use Rattle.log.specs.Laws.{Walked}
 use Rattle.log.proofs.Records.{records-none, records-some, records-used}
 use Rattle.lookup.proofs.Laws.{sized, none-sound, allowed-sectors}
 use Rattle.report.specs.declared.Survey.{Survey}

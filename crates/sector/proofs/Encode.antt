@@ -11,7 +11,7 @@ use Rattle.buffer.proofs.Bytes.{same-refl, small-append, small-take, small-repl
 use Rattle.word.specs.Number.{small}
 use Rattle.word.specs.Hex.{hex}
 use Rattle.word.proofs.HexLaws.{hex-length, small-hex}
-use Rattle.crc32.specs.Crc32.{crc32Of}
+use Rattle.crc32_rule.specs.Crc32.{crc32Of}
 use Rattle.sector.specs.Sector.{check, fits, filled, encode}
 
 pub length-check : (b : Bytes) → length (check b) ≡ 13

@@ -14,10 +14,10 @@ use Rattle.buffer.proofs.Bytes.{same-true, small-getD, small-take}
 use Rattle.word.specs.Number.{small}
 use Rattle.word.specs.Hex.{hex}
 use Rattle.word.proofs.HexLaws.{hex-injective}
-use Rattle.crc32.specs.Crc32.{crc32Of}
-use Rattle.crc32.specs.Burst.{ByteBurst}
-use Rattle.crc32.proofs.Bound.{crc32-lt}
-use Rattle.crc32.proofs.BurstAt.{burst-at}
+use Rattle.crc32_rule.specs.Crc32.{crc32Of}
+use Rattle.crc32_rule.specs.Burst.{ByteBurst}
+use Rattle.crc32_rule.proofs.Bound.{crc32-lt}
+use Rattle.crc32_rule.proofs.BurstAt.{burst-at}
 use Rattle.sector.specs.Sector.{check, fits, blank}
 use Rattle.sector.specs.Near.{Near, NearShows, BlankNearShows}
 

@@ -11,7 +11,7 @@ use Rattle.buffer.proofs.Put.{length-put, put-next, put-mid, put-one, put-whole
 use Rattle.word.specs.Hex.{hex, hexBytes}
 use Rattle.word.proofs.HexLaws.{hex-length, hexBytes-length}
 use Rattle.sector.specs.Sector.{line, lines, labelLines, recName, partName, ofName, typeName, sizeName, scoreName, crcName, labelOf, check, filled, encode}
-use Rattle.crc32.specs.Crc32.{crc32Of}
+use Rattle.crc32_rule.specs.Crc32.{crc32Of}
 use Rattle.sector.proofs.Encode.{length-check, length-filled}
 use Rattle.sector.specs.declared.Label.{Label}
 use Rattle.sector.proofs.Fields.{length-label}

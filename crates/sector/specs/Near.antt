@@ -5,7 +5,7 @@ use mathlib.Core.Logic.{_≢_}
 use lib.ListN.{length}
 use Rattle.buffer.specs.Bytes.{Bytes, zeros}
 use Rattle.word.specs.Number.{small}
-use Rattle.crc32.specs.Burst.{ByteBurst}
+use Rattle.crc32_rule.specs.Burst.{ByteBurst}
 use Rattle.sector.specs.Sector.{fits, blank}
 
 -- "differs only within four neighbouring bytes": t is of bytes, and as long as s, which it equals outside of four neighbouring places

@@ -6,7 +6,7 @@ use Prim.Native.Nat.{ℕ, _-_}
 use lib.ListN.{length, take, drop, replicate}
 use Rattle.buffer.specs.Bytes.{Bytes, same}
 use Rattle.word.specs.Hex.{hex, hexBytes, hexValue, readBytes}
-use Rattle.crc32.specs.Crc32.{crc32Of}
+use Rattle.crc32_rule.specs.Crc32.{crc32Of}
 use Rattle.sector.specs.declared.Label.{Label}
 
 -- "each ended by one line feed": a line is its name with "=", the value's digits and a line feed

@@ -1,9 +1,8 @@
 -- The table of texts, computed.
-use mathlib.Core.Path.{_≡_, refl}
-use mathlib.Core.List.{map}
-use Rattle.utf8.specs.Grammar.{follows, wellFormedText}
-use Rattle.utf8.specs.Examples.{Example, table}
+use mathlib.Core.Path.{refl}
+use Rattle.utf8.specs.Grammar.{follows}
+use Rattle.utf8.specs.Examples.{Examples}
 
-pub examples : map (λ (e : Example). wellFormedText (e .text)) table ≡ map (λ (e : Example). e .passes) table
+pub examples : Examples
 unfolding follows
 examples = refl

@@ -1,7 +1,9 @@
 -- Texts at every border of the grammar.
+use mathlib.Core.Path.{_≡_}
 use mathlib.Core.Bool.{Bool, true, false}
-use mathlib.Core.List.{List, [], _∷_}
+use mathlib.Core.List.{List, [], _∷_, map}
 use Rattle.buffer.specs.Bytes.{Bytes}
+use Rattle.utf8.specs.Grammar.{wellFormedText}
 
 pub record Example : Type 0 where
   pub text : Bytes
@@ -73,3 +75,7 @@ table =
     ∷ good (0xE6 ∷ 0x97 ∷ 0xA5 ∷ 0xE6 ∷ 0x9C ∷ 0xAC ∷ 0xE8 ∷ 0xAA ∷ 0x9E ∷ [])
     ∷ good (0xEF ∷ 0xBB ∷ 0xBF ∷ 0xF0 ∷ 0xA3 ∷ 0x8E ∷ 0xB4 ∷ [])
     ∷ []
+
+-- the grammar accepts exactly those that pass
+abbrev pub Examples : Type 0
+Examples = map (λ (e : Example). wellFormedText (e .text)) table ≡ map (λ (e : Example). e .passes) table

@@ -57,6 +57,47 @@ fn refusal_11() {
     });
 }
 
+/// `crates/examples/specs/Messages.antt`, its four examples byte for byte.
+#[test]
+fn reads_and_writes_byte_by_byte() {
+    const ZERO: &str = "da39a3ee5e6b4b0d3255bfef95601890afd80709";
+    const ABC: &str = "a9993e364706816aba3e25717850c26c9cd0d89d";
+    on_both(|archive| {
+        let mut serve = |log: &mut [u8], message: &str| {
+            let (number, reply) = ask(archive, log, &bytes(message));
+            (number, hex(&reply))
+        };
+        for sectors in [0, 1, 2] {
+            let mut log = vec![0; sectors * SECTOR];
+            let answer = serve(&mut log, &format!("001a0c07{ZERO}0d000000"));
+            assert_eq!(answer, (0, "00020d07".into()));
+            assert!(log.iter().all(|&byte| byte == 0));
+        }
+        let mut log = vec![0; SECTOR];
+        let answer = serve(&mut log, "00090e010d000000616263");
+        assert_eq!(answer, (0, format!("00160f01{ABC}")));
+        let label = format!("rec=00000000\npart=0000\nof=0001\ntype=0d\nsize=0003\nscore={ABC}\n");
+        let sector = [label.as_bytes(), b"abc", &[0; 400], b"crc=567f5e05\n"].concat();
+        assert_eq!(log, sector);
+        let answer = serve(&mut [], "00060e070d000000");
+        assert_eq!(answer, (0, format!("00160f07{ZERO}")));
+        let answer = serve(&mut [], "00070e070d00000061");
+        assert_eq!(answer, (14, format!("000a01070006{}", hex(b"why=14"))));
+    });
+}
+
+/// The bytes that hexadecimal digits stand for.
+fn bytes(digits: &str) -> Vec<u8> {
+    (0..digits.len())
+        .step_by(2)
+        .map(|at| u8::from_str_radix(&digits[at..at + 2], 16).unwrap())
+        .collect()
+}
+
+fn hex(bytes: &[u8]) -> String {
+    bytes.iter().map(|byte| format!("{byte:02x}")).collect()
+}
+
 #[test]
 fn sectors_of_blocks() {
     on_both(|archive| {

@@ -1,34 +1,21 @@
-//! CRC-32 of IEEE 802.3: eight bytes at once with a table of their hexadecimal digits, as the proved
-//! code has it, and what is left byte by byte.
+//! CRC-32 of IEEE 802.3 as ordinary programs have it: eight bytes at once with eight tables, one for
+//! each byte ("slicing by 8"), and what is left byte by byte.
 
-/// Entry `[j][k]` is the register after eight bytes, from 0, whose digit j, the lowest first, is k,
-/// and all others 0.
-static DIGITS: [[u32; 16]; 16] = digits();
-/// Entry k is the register after the byte k, from 0.
-static TABLE: [u32; 256] = table();
+/// Entry `[j][k]` is the register after the byte k and j zero bytes, from 0.
+static TABLES: [[u32; 256]; 8] = tables();
 
-const fn digits() -> [[u32; 16]; 16] {
-    let mut digits = [[0; 16]; 16];
-    let mut place = 0;
-    while place < 16 {
-        let mut digit = 0;
-        while digit < 16 {
-            digits[place][digit] = bits(64 - 4 * place, digit as u32);
-            digit += 1;
+const fn tables() -> [[u32; 256]; 8] {
+    let mut tables = [[0; 256]; 8];
+    let mut byte = 0;
+    while byte < 256 {
+        let mut zeros = 0;
+        while zeros < 8 {
+            tables[zeros][byte] = bits(8 + 8 * zeros, byte as u32);
+            zeros += 1;
         }
-        place += 1;
+        byte += 1;
     }
-    digits
-}
-
-const fn table() -> [u32; 256] {
-    let mut table = [0; 256];
-    let mut i = 0;
-    while i < 256 {
-        table[i] = bits(8, i as u32);
-        i += 1;
-    }
-    table
+    tables
 }
 
 /// The register after so many bits.
@@ -47,14 +34,20 @@ const fn bits(count: usize, mut register: u32) -> u32 {
 
 pub fn crc32(s: &[u8]) -> u32 {
     let (eights, rest) = s.as_chunks::<8>();
-    let register = eights.iter().fold(!0, |c, b| {
-        let x = u64::from_le_bytes(*b) ^ u64::from(c);
-        let digit = |j: usize| DIGITS[j][(x >> (4 * j)) as usize % 16];
-        (0..16).rev().fold(0, |r, j| r ^ digit(j))
+    let register = eights.iter().fold(!0, |c: u32, b| {
+        let first = (u32::from_le_bytes([b[0], b[1], b[2], b[3]]) ^ c).to_le_bytes();
+        TABLES[7][first[0] as usize]
+            ^ TABLES[6][first[1] as usize]
+            ^ TABLES[5][first[2] as usize]
+            ^ TABLES[4][first[3] as usize]
+            ^ TABLES[3][b[4] as usize]
+            ^ TABLES[2][b[5] as usize]
+            ^ TABLES[1][b[6] as usize]
+            ^ TABLES[0][b[7] as usize]
     });
     !rest
         .iter()
-        .fold(register, |c, &b| c >> 8 ^ TABLE[(c as u8 ^ b) as usize])
+        .fold(register, |c, &b| c >> 8 ^ TABLES[0][(c as u8 ^ b) as usize])
 }
 
 #[cfg(test)]

@@ -1,21 +1,20 @@
--- `crc32::eights` meets its contract. The loop's invariant: the bytes that are left, whole eights, fed to the register, give what all of them give from the start. Assumes nothing.
+-- `crc32::eights` meets its contract. The loop's invariant: the bytes that are left, whole eights, fed to the register, give what all of them give from the
+-- start. Assumes nothing.
 use mathlib.Core.Path.{_≡_, refl}
 use Prim.Native.Nat.{_≤_, _-_, _%_}
 use native.Mathlib.Omega.{arith}
 use borrow.Author.Needs.{needs}
 use lib.ListN.{length, drop}
-use Rattle.crc32.specs.Crc32.{bit, bits, feed}
-use Rattle.crc32.specs.Digits.{row, rows}
-use Rattle.crc32.proofs.Digits.{eight-more}
-use Rattle.crc32.proofs.Feed.{done}
+use Rattle.crc32_rule.specs.Crc32.{feed}
+use Rattle.crc32.proofs.Feed.{done, eight-more}
 use Rattle.crc32.proofs.eights.Statement.{statement}
 use Rattle.crc32.proofs.eights.Tie as tie
 
 abbrev Inv-loop : tie.InvT-loop
-Inv-loop c s t r₀ i₀ r i = (i ≤ length s) × ((length s - i) % 8 ≡ 0) × (feed r (drop i s) ≡ feed c s)
+Inv-loop high c s r₀ i₀ r i = (i ≤ length s) × ((length s - i) % 8 ≡ 0) × (feed r (drop i s) ≡ feed c s)
 
 abbrev μ-loop : tie.MeasureT-loop
-μ-loop c s t r₀ i₀ r i = length s - i
+μ-loop high c s r₀ i₀ r i = length s - i
 
 loop-holds : tie.Need-loop-holds Inv-loop μ-loop
 loop-holds c = (omega arith, omega arith, refl)
@@ -23,10 +22,8 @@ loop-holds c = (omega arith, omega arith, refl)
 number-requires : tie.Need-number-requires Inv-loop μ-loop
 number-requires c κs = search needs
 
--- the rows are what the bitwise rule gives: one computation over the 256 entries
 eight-requires : tie.Need-eight-requires Inv-loop μ-loop
-unfolding bit bits row rows
-eight-requires c κs = refl
+eight-requires c κs = search needs
 
 add-i : tie.Need-add-i Inv-loop μ-loop
 add-i c = search needs
@@ -36,9 +33,9 @@ loop-less c = search needs
 
 loop-again : tie.Need-loop-again Inv-loop μ-loop
 loop-again c =
-    let l = c .before .before .before .before .loop in
-    let a = c .before .before .before .before .before .before .args in
-    let known = c .before .before .before .before .before .shared-slice-known .given in (
+    let l = c .before .before .before .loop in
+    let a = c .before .before .before .before .before .args in
+    let known = c .before .before .before .before .shared-slice-known .given in (
       omega arith,
       omega arith,
       eight-more (a .s .now) (l .i) (l .r) _ _ _ (λ k. known k .fits) (omega arith) (c .before .number .ensures) (c .eight .ensures) (l .inv .2),

@@ -1,10 +1,10 @@
 -- `crc32::update` meets its contract. The loop's invariant: the bytes that are left, fed to the register, give what all of them give from the start.
 -- Assumes nothing.
-use mathlib.Core.Path.{_≡_, refl}
+use mathlib.Core.Path.{_≡_}
 use Prim.Native.Nat.{_≤_, _-_}
 use borrow.Author.Needs.{needs}
 use lib.ListN.{length, drop}
-use Rattle.crc32.specs.Crc32.{bit, bits, feed, entries, table}
+use Rattle.crc32_rule.specs.Crc32.{feed}
 use Rattle.crc32.proofs.Feed.{turn, done}
 use Rattle.crc32.proofs.update.Statement.{statement}
 use Rattle.crc32.proofs.update.Tie as tie
@@ -15,16 +15,17 @@ Inv-loop c s t r₀ i₀ r i = (i ≤ length s) × (feed r (drop i s) ≡ feed c
 abbrev μ-loop : tie.MeasureT-loop
 μ-loop c s t r₀ i₀ r i = length s - i
 
+table-requires : tie.Need-table-requires Inv-loop μ-loop
+table-requires c κs = search needs
+
 loop-holds : tie.Need-loop-holds Inv-loop μ-loop
 loop-holds c = search needs
 
 shared-slice-read-next : tie.Need-shared-slice-read-next Inv-loop μ-loop
 shared-slice-read-next c = search needs
 
--- the table is what the bitwise rule gives: one computation over its 256 entries
 next-requires : tie.Need-next-requires Inv-loop μ-loop
-unfolding bit bits entries table
-next-requires c κs = refl
+next-requires c κs = search needs
 
 add-i : tie.Need-add-i Inv-loop μ-loop
 add-i c = search needs
@@ -48,6 +49,7 @@ update-spec =
     (tie.spec
     Inv-loop
     μ-loop
+    table-requires
     loop-holds
     shared-slice-read-next
     next-requires

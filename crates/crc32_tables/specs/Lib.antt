@@ -1,0 +1,2 @@
+-- What the clauses of `crc32_tables` cite.
+pub mod Digits
