@@ -47,6 +47,12 @@ uint32_t skywimple_pad(uint8_t kind, uint8_t *buffer, size_t buffer_len, size_t 
 uint64_t skywimple_locate(const uint8_t *log, size_t log_len, const uint8_t *page, size_t page_len,
                           const uint8_t *entry, size_t entry_len, uint64_t offset);
 
+/* Fills buffer with the bytes of a file from an offset on, up to the end of buffer or of the file.
+   entry has 40 bytes. The result is the number, and 256 times the count of the bytes written to the
+   front of buffer; the rest of it stays. A refusal is the one at the first offset behind them. */
+uint64_t skywimple_fill(const uint8_t *log, size_t log_len, const uint8_t *entry, size_t entry_len,
+                        uint64_t offset, uint8_t *buffer, size_t buffer_len);
+
 /* Walks from a root's score, 20 bytes. The result is the number, and 256 times the visits spent. */
 uint64_t skywimple_walk(const uint8_t *log, size_t log_len, const uint8_t score[20],
                         uint64_t allowance);

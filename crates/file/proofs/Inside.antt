@@ -16,7 +16,7 @@ use Rattle.file.specs.declared.Located.{Located}
 use Rattle.file.specs.declared.Located.the-variants.{Stored, Zeros, Refused}
 use Rattle.file.specs.File.{zeroRun, placeIn, leafRun, under, located}
 use Rattle.lookup.proofs.Held.{Stands}
-use Rattle.file.proofs.Places.{parts-over}
+use Rattle.tree.proofs.Pieces.{part-of}
 use Rattle.file.proofs.Tests.{located-ind}
 use Rattle.file.proofs.Under.{under-ind}
 
@@ -29,7 +29,7 @@ Inside l p (Refused w) = Unit {0}
 stored-inside : (l n size k b c : ℕ) → n + partsOf size ≤ sectors l → k < size → placeIn n k + min (403 - k % 403) (min b c) ≤ l
 stored-inside l n size k b c h g =
     let m = min-le-left (403 - k % 403) (min b c) in
-    let j = parts-over size k g in
+    let j = part-of size k g in
     let i : k % 403 < 403 = omega arith in
     let u : placeIn n k + (403 - k % 403) ≤ 512 * (n + k / 403) + 512 = omega arith in
     let v : 512 * (n + k / 403) + 512 ≤ l = omega arith in

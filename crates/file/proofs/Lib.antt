@@ -4,9 +4,3 @@ pub mod Steps
 pub mod Tests
 pub mod Under
 pub mod Inside
-pub mod Examples
-pub mod Missing
-pub mod Stored
-pub mod Runs
-pub mod Again
-pub mod Laid

@@ -1,6 +1,7 @@
 -- One level of the tree, case by case: what the code does there makes what the definition says.
 use mathlib.Core.Path.{_≡_, refl, sym, ap, ap₂, _∙_}
 use mathlib.Core.Bool.{Bool, true, false, cond}
+use mathlib.Core.List.{[]}
 use mathlib.Core.Option.{some}
 use Prim.Native.Nat.{ℕ, zero, suc, _+_, _%_, _^_, _≤_, _<_}
 use native.Mathlib.Omega.{arith}
@@ -13,16 +14,20 @@ use Rattle.refusal.specs.declared.Refusal.{Refusal}
 use Rattle.refusal.specs.declared.Refusal.the-variants as why
 use Rattle.sector.specs.declared.SectorNumber.{SectorNumber}
 use Rattle.block.specs.Block.{Row, partsOf}
-use Rattle.block.specs.Log.{sectors}
+use Rattle.block.specs.Log.{sectors, joined}
 use Rattle.log.specs.declared.Look.{Look}
 use Rattle.log.specs.declared.Look.the-variants as look
 use Rattle.log.specs.LookUp.{emptyRow, held, lookUp, counted}
 use Rattle.entry.specs.declared.Entry.{Entry}
 use Rattle.reader.specs.Reader.{bytesAt}
+use Rattle.reader.proofs.Alone.{bytes-alone}
+use Rattle.reader.proofs.Pieces.{length-bytes}
+use Rattle.tree.proofs.Pointers.{length-pointer}
 use Rattle.file.specs.declared.Located.{Located}
 use Rattle.file.specs.declared.Located.the-variants.{Refused}
-use Rattle.file.specs.File.{zeroRun, storedRun, leafRun, fetched, pointer, pointerIndex, leafType, under}
-use Rattle.file.specs.Fetch.{startOf, runIn}
+use Rattle.tree.specs.Tree.{pointer, typeAt}
+use Rattle.file.specs.File.{zeroRun, storedRun, leafRun, fetched, pointerIndex, under}
+use Rattle.file.specs.Fetch.{endOf, runIn}
 use Rattle.file.proofs.Counted.{Fetched, fetched-refused, fetched-found}
 
 -- ---- a leaf's run
@@ -44,22 +49,30 @@ module _ (log : Bytes) (t : ℕ) (s : Bytes) (count : ℕ) (l : Look) (f : Secto
   pub found-room : f .0 + partsOf n ≤ sectors (length log)
   found-room = let F = found in omega (arith, F .first, ap partsOf (F .size), F .place .within)
 
-  pub found-short : n ≤ 57344
-  found-short = let F = found in omega (arith, F .size, F .place .not-many)
+-- a score of the block, read from the log with nothing behind it
+pub next-score : (log : Bytes) (l : Look) (f : SectorNumber) (n : ℕ) → l ≡ look.Found f n → (i : ℕ) (s : Bytes)
+    → s ≡ pointer (bytesAt (joined (sectors (length log)) log []) (f .0) n) i → n % 20 ≡ 0 → (s ≡ pointer (bytesAt log (f .0) n) i) × (length s ≡ 20)
+next-score log l f n z i s e h =
+    let p = e ∙ ap (λ (b : Bytes). pointer b i) (bytes-alone log (f .0) n) in
+    (p, length-pointer (bytesAt log (f .0) n) i s p (ap (λ (x : ℕ). x % 20) (length-bytes log (f .0) n) ∙ h))
 
-pub start-most : (log : Bytes) (t : ℕ) (s : Bytes) (count : ℕ) (l : Look) → l ≡ counted count (lookUp log t s) → sectors (length log) ≤ 16 ^ 8 → startOf l ≤ 2 ^ 40
-start-most log t s count l el h = go l refl
+-- a look-up ends within the log
+pub look-room : (log : Bytes) (t : ℕ) (s : Bytes) (count : ℕ) (l : Look) → l ≡ counted count (lookUp log t s) → endOf l ≤ sectors (length log)
+look-room log t s count l el = go l refl
   where
-    go : (x : Look) → l ≡ x → startOf x ≤ 2 ^ 40
+    go : (x : Look) → l ≡ x → endOf x ≤ sectors (length log)
     go (look.Refused w) z = omega arith
-    go (look.Found f n) z = omega (arith, found-room log t s count l f n el z)
+    go (look.Found f n) z = found-room log t s count l f n el z
 
 -- ---- below a score
 
-lawful-leaf : (b : Bool) → lawful (cond b 2 13) ≡ true
-unfolding lawful
-lawful-leaf true = refl
-lawful-leaf false = refl
+lawful-leaf : (e : Entry) → lawful (typeAt e 0) ≡ true
+unfolding lawful typeAt
+lawful-leaf e = go (e .directory)
+  where
+    go : (b : Bool) → lawful (cond b 2 13) ≡ true
+    go true = refl
+    go false = refl
 
 held-empty : (log : Bytes) (t : ℕ) (s : Bytes) → lawful t ≡ true → same s zeroScore ≡ true → held log t s ≡ some (emptyRow t)
 unfolding held
@@ -76,7 +89,7 @@ module _ (log : Bytes) (page : ℕ) (e : Entry) (offset : ℕ) where
   under-empty level s b first p q = sym (leaf-past page e offset first 0 (omega arith)) ∙ under-zero level s b p q
 
   -- the leaf
-  module _ (s : Bytes) (t : ℕ) (et : t ≡ leafType e) (l : Look) (el : l ≡ counted (e .dsize) (lookUp log t s)) where
+  module _ (s : Bytes) (t : ℕ) (et : t ≡ typeAt e 0) (l : Look) (el : l ≡ counted (e .dsize) (lookUp log t s)) where
     leaf-run : Row → Located
     leaf-run r = leafRun page e offset (r .first) (length (r .bytes))
 
@@ -95,7 +108,7 @@ module _ (log : Bytes) (page : ℕ) (e : Entry) (offset : ℕ) where
     unfolding under leaf-run
     leaf-zero false q = rw (q, et) refl
     leaf-zero true q =
-        let h : held log t s ≡ some (emptyRow t) = held-empty log t s (ap lawful et ∙ lawful-leaf (e .directory)) q in
+        let h : held log t s ≡ some (emptyRow t) = held-empty log t s (ap lawful et ∙ lawful-leaf e) q in
         rw (h, le-leb 0 (e .dsize) (omega arith)) (under-empty 0 s true 0 (sym q) refl)
 
     pub leaf-looked-up : runIn page e offset l ≡ under log page e offset 0 s

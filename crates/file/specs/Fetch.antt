@@ -1,5 +1,6 @@
 -- What the steps below the tests stand on: the run in the leaf that look-up finds, and what the tests have shown.
-use Prim.Native.Nat.{ℕ, _^_, _≤_, _<_}
+use Prim.Native.Nat.{ℕ, _+_, _^_, _≤_, _<_}
+use Rattle.block.specs.Block.{partsOf}
 use Rattle.block.specs.Log.{sectors}
 use Rattle.entry.specs.declared.Entry.{Entry}
 use Rattle.log.specs.declared.Look.{Look}
@@ -8,10 +9,10 @@ use Rattle.file.specs.File.{leafRun}
 use Rattle.file.specs.declared.Located.{Located}
 use Rattle.file.specs.declared.Located.the-variants.{Refused}
 
--- where the leaf that was found starts
-abbrev pub startOf : Look → ℕ
-startOf (look.Found first size) = first .0
-startOf (look.Refused w) = 0
+-- where the leaf that was found ends
+abbrev pub endOf : Look → ℕ
+endOf (look.Found first size) = first .0 + partsOf size
+endOf (look.Refused w) = 0
 
 -- the run in the leaf that was found; "A missing block is refused, never zero"
 abbrev pub runIn : ℕ → Entry → ℕ → Look → Located

@@ -13,6 +13,7 @@ use Rattle.block.specs.Block.{Row}
 use Rattle.log.specs.LookUp.{held, absence, logAllowed}
 use Rattle.entry.specs.declared.Entry.{Entry}
 use Rattle.entry.specs.Entry.{entryOf, entryAllowed, scoreOf, pointers}
+use Rattle.tree.specs.Tree.{typeAt, pointer}
 use Rattle.file.specs.declared.Located.{Located}
 use Rattle.file.specs.declared.Located.the-variants.{Stored, Zeros, Refused}
 
@@ -39,24 +40,16 @@ abbrev pub fetched : Bytes → ℕ → Bytes → ℕ → (Row → Located) → L
 fetched log t s count f =
     on (held log t s) (Refused (absence log)) (λ r. cond (leb (length (r .bytes)) count) (f r) (Refused why.OverCount))
 
--- "A pointer past the end of its block is the zero score"
-unfoldable pub pointer : Bytes → ℕ → Bytes
-pointer b i = cond (leb (length b) (20 * i)) zeroScore (take 20 (drop (20 * i) b))
-
 -- which pointer of a block of level d + 1 leads to the offset: a digit of the leaf's number, in base p
 abbrev pub pointerIndex : Entry → ℕ → ℕ → ℕ
 pointerIndex e offset d = offset / e .dsize / pointers e ^ d % pointers e
-
--- "the leaf 13 or 2"
-abbrev pub leafType : Entry → ℕ
-leafType e = cond (e .directory) 2 13
 
 -- the run under a score at a level. "Level d is type 2+d, the leaf 13 or 2. Look-up count is psize for pointers, dsize for leaves; then 18";
 -- "below a zero score all is zero"
 unfoldable pub under : Bytes → ℕ → Entry → ℕ → ℕ → Bytes → Located
 under log page e offset zero s =
     cond (same s zeroScore) (zeroRun page e offset)
-    (fetched log (leafType e) s (e .dsize) (λ r. leafRun page e offset (r .first) (length (r .bytes))))
+    (fetched log (typeAt e 0) s (e .dsize) (λ r. leafRun page e offset (r .first) (length (r .bytes))))
 under log page e offset (suc d) s =
     cond (same s zeroScore) (zeroRun page e offset)
     (fetched log (2 + suc d) s (e .psize)

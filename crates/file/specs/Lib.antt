@@ -2,5 +2,3 @@
 pub mod File
 pub mod Fetch
 pub mod Run
-pub mod Path
-pub mod Bytes

@@ -9,34 +9,16 @@ use sector::SectorNumber;
 ghost use mathlib.Core.Path.{_≡_};
 ghost use Prim.Native.Nat.{ℕ, _+_, _*_, _/_, _%_, _^_, _≤_, _<_, min};
 ghost use lib.ListN.{length};
-ghost use Rattle.block.specs.Block.{partsOf};
 ghost use Rattle.block.specs.Log.{sectors};
-ghost use Rattle.reader.specs.Reader.{bytesAt};
-ghost use Rattle.file.specs.File.{zeroRun, placeIn, leafRun, pointer, leafType, under, pageAllowed, entryReadable, located, answerOf};
+ghost use Rattle.file.specs.File.{zeroRun, placeIn, leafRun, under, pageAllowed, entryReadable, located, answerOf};
 ghost use Rattle.file.specs.Run.{runOf};
-ghost use Rattle.file.specs.Fetch.{startOf, runIn, Open};
+ghost use Rattle.file.specs.Fetch.{endOf, runIn, Open};
 
 // Where the run at an offset lies: at a byte of the log, or at the front of the page; or why there is none.
 pub enum Located {
     Stored { at: usize, length: usize },
     Zeros { length: usize },
     Refused(Refusal),
-}
-
-// The least of three.
-fn least(a: usize, b: usize, c: u64) -> usize
-    ensures { λ r. ⌜ r ≡ min a (min b c) ⌝ }
-{
-    if a <= b {
-        if a as u64 <= c {
-            return a;
-        }
-        return c as usize;
-    }
-    if b as u64 <= c {
-        return b;
-    }
-    c as usize
 }
 
 // The digit of weight p to the power d of n in base p. Repeated division: the power itself may pass 64 bits.
@@ -61,26 +43,6 @@ fn place_in(first: SectorNumber, k: usize) -> usize
     SECTOR * (first.0 + k / PAYLOAD) + (LABEL + k % PAYLOAD)
 }
 
-// Pointer `index` of a pointer block, copied byte by byte since it may lie across two payloads; past the block's end the zero score.
-fn pointer_at(log: &[u8], first: SectorNumber, size: usize, index: usize) -> [u8; 20]
-    requires { ⌜ (first .0 + partsOf size ≤ sectors (length (now log))) × (first .0 ≤ 2 ^ 40) × (size ≤ 57344) × (size % 20 ≡ 0) × (index ≤ 57344) ⌝ }
-    ensures { λ r. ⌜ r ≡ pointer (bytesAt (now (log .entry)) (first .0) size) index ⌝ }
-{
-    let from = 20 * index;
-    if size <= from {
-        return kind::zero_score();
-    }
-    let n = first.0;
-    let mut score = [0u8; 20];
-    let mut k: usize = 0;
-    while k < 20 {
-        let at = place_in(SectorNumber(n), from + k);
-        score[k] = log[at];
-        k += 1;
-    }
-    score
-}
-
 // A run of zeros: the page's front, up to the end of page, leaf or file.
 fn zero_run(page: usize, e: Entry, offset: u64) -> Located
     requires { ⌜ (0 < e .dsize) × (offset < e .size) ⌝ }
@@ -88,7 +50,7 @@ fn zero_run(page: usize, e: Entry, offset: u64) -> Located
 {
     let k = (offset % e.dsize as u64) as usize;
     Located::Zeros {
-        length: least(page, e.dsize - k, e.size - offset),
+        length: tree::least(page, e.dsize - k, e.size - offset),
     }
 }
 
@@ -103,28 +65,19 @@ fn leaf_run(page: usize, e: Entry, offset: u64, first: SectorNumber, size: usize
     }
     Located::Stored {
         at: place_in(first, k),
-        length: least(PAYLOAD - k % PAYLOAD, size - k, e.size - offset),
+        length: tree::least(PAYLOAD - k % PAYLOAD, size - k, e.size - offset),
     }
-}
-
-// The type of an entry's leaves.
-fn leaf_type(e: Entry) -> u8
-    ensures { λ r. ⌜ r ≡ leafType e ⌝ }
-{
-    if e.directory {
-        return 2;
-    }
-    13
 }
 
 // The leaf in which an offset lies, from the score at the top level down; below a zero score it is the empty block. A block that is
-// missing is refused: the look-up's refusal is handed on.
-fn descend(log: &[u8], e: Entry, offset: u64, top: &[u8]) -> Look
+// missing is refused: the look-up's refusal is handed on. So it is for every offset of that leaf.
+pub fn descend(log: &[u8], e: Entry, offset: u64, top: &[u8]) -> Look
     requires { ⌜ Open (length (now log)) e offset × (length (now top) ≡ 20) ⌝ }
-    ensures place { λ r. ⌜ startOf r ≤ 2 ^ 40 ⌝ }
-    ensures run { λ r. ⌜ ((page : ℕ) → runIn page e offset r ≡ under (now (log .entry)) page e offset (e .depth) (now (top .entry))) ⌝ }
+    ensures room { λ r. ⌜ endOf r ≤ sectors (length (now (log .entry))) ⌝ }
+    ensures run { λ r. ⌜ ((page o : ℕ) → o / e .dsize ≡ offset / e .dsize → runIn page e o r ≡ under (now (log .entry)) page e o (e .depth) (now (top .entry))) ⌝ }
 {
     let none = [0u8; 0];
+    let end = SectorNumber(log.len() / SECTOR);
     let mut score = [0u8; 20];
     buffer::copy_at(&mut score, 0, top);
     let leaf = offset / e.dsize as u64;
@@ -146,14 +99,14 @@ fn descend(log: &[u8], e: Entry, offset: u64, top: &[u8]) -> Look
         }
         level -= 1;
         let index = digit(leaf, p, level);
-        score = pointer_at(log, first, size, index as usize);
+        score = tree::score_at(log, end, &none, first, size, index as usize);
     }
-    lookup::fetch(log, &none, leaf_type(e), &score, e.dsize)
+    lookup::fetch(log, &none, tree::type_at(e, 0), &score, e.dsize)
 }
 
 // The run in the leaf that was found, or why there is none.
 fn run_in(look: Look, page: usize, e: Entry, offset: u64) -> Located
-    requires { ⌜ (startOf look ≤ 2 ^ 40) × (0 < e .dsize) × (e .dsize ≤ 57344) × (offset < e .size) ⌝ }
+    requires { ⌜ (endOf look ≤ 2 ^ 40) × (0 < e .dsize) × (e .dsize ≤ 57344) × (offset < e .size) ⌝ }
     ensures { λ r. ⌜ r ≡ runIn page e offset look ⌝ }
 {
     match look {
@@ -173,7 +126,7 @@ fn is_page(page: &[u8]) -> bool
 }
 
 // Whether bytes are an active, well-formed entry.
-fn is_readable(b: &[u8]) -> bool
+pub fn is_readable(b: &[u8]) -> bool
     ensures { λ r. ⌜ r ≡ entryReadable (now (b .entry)) ⌝ }
 {
     if b.len() != 40 {

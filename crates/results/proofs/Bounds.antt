@@ -19,7 +19,7 @@ use Rattle.file.specs.declared.Located.{Located}
 use Rattle.file.specs.declared.Located.the-variants.{Stored, Zeros, Refused}
 use Rattle.file.specs.File.{zeroRun, storedRun, placeIn, leafRun, pageAllowed, entryReadable, under, located}
 use Rattle.file.proofs.Under.{under-ind}
-use Rattle.file.proofs.Places.{parts-over}
+use Rattle.tree.proofs.Pieces.{part-of}
 use Rattle.file.proofs.Tests.{opened}
 
 abbrev pub Small : Located → Type 0
@@ -28,7 +28,7 @@ Small (Zeros n) = n ≤ 57344
 Small (Refused w) = Unit {0}
 
 place-small : (l n size k : ℕ) → sectors l ≤ mostSectors → n + partsOf size ≤ sectors l → k < size → placeIn n k < 512 * mostSectors
-place-small l n size k h r g = omega (arith, parts-over size k g)
+place-small l n size k h r g = omega (arith, part-of size k g)
 
 module _ (log : Bytes) (page : ℕ) (e : Entry) (offset : ℕ) (h : sectors (length log) ≤ mostSectors) (d : e .dsize ≤ 57344) where
   zero-small : Small (zeroRun page e offset)

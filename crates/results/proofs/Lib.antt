@@ -7,3 +7,4 @@ pub mod Bounds
 pub mod Packed
 pub mod Visits
 pub mod Unpacked
+pub mod Fills

@@ -30,6 +30,9 @@ use Rattle.archive.specs.Step as steps
 use Rattle.archive.specs.Step.{Outcome, step}
 use Rattle.archive.specs.declared.Session.{Session}
 use Rattle.archive.specs.declared.Session.the-variants.{Fresh, Greeted, Closed as Shut}
+use Rattle.fill.specs.declared.Stop.{Stop}
+use Rattle.fill.specs.declared.Stop.the-variants as to
+use Rattle.fill.specs.Fill.{stopNumber, fillOf}
 use Rattle.walk.specs.declared.End.{End}
 use Rattle.walk.specs.declared.End.the-variants.{Done, Refused}
 use Rattle.walk.specs.Walk.{endNumber, walkOf}
@@ -130,6 +133,13 @@ request-unpacks s m log buffer =
 
 pub run-unpacks : claims.RunUnpacks
 run-unpacks = nothing-lost
+
+stop-few : (s : Stop) → stopNumber s < 256
+stop-few to.Done = omega arith
+stop-few (to.Refused w) = few w
+
+pub fill-unpacks : claims.FillUnpacks
+fill-unpacks log b offset d = let f = fillOf log b offset d .filled in beside (stopNumber (f .stop)) (f .count) (stop-few (f .stop))
 
 end-few : (e : End) → endNumber e < 256
 end-few Done = omega arith

@@ -1,10 +1,13 @@
--- A run of a file's bytes packed into one number, and unpacked again; a walk's answer in one number.
+-- A run of a file's bytes packed into one number, and unpacked again; the answers of filling a buffer and of a walk, each in one number.
 use mathlib.Core.Bool.{Bool, true, false}
 use Prim.Native.Nat.{ℕ, _+_, _*_, _/_, _%_}
 use lib.Dec.{eqb}
+use Rattle.buffer.specs.Bytes.{Bytes}
 use Rattle.refusal.specs.Number.{numberOf}
 use Rattle.file.specs.declared.Located.{Located}
 use Rattle.file.specs.declared.Located.the-variants.{Stored, Zeros, Refused}
+use Rattle.fill.specs.declared.Filled.{Filled}
+use Rattle.fill.specs.Fill.{stopNumber, Outcome}
 use Rattle.walk.specs.declared.Walked.{Walked}
 use Rattle.walk.specs.Walk.{endNumber}
 
@@ -32,6 +35,21 @@ abbrev pub runOf : Located → Run
 runOf (Stored at n) = run 0 false at n
 runOf (Zeros n) = run 0 true 0 n
 runOf (Refused w) = run (numberOf w) false 0 0
+
+-- the number of the refusal, 0 for none, and 256 times the count of the bytes written
+abbrev pub filledNumber : Filled → ℕ
+filledNumber f = stopNumber (f .stop) + 256 * f .count
+
+-- what filling a buffer gives: its result, and what the lent buffer then holds
+pub record Fill : Type 0 where
+  pub result : ℕ
+  pub buffer : Bytes
+
+abbrev pub filledUp : ℕ → Bytes → Fill
+filledUp r b = record { result = r; buffer = b }
+
+abbrev pub fillResult : Outcome → Fill
+fillResult o = filledUp (filledNumber (o .filled)) (o .buffer)
 
 -- the number of the refusal, 0 for none, and 256 times the visits
 abbrev pub walkResult : Walked → ℕ

@@ -21,11 +21,12 @@ use Rattle.reader.specs.Reader.{sizeOf}
 use Rattle.archive.specs.Step.{step}
 use Rattle.archive.specs.declared.Session.{Session}
 use Rattle.file.specs.File.{located}
+use Rattle.fill.specs.Fill.{stopNumber, fillOf}
 use Rattle.walk.specs.Walk.{endNumber, walkOf}
 use Rattle.results.specs.Serve.{sessionOf, sessionNumber, servedOf}
 use Rattle.results.specs.Blocks.{typeResult, cutResult}
 use Rattle.results.specs.Survey.{reportNumber, textLength, soundResult}
-use Rattle.results.specs.Tree.{packed, unpacked, runOf, walkResult}
+use Rattle.results.specs.Tree.{packed, unpacked, runOf, filledNumber, walkResult}
 
 -- in the lowest 8 bits the number of the refusal, 0 for none; above them the answer
 abbrev pub numberIn : ℕ → ℕ
@@ -45,6 +46,11 @@ RequestUnpacks = (s : Session) (m log buffer : Bytes)
 -- a file's run: the number, whether it is the page's, its start and its length
 abbrev pub RunUnpacks : Type 0
 RunUnpacks = (log page b : Bytes) (offset : ℕ) → unpacked (packed (located log page b offset)) ≡ runOf (located log page b offset)
+
+-- filling a buffer: the number and the count
+abbrev pub FillUnpacks : Type 0
+FillUnpacks = (log b : Bytes) (offset : ℕ) (d : Bytes)
+    → let f = fillOf log b offset d .filled in (numberIn (filledNumber f) ≡ stopNumber (f .stop)) × (answerIn (filledNumber f) ≡ f .count)
 
 -- a walk: the number and the visits
 abbrev pub WalkUnpacks : Type 0

@@ -11,8 +11,8 @@ use Rattle.ledger.specs.History.{Item, AllOfBytes}
 use Rattle.demands.specs.Instance.{archive}
 use Rattle.demands.specs.Histories.{Keeps, afterwards}
 use Rattle.file.specs.File.{located}
-use Rattle.file.specs.Path.{Answers}
-use Rattle.file.specs.Bytes.{runBytes}
+use Rattle.file_laws.specs.Path.{Answers}
+use Rattle.file_laws.specs.Bytes.{runBytes}
 use Rattle.walk.specs.Walk.{walked, walkOf}
 use Rattle.walk.specs.declared.End.the-variants.{Done}
 

@@ -37,6 +37,15 @@ extern "C" {
         entry_len: usize,
         offset: u64,
     ) -> u64;
+    pub fn skywimple_fill(
+        log: *const u8,
+        log_len: usize,
+        entry: *const u8,
+        entry_len: usize,
+        offset: u64,
+        buffer: *mut u8,
+        buffer_len: usize,
+    ) -> u64;
     pub fn skywimple_walk(
         log: *const u8,
         log_len: usize,

@@ -13,7 +13,7 @@ pub use digest::{crc32, sha1, sha1_into};
 pub use refusal::Refusal;
 pub use report::{report, sound_at};
 pub use request::{serve, Served, Session};
-pub use tree::{block_type, locate, read, walk, Run, Walked};
+pub use tree::{block_type, fill, locate, read, walk, Filled, Run, Walked};
 pub use zeros::{cut, pad};
 
 /// The most sectors of a log: one more is refused with 3.

@@ -1,4 +1,4 @@
-//! Files and directories: reading a file at an offset, and walking from a root.
+//! Files and directories: reading a file at an offset, filling a buffer, and walking from a root.
 
 use crate::{answer, boundary, Refusal};
 
@@ -45,6 +45,35 @@ pub fn read<'a>(
         Run::Log { at, length } => &log[at..at + length],
         Run::Page { length } => &page[..length],
     })
+}
+
+/// How filling a buffer ended.
+#[derive(Clone, Copy, Debug, PartialEq, Eq)]
+pub struct Filled {
+    /// The bytes written to the buffer's front.
+    pub count: usize,
+    /// The refusal at the first offset behind them; none where the buffer or the file is full.
+    pub outcome: Result<(), Refusal>,
+}
+
+/// Fills a buffer with the bytes of a file from an offset on. What is behind the count stays.
+pub fn fill(log: &[u8], entry: &[u8], offset: u64, buffer: &mut [u8]) -> Filled {
+    // SAFETY: as above; `buffer` is a slice of its own, lent for writing until the call is done.
+    let result = unsafe {
+        boundary::skywimple_fill(
+            log.as_ptr(),
+            log.len(),
+            entry.as_ptr(),
+            entry.len(),
+            offset,
+            buffer.as_mut_ptr(),
+            buffer.len(),
+        )
+    };
+    Filled {
+        count: (result / 256) as usize,
+        outcome: Refusal::of((result % 256) as u8),
+    }
 }
 
 /// How a walk ended.

@@ -4,11 +4,11 @@ use std::fs::File;
 use std::io::{self, Read};
 use std::path::Path;
 
-use boundary::{locate, sound_at, Refusal, Run};
+use boundary::{fill, Refusal};
 
 use crate::arguments::Arguments;
 use crate::entry::{Entry, LENGTH as ENTRY};
-use crate::format::{kind_name, Score, LABEL, MOST_DATA, PAYLOAD, SECTOR};
+use crate::format::{kind_name, Score, MOST_DATA};
 use crate::hex;
 use crate::progress::Progress;
 use crate::reader;
@@ -65,25 +65,25 @@ fn refused_block(
     None
 }
 
-/// Writes run after run, up to the end or the first refused offset, which it gives with the refusal.
+/// Writes the file, up to its end or the first refused offset, which it gives with the refusal.
 fn copy(
     log: &[u8],
     entry: &[u8],
     progress: &mut Progress,
     streams: &mut Streams,
 ) -> Result<Option<(u64, Refusal)>, Failure> {
-    let page = vec![0; MOST_DATA];
+    let mut buffer = vec![0; whole_leaves(entry)];
     let mut offset = 0;
     loop {
-        let runs = match runs(log, &page, entry, offset) {
-            Ok(runs) => runs,
+        let filled = fill(log, entry, offset, &mut buffer);
+        let bytes = &buffer[..filled.count];
+        streams.out.write_all(bytes).map_err(Failure::output)?;
+        offset += bytes.len() as u64;
+        match filled.outcome {
+            Ok(()) => {}
             // An offset that is refused so, and no other, is the end: all tests before it passed.
             Err(Refusal::Offset) => return Ok(None),
             Err(refusal) => return Ok(Some((offset, refusal))),
-        };
-        for bytes in runs {
-            streams.out.write_all(bytes).map_err(Failure::output)?;
-            offset += bytes.len() as u64;
         }
         progress.show(streams, || {
             format!("{offset} of {} bytes read", size(entry))
@@ -91,28 +91,11 @@ fn copy(
     }
 }
 
-/// The run at an offset and, where it is the front of a stored leaf, the leaf's other runs too: the
-/// block is sound, so its payloads lie in the sectors that follow, and none has to be looked up anew.
-fn runs<'a>(
-    log: &'a [u8],
-    page: &'a [u8],
-    entry: &[u8],
-    offset: u64,
-) -> Result<Vec<&'a [u8]>, Refusal> {
-    let (at, length) = match locate(log, page, entry, offset)? {
-        Run::Log { at, length } => (at, length),
-        Run::Page { length } => return Ok(vec![&page[..length]]),
-    };
-    let mut runs = vec![&log[at..at + length]];
-    if at % SECTOR == LABEL {
-        let block = sound_at(log, at / SECTOR)? as u64;
-        let end = block.min(size(entry) - offset) as usize;
-        for (before, start) in (PAYLOAD..end).step_by(PAYLOAD).enumerate() {
-            let at = at + (before + 1) * SECTOR;
-            runs.push(&log[at..at + PAYLOAD.min(end - start)]);
-        }
-    }
-    Ok(runs)
+/// The bytes of as many whole leaves as the longest leaf has room for, so that no leaf is looked
+/// up twice.
+fn whole_leaves(entry: &[u8]) -> usize {
+    let leaf = Entry::parse(entry).map_or(1, |entry| entry.count(0));
+    MOST_DATA - MOST_DATA % leaf
 }
 
 /// The size that an entry says.
@@ -146,6 +129,7 @@ fn front(file: File) -> io::Result<Vec<u8>> {
 #[cfg(test)]
 mod tests {
     use super::*;
+    use crate::format::SECTOR;
 
     /// A data entry of depth 0 with leaves of 1,000 bytes.
     fn file(size: u64, score: &[u8; 20]) -> Vec<u8> {
@@ -168,7 +152,7 @@ mod tests {
     }
 
     #[test]
-    fn a_leaf_at_once_is_the_leaf_run_by_run() {
+    fn a_file_filled_is_the_file_run_by_run() {
         let mut log = vec![0; 40 * SECTOR];
         let mut client = Client::greet(&mut log).unwrap();
         let page = [0; 64];
@@ -177,13 +161,20 @@ mod tests {
             let score = client.write(&mut log, 13, &block).unwrap();
             for size in [1, 402, 403, 404, 806, 807, 999, 1000] {
                 let entry = file(size, &score);
-                let mut bytes = Vec::new();
-                while let Ok(runs) = runs(&log, &page, &entry, bytes.len() as u64) {
-                    bytes.extend(runs.concat());
-                }
+                let mut bytes = vec![0xaa; 1200];
+                let filled = fill(&log, &entry, 0, &mut bytes);
+                assert_eq!(filled.outcome, Ok(()));
+                assert_eq!(filled.count as u64, size);
+                assert_eq!(bytes[filled.count..], [0xaa; 1200][filled.count..]);
+                bytes.truncate(filled.count);
                 assert_eq!(bytes, run_by_run(&log, &page, &entry), "{stored} {size}");
-                assert_eq!(bytes.len() as u64, size);
             }
         }
+    }
+
+    #[test]
+    fn no_leaf_is_looked_up_twice() {
+        assert_eq!(whole_leaves(&file(1, &[0; 20])), 57_000);
+        assert_eq!(whole_leaves(&[0; 39]), MOST_DATA);
     }
 }

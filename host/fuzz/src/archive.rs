@@ -26,6 +26,9 @@ pub trait Archive {
     /// Where a file's bytes at an offset are, or the number.
     fn locate(&mut self, log: &[u8], page: &[u8], entry: &[u8], offset: u64) -> Result<Run, u8>;
 
+    /// Fills a buffer with a file's bytes from an offset on: the number, and the bytes written.
+    fn fill(&mut self, log: &[u8], entry: &[u8], offset: u64, buffer: &mut [u8]) -> (u8, usize);
+
     /// The number and the visits spent.
     fn walk(&mut self, log: &[u8], score: &Score, allowance: u64) -> (u8, u64);
 
@@ -68,6 +71,10 @@ impl Archive for Second {
 
     fn locate(&mut self, log: &[u8], page: &[u8], entry: &[u8], offset: u64) -> Result<Run, u8> {
         second::tree::locate(log, page, entry, offset)
+    }
+
+    fn fill(&mut self, log: &[u8], entry: &[u8], offset: u64, buffer: &mut [u8]) -> (u8, usize) {
+        second::tree::fill(log, entry, offset, buffer)
     }
 
     fn walk(&mut self, log: &[u8], score: &Score, allowance: u64) -> (u8, u64) {

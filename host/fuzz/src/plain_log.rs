@@ -53,6 +53,10 @@ impl Archive for PlainLog {
         Second.locate(log, page, entry, offset)
     }
 
+    fn fill(&mut self, log: &[u8], entry: &[u8], offset: u64, buffer: &mut [u8]) -> (u8, usize) {
+        Second.fill(log, entry, offset, buffer)
+    }
+
     fn walk(&mut self, log: &[u8], score: &Score, allowance: u64) -> (u8, u64) {
         Second.walk(log, score, allowance)
     }

@@ -36,6 +36,32 @@ pub fn locate(
     }
 }
 
+/// What becomes of the right answer to filling a buffer.
+pub fn fill(
+    (number, count): (u8, usize),
+    bytes: &[u8],
+    offset: u64,
+    buffer: &mut [u8],
+    broken: Broken,
+) -> (u8, usize) {
+    match (entry(bytes), number, broken) {
+        (Ok(entry), 11 | 12, Broken::FillHoleAsZeros) => {
+            let left = (entry.size - offset).min(buffer.len() as u64) as usize;
+            buffer[count..left].fill(0);
+            (0, left)
+        }
+        (Ok(entry), 0, Broken::FillStopsAtTheLeaf) => {
+            let left = entry.dsize - (offset % entry.dsize as u64) as usize;
+            (0, count.min(left))
+        }
+        (_, _, Broken::FillClearsTheRest) => {
+            buffer[count..].fill(0);
+            (number, count)
+        }
+        _ => (number, count),
+    }
+}
+
 /// Walks from a root score with one rule broken. Lengths and allowance must have been tested.
 pub fn walk(log: &[u8], score: &Score, allowance: u64, broken: Broken) -> (u8, u64) {
     let mut walk = Walk {

@@ -79,6 +79,9 @@ broken! {
     WalkPadsPointers,
     LocateRunIntoNextLeaf,
     LocateEntryBeforePage,
+    FillHoleAsZeros,
+    FillStopsAtTheLeaf,
+    FillClearsTheRest,
 }
 
 /// The second program with a rule broken.
@@ -292,6 +295,11 @@ impl Archive for Sham {
             _ => Second.locate(log, page, entry, offset),
         };
         sham_trees::locate(answer, page, entry, offset, self.broken)
+    }
+
+    fn fill(&mut self, log: &[u8], entry: &[u8], offset: u64, buffer: &mut [u8]) -> (u8, usize) {
+        let answer = Second.fill(log, entry, offset, buffer);
+        sham_trees::fill(answer, entry, offset, buffer, self.broken)
     }
 
     fn walk(&mut self, log: &[u8], score: &Score, allowance: u64) -> (u8, u64) {

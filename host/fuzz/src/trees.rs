@@ -6,7 +6,7 @@ use second::sector::{sectors_for, SECTOR};
 use second::sha1::{sha1, Score, ZERO_SCORE};
 
 use crate::archive::Archive;
-use crate::compare::{hex, number, Compare, Trace};
+use crate::compare::{buffer, hex, number, Compare, Trace};
 use crate::random::Random;
 use crate::shape::Shape;
 
@@ -62,6 +62,9 @@ pub fn run(
     });
     for _ in 0..6 {
         forest.locate(archive, compare, random, trace)?;
+    }
+    for _ in 0..3 {
+        forest.fill(archive, compare, random, trace)?;
     }
     for _ in 0..2 {
         forest.walk(archive, compare, random, trace, &root)?;
@@ -218,13 +221,8 @@ impl Forest {
         self.store(random, 1, &root)
     }
 
-    fn locate(
-        &self,
-        archive: &mut dyn Archive,
-        compare: &mut Compare,
-        random: &mut Random,
-        trace: &mut Trace,
-    ) -> Result<(), String> {
+    /// An entry, and an offset around its file.
+    fn place(&self, random: &mut Random) -> (Vec<u8>, u64) {
         let mut entry = match self.entries.len() {
             0 => random.bytes(40),
             count => self.entries[random.below(count)].clone(),
@@ -245,6 +243,17 @@ impl Forest {
             6 => (random.below(psize.max(1)) * dsize) as u64,
             _ => random.below(size.max(1)) as u64,
         };
+        (entry, offset)
+    }
+
+    fn locate(
+        &self,
+        archive: &mut dyn Archive,
+        compare: &mut Compare,
+        random: &mut Random,
+        trace: &mut Trace,
+    ) -> Result<(), String> {
+        let (entry, offset) = self.place(random);
         let mut page = vec![0; random.pick(&[1, 7, 403, 1024, 4000])];
         match random.below(30) {
             0 => page.clear(),
@@ -258,6 +267,24 @@ impl Forest {
         let right = second::tree::locate(&self.log, &page, &entry, offset);
         let answer = archive.locate(&self.log, &page, &entry, offset);
         compare.call("locate", number(&right), answer, right)
+    }
+
+    fn fill(
+        &self,
+        archive: &mut dyn Archive,
+        compare: &mut Compare,
+        random: &mut Random,
+        trace: &mut Trace,
+    ) -> Result<(), String> {
+        let (entry, offset) = self.place(random);
+        let length = random.pick(&[0, 1, 7, 403, 1024, 4000]);
+        trace.note(|| format!("fill {length} bytes of {} from {offset} on", hex(&entry)));
+        let mut tested = vec![0xaa; length];
+        let mut second = tested.clone();
+        let right = second::tree::fill(&self.log, &entry, offset, &mut second);
+        let answer = archive.fill(&self.log, &entry, offset, &mut tested);
+        compare.call("fill", right.0, answer, right)?;
+        buffer("the filled buffer", &tested, &second)
     }
 
     fn walk(

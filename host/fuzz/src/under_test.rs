@@ -66,6 +66,11 @@ impl Archive for Proved {
         })
     }
 
+    fn fill(&mut self, log: &[u8], entry: &[u8], offset: u64, buffer: &mut [u8]) -> (u8, usize) {
+        let filled = proved::fill(log, entry, offset, buffer);
+        (number(filled.outcome), filled.count)
+    }
+
     fn walk(&mut self, log: &[u8], score: &Score, allowance: u64) -> (u8, u64) {
         let walked = proved::walk(log, score, allowance);
         (number(walked.outcome), walked.visits)

@@ -116,24 +116,7 @@ pub fn locate(log: &[u8], page: &[u8], bytes: &[u8], offset: u64) -> Result<Run,
         return Err(17);
     }
 
-    let contents = Contents::of(log);
-    let mut score = entry.score;
-    for level in (1..=entry.depth).rev() {
-        let data = match find(&contents, 2 + level as u8, &score, entry.psize)? {
-            Some(block) => block.data(log),
-            None => Vec::new(),
-        };
-        if !data.len().is_multiple_of(20) {
-            return Err(18);
-        }
-        let start = 20 * entry.index(offset, level);
-        score = ZERO_SCORE;
-        if start < data.len() {
-            score.copy_from_slice(&data[start..start + 20]);
-        }
-    }
-
-    let leaf = find(&contents, entry.leaf(), &score, entry.dsize)?;
+    let leaf = leaf(log, &Contents::of(log), &entry, offset)?;
     let at = (offset % entry.dsize as u64) as usize;
     let left_in_file = usize::try_from(entry.size - offset).unwrap_or(usize::MAX);
     Ok(match leaf {
@@ -150,6 +133,59 @@ pub fn locate(log: &[u8], page: &[u8], bytes: &[u8], offset: u64) -> Result<Run,
             len: page.len().min(entry.dsize - at).min(left_in_file),
         },
     })
+}
+
+/// The leaf in which an offset lies, none below a zero score. Refuses 11, 12, 13 and 18.
+fn leaf(log: &[u8], contents: &Contents, entry: &Entry, offset: u64) -> Result<Option<Block>, u8> {
+    let mut score = entry.score;
+    for level in (1..=entry.depth).rev() {
+        let data = match find(contents, 2 + level as u8, &score, entry.psize)? {
+            Some(block) => block.data(log),
+            None => Vec::new(),
+        };
+        if !data.len().is_multiple_of(20) {
+            return Err(18);
+        }
+        let start = 20 * entry.index(offset, level);
+        score = ZERO_SCORE;
+        if start < data.len() {
+            score.copy_from_slice(&data[start..start + 20]);
+        }
+    }
+    find(contents, entry.leaf(), &score, entry.dsize)
+}
+
+/// Fills a buffer with a file's bytes from an offset on, byte by byte: the number, and how many
+/// bytes were written to its front.
+pub fn fill(log: &[u8], bytes: &[u8], offset: u64, buffer: &mut [u8]) -> (u8, usize) {
+    if !well_sized(log.len()) {
+        return (3, 0);
+    }
+    let entry = match entry(bytes) {
+        Ok(entry) => entry,
+        Err(number) => return (number, 0),
+    };
+    if offset >= entry.size {
+        return (17, 0);
+    }
+
+    let contents = Contents::of(log);
+    let dsize = entry.dsize as u64;
+    let mut data = Vec::new();
+    for (count, byte) in buffer.iter_mut().enumerate() {
+        let at = offset + count as u64;
+        if at == entry.size {
+            return (0, count);
+        }
+        if count == 0 || at.is_multiple_of(dsize) {
+            data = match leaf(log, &contents, &entry, at) {
+                Ok(leaf) => leaf.map_or_else(Vec::new, |block| block.data(log)),
+                Err(number) => return (number, count),
+            };
+        }
+        *byte = data.get((at % dsize) as usize).copied().unwrap_or(0);
+    }
+    (0, buffer.len())
 }
 
 /// The block of a type and score, none for the zero score. Refuses 11, 12 and 13.

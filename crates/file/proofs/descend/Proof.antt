@@ -1,25 +1,26 @@
--- `file::descend` meets its contract: the run under the score reached, at its level, is the run under the top score.
+-- `file::descend` meets its contract: the run under the score reached, at its level, is the run under the top score, for every offset of the leaf.
 use mathlib.Core.Path.{_≡_, sym, ap, _∙_}
-use Prim.Native.Nat.{ℕ, suc, _+_, _-_, _%_, _<_}
+use Prim.Native.Nat.{ℕ, suc, _+_, _-_, _/_, _%_, _^_, _<_}
 use native.Mathlib.Omega.{arith}
 use lib.ListN.{length}
 use Rattle.buffer.proofs.Put.{put-whole}
+use Rattle.block.specs.Block.{partsOf}
 use Rattle.log.specs.LookUp.{counted}
 use Rattle.log.proofs.Parts.{look-up-alone}
-use Rattle.reader.proofs.Pieces.{length-bytes}
+use Rattle.entry.specs.Entry.{pointers}
 use Rattle.file.specs.File.{under}
-use Rattle.file.proofs.Places.{digit-small, length-pointer}
-use Rattle.file.proofs.Steps.{start-most, under-empty, found-room, found-short, leaf-looked-up, level-refused, level-ragged, level-next}
+use Rattle.file.proofs.Places.{digit-small}
+use Rattle.file.proofs.Steps.{look-room, under-empty, found-room, next-score, leaf-looked-up, level-refused, level-ragged, level-next}
 use borrow.Author.Needs.{needs}
 use Rattle.file.proofs.descend.Statement.{statement}
 use Rattle.file.proofs.descend.Tie as tie
 
 abbrev Inv-loop : tie.InvT-loop
-Inv-loop log e offset top none score₀ leaf p level₀ score level =
-    (level < 8) × (length score ≡ 20) × ((page : ℕ) → under log page e offset level score ≡ under log page e offset (e .depth) top)
+Inv-loop log e offset top none end score₀ leaf p level₀ score level =
+    (level < 8) × (length score ≡ 20) × ((page o : ℕ) → o / e .dsize ≡ offset / e .dsize → under log page e o level score ≡ under log page e o (e .depth) top)
 
 abbrev μ-loop : tie.MeasureT-loop
-μ-loop log e offset top none score₀ leaf p level₀ score level = level
+μ-loop log e offset top none end score₀ leaf p level₀ score level = level
 
 slice-aggregate-copy-at : tie.Need-slice-aggregate-copy-at Inv-loop μ-loop
 slice-aggregate-copy-at c = search needs
@@ -34,8 +35,9 @@ loop-holds : tie.Need-loop-holds Inv-loop μ-loop
 loop-holds c =
     let a = c .before .before .before .before .before .before .args in
     let p = c .before .before .before .before .before .before .pre in
-    let t = c .before .before .copy-at .ensures ∙ put-whole _ (a .top .now) (p .1) in
-    (p .0 .depth, ap length t ∙ p .1, λ page. ap (under (a .log .now) page (a .e) (a .offset) (a .e .depth)) t)
+    let copy-at = c .before .before .copy-at in
+    let t = (copy-at .ensures) ∙ put-whole _ (a .top .now) (p .1) in
+    (p .0 .depth, ap length t ∙ p .1, λ page o q. ap (under (a .log .now) page (a .e) o (a .e .depth)) t)
 
 slice-aggregate-is-zero-score : tie.Need-slice-aggregate-is-zero-score Inv-loop μ-loop
 slice-aggregate-is-zero-score c = search needs
@@ -44,12 +46,13 @@ is-zero-score-requires : tie.Need-is-zero-score-requires Inv-loop μ-loop
 is-zero-score-requires c κs = search needs
 
 returns : tie.Need-returns Inv-loop μ-loop
+unfolding partsOf
 returns c =
     let a = c .before .before .before .before .before .before .before .before .before .before .before .args in
     let l = c .before .before .before .before .loop in
     let is-zero-score = c .before .is-zero-score in
     let if1 = c .if1 in
-    (omega arith, λ page. under-empty (a .log .now) page (a .e) (a .offset) (l .level) (l .score) _ 0 (is-zero-score .ensures) (if1 .taken) ∙ l .inv .2 page)
+    (omega arith, λ page o q. under-empty (a .log .now) page (a .e) o (l .level) (l .score) _ 0 (is-zero-score .ensures) (if1 .taken) ∙ l .inv .2 page o q)
 
 slice-aggregate-fetch : tie.Need-slice-aggregate-fetch Inv-loop μ-loop
 slice-aggregate-fetch c = search needs
@@ -58,13 +61,13 @@ add-fetch : tie.Need-add-fetch Inv-loop μ-loop
 add-fetch c = search needs
 
 cast-fetch : tie.Need-cast-fetch Inv-loop μ-loop
-cast-fetch c = omega (arith, c .before .before .before .before .before .loop .inv .0)
+cast-fetch c = omega (arith, (c .before .before .before .before .before .loop .inv .0))
 
 slice-aggregate-fetch-2 : tie.Need-slice-aggregate-fetch-2 Inv-loop μ-loop
 slice-aggregate-fetch-2 c = search needs
 
 fetch-requires : tie.Need-fetch-requires Inv-loop μ-loop
-fetch-requires c κs = c .before .before .before .before .before .before .loop .inv .1
+fetch-requires c κs = (c .before .before .before .before .before .before .loop .inv .1)
 
 enum-known-look : tie.Need-enum-known-look Inv-loop μ-loop
 enum-known-look c = search needs
@@ -76,94 +79,118 @@ returns-2 : tie.Need-returns-2 Inv-loop μ-loop
 returns-2 c =
     let a = c .before .before .before .before .before .before .before .before .before .before .before .before .before .before .before .before .args in
     let l = c .before .before .before .before .before .before .before .before .before .loop in
+    let loop-test = c .before .before .before .before .before .before .before .before .loop-test in
     let is-zero-score = c .before .before .before .before .before .before .is-zero-score in
     let if1 = c .before .before .before .before .before .if1 in
     let fetch = c .before .before .fetch in
     let enum-told = c .enum-told in
-    let e : l .level ≡ suc (l .level - 1) = omega (arith, c .before .before .before .before .before .before .before .before .loop-test .taken) in
-    let g = fetch .ensures ∙ ap (counted (a .e .psize)) (look-up-alone (a .log .now) (2 + l .level) (l .score)) in (
-      start-most (a .log .now) (2 + l .level) (l .score) (a .e .psize) (fetch .result) g (c .before .before .before .before .before .before .before .before .before .before .before .before .before .before .before .before .pre .0 .log),
-      λ page. level-refused (a .log .now) page (a .e) (a .offset) (l .level) (l .level - 1) e (l .score) _ (is-zero-score .ensures) (if1 .left) (fetch .result) g _ (enum-told .given .1) ∙ l .inv .2 page,
+    let found = (fetch .result) in
+    let e : l .level ≡ suc (l .level - 1) = omega (arith, (loop-test .taken)) in
+    let g = (fetch .ensures) ∙ ap (counted (a .e .psize)) (look-up-alone (a .log .now) (2 + l .level) (l .score)) in (
+      look-room (a .log .now) (2 + l .level) (l .score) (a .e .psize) found g,
+      λ page o q. level-refused (a .log .now) page (a .e) o (l .level) (l .level - 1) e (l .score) _ (is-zero-score .ensures) (if1 .left) found g _ (enum-told .given .1)
+          ∙ l .inv .2 page o q,
     )
 
 returns-3 : tie.Need-returns-3 Inv-loop μ-loop
 returns-3 c =
     let a = c .before .before .before .before .before .before .before .before .before .before .before .before .before .before .before .before .before .before .args in
     let l = c .before .before .before .before .before .before .before .before .before .before .before .loop in
+    let loop-test = c .before .before .before .before .before .before .before .before .before .before .loop-test in
     let is-zero-score = c .before .before .before .before .before .before .before .before .is-zero-score in
     let if1 = c .before .before .before .before .before .before .before .if1 in
     let fetch = c .before .before .before .before .fetch in
     let look = c .before .before .look in
     let if2 = c .if2 in
-    let e : l .level ≡ suc (l .level - 1) = omega (arith, c .before .before .before .before .before .before .before .before .before .before .loop-test .taken) in
-    let g = fetch .ensures ∙ ap (counted (a .e .psize)) (look-up-alone (a .log .now) (2 + l .level) (l .score)) in (
+    let found = (fetch .result) in
+    let e : l .level ≡ suc (l .level - 1) = omega (arith, (loop-test .taken)) in
+    let g = (fetch .ensures) ∙ ap (counted (a .e .psize)) (look-up-alone (a .log .now) (2 + l .level) (l .score)) in (
       omega arith,
-      λ page. level-ragged (a .log .now) page (a .e) (a .offset) (l .level) (l .level - 1) e (l .score) _ (is-zero-score .ensures) (if1 .left) (fetch .result) g _ _ (look .given .1) (if2 .taken) ∙ l .inv .2 page,
+      λ page o q. level-ragged (a .log .now) page (a .e) o (l .level) (l .level - 1) e (l .score) _ (is-zero-score .ensures) (if1 .left) found g _ _ (look .given .1) (if2 .taken)
+          ∙ l .inv .2 page o q,
     )
 
 sub-level : tie.Need-sub-level Inv-loop μ-loop
-sub-level c = omega (arith, c .before .before .before .before .before .before .before .before .before .before .loop-test .taken)
+sub-level c = omega (arith, (c .before .before .before .before .before .before .before .before .before .before .loop-test .taken))
 
 digit-requires : tie.Need-digit-requires Inv-loop μ-loop
-digit-requires c κs = omega (arith, c .before .before .before .before .before .before .before .before .before .before .before .before .before .before .before .before .before .before .pre .0 .psize-from)
+digit-requires c κs = omega (arith, (c .before .before .before .before .before .before .before .before .before .before .before .before .before .before .before .before .before .before .pre) .0 .psize-from)
 
-pointer-at-requires : tie.Need-pointer-at-requires Inv-loop μ-loop
-pointer-at-requires c κs =
-    let a = c .before .before .before .before .before .before .before .before .before .before .before .before .before .before .before .before .before .before .before .args in
-    let p = c .before .before .before .before .before .before .before .before .before .before .before .before .before .before .before .before .before .before .before .pre in
-    let l = c .before .before .before .before .before .before .before .before .before .before .before .before .loop in
-    let fetch = c .before .before .before .before .before .fetch in
-    let look = c .before .before .before .look in
-    let g = fetch .ensures ∙ ap (counted (a .e .psize)) (look-up-alone (a .log .now) (2 + l .level) (l .score)) in
-    let room = found-room (a .log .now) (2 + l .level) (l .score) (a .e .psize) (fetch .result) _ _ g (look .given .1) in
-    let short = found-short (a .log .now) (2 + l .level) (l .score) (a .e .psize) (fetch .result) _ _ g (look .given .1) in
-    (room, omega (arith, p .0 .log, room), short, c .before .if2 .left, digit-small (a .e .psize) _ (c .digit .result) (p .0 .psize-from) (p .0 .psize-to) (c .digit .ensures))
+slice-aggregate-score-at : tie.Need-slice-aggregate-score-at Inv-loop μ-loop
+slice-aggregate-score-at c = search needs
 
-loop-less : tie.Need-loop-less Inv-loop μ-loop
-loop-less c = omega (arith, c .before .before .before .before .before .before .before .before .before .before .before .before .loop-test .taken)
-
-loop-again : tie.Need-loop-again Inv-loop μ-loop
-loop-again c =
+score-at-requires : tie.Need-score-at-requires Inv-loop μ-loop
+score-at-requires c κs =
     let a = c .before .before .before .before .before .before .before .before .before .before .before .before .before .before .before .before .before .before .before .before .args in
+    let p = c .before .before .before .before .before .before .before .before .before .before .before .before .before .before .before .before .before .before .before .before .pre in
     let l = c .before .before .before .before .before .before .before .before .before .before .before .before .before .loop in
-    let is-zero-score = c .before .before .before .before .before .before .before .before .before .before .is-zero-score in
-    let if1 = c .before .before .before .before .before .before .before .before .before .if1 in
     let fetch = c .before .before .before .before .before .before .fetch in
     let look = c .before .before .before .before .look in
     let if2 = c .before .before .if2 in
     let digit = c .before .digit in
-    let pointer-at = c .pointer-at in
-    let e : l .level ≡ suc (l .level - 1) = omega (arith, c .before .before .before .before .before .before .before .before .before .before .before .before .loop-test .taken) in
-    let g = fetch .ensures ∙ ap (counted (a .e .psize)) (look-up-alone (a .log .now) (2 + l .level) (l .score)) in (
+    let g = (fetch .ensures) ∙ ap (counted (a .e .psize)) (look-up-alone (a .log .now) (2 + l .level) (l .score)) in
+    let room = found-room (a .log .now) (2 + l .level) (l .score) (a .e .psize) (fetch .result) _ _ g (look .given .1) in
+    let small = digit-small (a .e .psize) _ (digit .result) (p .0 .psize-from) (p .0 .psize-to) (digit .ensures) in
+    (omega arith, omega (arith, room), (if2 .left), omega (arith, small))
+
+loop-less : tie.Need-loop-less Inv-loop μ-loop
+loop-less c = omega (arith, (c .before .before .before .before .before .before .before .before .before .before .before .before .before .loop-test .taken))
+
+loop-again : tie.Need-loop-again Inv-loop μ-loop
+loop-again c =
+    let a = c .before .before .before .before .before .before .before .before .before .before .before .before .before .before .before .before .before .before .before .before .before .args in
+    let l = c .before .before .before .before .before .before .before .before .before .before .before .before .before .before .loop in
+    let loop-test = c .before .before .before .before .before .before .before .before .before .before .before .before .before .loop-test in
+    let is-zero-score = c .before .before .before .before .before .before .before .before .before .before .before .is-zero-score in
+    let if1 = c .before .before .before .before .before .before .before .before .before .before .if1 in
+    let fetch = c .before .before .before .before .before .before .before .fetch in
+    let look = c .before .before .before .before .before .look in
+    let if2 = c .before .before .before .if2 in
+    let digit = c .before .before .digit in
+    let score-at = c .score-at in
+    let found = (fetch .result) in
+    let e : l .level ≡ suc (l .level - 1) = omega (arith, (loop-test .taken)) in
+    let g = (fetch .ensures) ∙ ap (counted (a .e .psize)) (look-up-alone (a .log .now) (2 + l .level) (l .score)) in
+    let s = next-score (a .log .now) found _ _ (look .given .1) _ _ (score-at .ensures) (if2 .left) in
+    let i = (digit .ensures) in (
       omega (arith, l .inv .0),
-      length-pointer _ _ _ (pointer-at .ensures) (ap (λ n. n % 20) (length-bytes (a .log .now) _ _) ∙ if2 .left),
-      λ page. level-next (a .log .now) page (a .e) (a .offset) (l .level) (l .level - 1) e (l .score) _ (is-zero-score .ensures) (if1 .left) (fetch .result) g _ _ (look .given .1) _ _ (if2 .left) (digit .ensures) (pointer-at .ensures) ∙ l .inv .2 page,
+      s .1,
+      λ page o q. level-next (a .log .now) page (a .e) o (l .level) (l .level - 1) e (l .score) _ (is-zero-score .ensures) (if1 .left) found g _ _ (look .given .1) _ _ (if2 .left)
+          (i ∙ ap (λ (n : ℕ). n / pointers (a .e) ^ (l .level - 1) % pointers (a .e)) (sym q)) (s .0)
+          ∙ l .inv .2 page o q,
     )
 
 slice-aggregate-fetch-3 : tie.Need-slice-aggregate-fetch-3 Inv-loop μ-loop
 slice-aggregate-fetch-3 c = search needs
 
-leaf-type-requires : tie.Need-leaf-type-requires Inv-loop μ-loop
-leaf-type-requires c κs = search needs
+type-at-requires : tie.Need-type-at-requires Inv-loop μ-loop
+type-at-requires c κs = search needs
 
 slice-aggregate-fetch-4 : tie.Need-slice-aggregate-fetch-4 Inv-loop μ-loop
 slice-aggregate-fetch-4 c = search needs
 
 fetch-requires-2 : tie.Need-fetch-requires-2 Inv-loop μ-loop
-fetch-requires-2 c κs = c .before .before .before .before .loop .inv .1
+fetch-requires-2 c κs = (c .before .before .before .before .loop .inv .1)
 
 returns-4 : tie.Need-returns-4 Inv-loop μ-loop
 returns-4 c =
     let a = c .before .before .before .before .before .before .before .before .before .before .before .before .args in
     let l = c .before .before .before .before .before .loop in
-    let leaf-type = c .before .before .leaf-type in
-    let fetch = c .fetch2 in
-    let z : l .level ≡ 0 = omega (arith, c .before .before .before .before .loop-test .left) in
-    let g = fetch .ensures ∙ ap (counted (a .e .dsize)) (look-up-alone (a .log .now) (leaf-type .result) (l .score)) in (
-      start-most (a .log .now) (leaf-type .result) (l .score) (a .e .dsize) (fetch .result) g (c .before .before .before .before .before .before .before .before .before .before .before .before .pre .0 .log),
-      λ page. leaf-looked-up (a .log .now) page (a .e) (a .offset) (l .score) (leaf-type .result) (leaf-type .ensures) (fetch .result) g
-          ∙ ap (λ (n : ℕ). under (a .log .now) page (a .e) (a .offset) n (l .score)) (sym z) ∙ l .inv .2 page,
+    let loop-test = c .before .before .before .before .loop-test in
+    let type-at = c .before .before .type-at in
+    let fetch2 = c .fetch2 in
+    let t = (type-at .result) in
+    let found = (fetch2 .result) in
+    let z : l .level ≡ 0 = omega (arith, (loop-test .left)) in
+    let g = (fetch2 .ensures) ∙ ap (counted (a .e .dsize)) (look-up-alone (a .log .now) t (l .score)) in (
+      look-room (a .log .now) t (l .score) (a .e .dsize) found g,
+      λ page o q. leaf-looked-up (a .log .now) page (a .e) o (l .score) t (type-at .ensures) found g
+          ∙ ap (λ (n : ℕ). under (a .log .now) page (a .e) o n (l .score)) (sym z) ∙ l .inv .2 page o q,
     )
 
 pub descend-spec : {M : Type 1} → statement M
-descend-spec = tie.close (tie.spec Inv-loop μ-loop slice-aggregate-copy-at copy-at-requires div-leaf loop-holds slice-aggregate-is-zero-score is-zero-score-requires returns slice-aggregate-fetch add-fetch cast-fetch slice-aggregate-fetch-2 fetch-requires enum-known-look enum-told returns-2 returns-3 sub-level digit-requires pointer-at-requires loop-less loop-again slice-aggregate-fetch-3 leaf-type-requires slice-aggregate-fetch-4 fetch-requires-2 returns-4)
+descend-spec =
+    tie.close
+    (tie.spec Inv-loop μ-loop slice-aggregate-copy-at copy-at-requires div-leaf loop-holds slice-aggregate-is-zero-score is-zero-score-requires returns
+    slice-aggregate-fetch add-fetch cast-fetch slice-aggregate-fetch-2 fetch-requires enum-known-look enum-told returns-2 returns-3 sub-level digit-requires
+    slice-aggregate-score-at score-at-requires loop-less loop-again slice-aggregate-fetch-3 type-at-requires slice-aggregate-fetch-4 fetch-requires-2 returns-4)

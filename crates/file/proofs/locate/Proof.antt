@@ -1,5 +1,5 @@
 -- `file::locate` meets its contract: the tests in their order, then the tree.
-use mathlib.Core.Path.{_∙_}
+use mathlib.Core.Path.{refl, _∙_}
 use native.Mathlib.Omega.{arith}
 use borrow.Author.Tests.{not-true, not-false}
 use lib.ListN.{length, length-take, length-drop}
@@ -90,7 +90,7 @@ run-in-requires c κs =
     let if4 = c .before .before .if4 in
     let l = readable-length (a .entry .now) _ (is-readable .ensures) (not-false _ (if3 .left)) in
     let o = opened _ (a .entry .now) _ (a .offset) _ _ (is-allowed .ensures) (not-false _ (if1 .left)) (is-readable .ensures) (not-false _ (if3 .left)) (entry-whole (a .entry .now) _ l (entry-at .ensures)) (if4 .left) in
-    (c .descend .ensures .0, o .dsize-from, o .dsize-to, o .inside)
+    (omega (arith, c .descend .ensures .0, o .log), o .dsize-from, o .dsize-to, o .inside)
 
 returns-5 : tie.Need-returns-5
 returns-5 c =
@@ -104,7 +104,7 @@ returns-5 c =
     let entry-at = c .before .before .before .before .before .entry-at in
     let if4 = c .before .before .before .if4 in
     let l = readable-length (a .entry .now) _ (is-readable .ensures) (not-false _ (if3 .left)) in
-    c .run-in .ensures ∙ c .before .descend .ensures .1 (length (a .page .now)) ∙ goes-down (a .log .now) (a .page .now) (a .entry .now) (a .offset) _ (is-allowed .ensures) (not-false _ (if1 .left)) _ (is-page .ensures) (not-false _ (if2 .left)) _ (is-readable .ensures) (not-false _ (if3 .left)) _ (entry-whole (a .entry .now) _ l (entry-at .ensures)) (if4 .left)
+    c .run-in .ensures ∙ c .before .descend .ensures .1 (length (a .page .now)) (a .offset) refl ∙ goes-down (a .log .now) (a .page .now) (a .entry .now) (a .offset) _ (is-allowed .ensures) (not-false _ (if1 .left)) _ (is-page .ensures) (not-false _ (if2 .left)) _ (is-readable .ensures) (not-false _ (if3 .left)) _ (entry-whole (a .entry .now) _ l (entry-at .ensures)) (if4 .left)
 
 pub locate-spec : {M : Type 1} → statement M
 locate-spec =

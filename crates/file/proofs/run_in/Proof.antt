@@ -2,7 +2,7 @@
 use mathlib.Core.Path.{_≡_, sym, ap, _∙_}
 use Prim.Native.Nat.{ℕ}
 use native.Mathlib.Omega.{arith}
-use Rattle.file.specs.Fetch.{startOf, runIn}
+use Rattle.file.specs.Fetch.{endOf, runIn}
 use borrow.Author.Needs.{needs}
 use Rattle.file.proofs.run_in.Statement.{statement}
 use Rattle.file.proofs.run_in.Tie as tie
@@ -13,7 +13,7 @@ enum-known-look c = search needs
 leaf-run-requires : tie.Need-leaf-run-requires
 leaf-run-requires c κs =
     let p = c .before .before .before .pre in
-    (p .1, p .2, p .3, omega (arith, p .0, ap startOf (c .before .look .given .1)))
+    (p .1, p .2, p .3, omega (arith, p .0, ap endOf (c .before .look .given .1)))
 
 enum-known-look-2 : tie.Need-enum-known-look-2
 enum-known-look-2 c = search needs

@@ -14,14 +14,15 @@ use Rattle.block.specs.Block.{Row}
 use Rattle.log.specs.LookUp.{held, logAllowed}
 use Rattle.entry.specs.declared.Entry.{Entry}
 use Rattle.entry.specs.Entry.{entryOf, scoreOf, pointers}
 use Rattle.file.specs.declared.Located.{Located}
-use Rattle.file.specs.File.{zeroRun, storedRun, leafRun, pointer, pointerIndex, leafType, under, pageAllowed, entryReadable, located}
+use Rattle.tree.specs.Tree.{pointer, typeAt}
+use Rattle.file.specs.File.{zeroRun, storedRun, leafRun, pointerIndex, under, pageAllowed, entryReadable, located}
 use Rattle.file.specs.Fetch.{Open}
-use Rattle.file.specs.Path.{Answers}
-use Rattle.file.specs.Bytes.{byteUnder}
+use Rattle.file_laws.specs.Path.{Answers}
+use Rattle.file_laws.specs.Bytes.{byteUnder}
 use Rattle.file.proofs.Steps.{leaf-in, leaf-past, under-zero}
 use Rattle.file.proofs.Tests.{opened, goes-down}
-use Rattle.file.proofs.Missing.{tested, passed, looked, held-if}
+use Rattle.file_laws.proofs.Missing.{tested, passed, looked, held-if}
 
 -- ---- the least of three
 
@@ -97,11 +98,11 @@ module _ (log : Bytes) (page : ℕ) (e : Entry) (offset : ℕ) where
 
   -- one level, where the score is not zero and its block is held
   module _ (s : Bytes) (q : same s zeroScore ≡ false) (r : Row) where
-    leaf-is : held log (leafType e) s ≡ some r → leb (length (r .bytes)) (e .dsize) ≡ true → under log page e offset 0 s ≡ leafRun page e offset (r .first) (length (r .bytes))
+    leaf-is : held log (typeAt e 0) s ≡ some r → leb (length (r .bytes)) (e .dsize) ≡ true → under log page e offset 0 s ≡ leafRun page e offset (r .first) (length (r .bytes))
     unfolding under
     leaf-is h k = rw (q, h, k)
 
-    leaf-byte : held log (leafType e) s ≡ some r → (o : ℕ) → byteUnder log e o 0 s ≡ some (getD (r .bytes) (o % e .dsize) 0)
+    leaf-byte : held log (typeAt e 0) s ≡ some r → (o : ℕ) → byteUnder log e o 0 s ≡ some (getD (r .bytes) (o % e .dsize) 0)
     unfolding byteUnder
     leaf-byte h o = rw (q, h)
 
@@ -123,9 +124,9 @@ module _ (log : Bytes) (page : ℕ) (e : Entry) (offset : ℕ) where
       go : (b : Bool) → same s zeroScore ≡ b → Run log page e offset (λ o. byteUnder log e o 0 s) (under log page e offset 0 s)
       go true q = zero-run 0 s q
       go false q =
-          let h = held-if log (leafType e) s (e .dsize) (λ (r : Row). leafRun page e offset (r .first) (length (r .bytes))) (looked (same s zeroScore) (zeroRun page e offset) _ q a) in
+          let h = held-if log (typeAt e 0) s (e .dsize) (λ (r : Row). leafRun page e offset (r .first) (length (r .bytes))) (looked (same s zeroScore) (zeroRun page e offset) _ q a) in
           rename _ _ _ _ (leaf-is s q (h .0) (h .1) (h .3)) (λ o g. leaf-byte s q (h .0) (h .1) o)
-          (leaf-run (leafType e) s (h .0) (h .1) (leb-true (length ((h .0) .bytes)) (e .dsize) (h .3)))
+          (leaf-run (typeAt e 0) s (h .0) (h .1) (leb-true (length ((h .0) .bytes)) (e .dsize) (h .3)))
   under-run (suc d) s a = go (same s zeroScore) refl (under-run d)
     where
       go : (b : Bool) → same s zeroScore ≡ b

@@ -9,13 +9,14 @@ use Rattle.block.specs.Block.{Row}
 use Rattle.log.specs.LookUp.{held}
 use Rattle.entry.specs.declared.Entry.{Entry}
 use Rattle.entry.specs.Entry.{entryOf, scoreOf}
-use Rattle.file.specs.File.{pointer, pointerIndex, leafType, located}
+use Rattle.tree.specs.Tree.{pointer, typeAt}
+use Rattle.file.specs.File.{pointerIndex, located}
 use Rattle.file.specs.declared.Located.{Located}
 use Rattle.file.specs.declared.Located.the-variants.{Stored, Zeros, Refused}
 
 -- no block on the path is missing: each is held, down to the leaf or to a zero score
 unfoldable pub Whole : Bytes → Entry → ℕ → ℕ → Bytes → Type 0
-Whole log e offset zero s = same s zeroScore ≡ false → (r : Row) × (held log (leafType e) s ≡ some r)
+Whole log e offset zero s = same s zeroScore ≡ false → (r : Row) × (held log (typeAt e 0) s ≡ some r)
 Whole log e offset (suc d) s =
     same s zeroScore ≡ false → (r : Row) × (held log (2 + suc d) s ≡ some r) × Whole log e offset d (pointer (r .bytes) (pointerIndex e offset d))
 

@@ -14,13 +14,14 @@ use Rattle.block.specs.Block.{Row}
 use Rattle.log.specs.LookUp.{held, logAllowed}
 use Rattle.entry.specs.declared.Entry.{Entry}
 use Rattle.entry.specs.Entry.{entryOf, scoreOf}
 use Rattle.file.specs.declared.Located.{Located}
-use Rattle.file.specs.File.{zeroRun, leafRun, fetched, pointer, pointerIndex, leafType, under, pageAllowed, entryReadable, test, located}
-use Rattle.file.specs.Path.{Answers}
-use Rattle.file.specs.Bytes.{runBytes, byteUnder}
-use Rattle.file.proofs.Missing.{held-if}
-use Rattle.file.proofs.Stored.{stored-bytes}
-use Rattle.file.proofs.Runs.{least-pos, least-below, through, Run, nothing, block, under-run}
+use Rattle.tree.specs.Tree.{pointer, typeAt}
+use Rattle.file.specs.File.{zeroRun, leafRun, fetched, pointerIndex, under, pageAllowed, entryReadable, test, located}
+use Rattle.file_laws.specs.Path.{Answers}
+use Rattle.file_laws.specs.Bytes.{runBytes, byteUnder}
+use Rattle.file_laws.proofs.Missing.{held-if}
+use Rattle.file_laws.proofs.Stored.{stored-bytes}
+use Rattle.file_laws.proofs.Runs.{least-pos, least-below, through, Run, nothing, block, under-run}
 
 -- ---- an answer that is the same wherever the answer below is
 
@@ -44,7 +45,7 @@ module _ (log log′ : Bytes) (more : (t : ℕ) (s : Bytes) (r : Row) → held l
   unfolding under
   under-again page e offset zero s =
       else-again (same s zeroScore) (zeroRun page e offset) _ _
-      (fetched-again (leafType e) s (e .dsize) (λ (r : Row). leafRun page e offset (r .first) (length (r .bytes))) _ (λ r a. refl))
+      (fetched-again (typeAt e 0) s (e .dsize) (λ (r : Row). leafRun page e offset (r .first) (length (r .bytes))) _ (λ r a. refl))
   under-again page e offset (suc d) s =
       else-again (same s zeroScore) (zeroRun page e offset) _ _
       (fetched-again (2 + suc d) s (e .psize) _ _

@@ -12,10 +12,11 @@ use Rattle.kind.specs.Kind.{zeroScore}
 use Rattle.log.specs.LookUp.{held}
 use Rattle.entry.specs.declared.Entry.{Entry}
 use Rattle.entry.specs.Entry.{entryOf, scoreOf}
 use Rattle.file.specs.declared.Located.{Located}
 use Rattle.file.specs.declared.Located.the-variants.{Stored, Zeros, Refused}
-use Rattle.file.specs.File.{pointer, pointerIndex, leafType, located}
-use Rattle.file.specs.Path.{Answers}
+use Rattle.tree.specs.Tree.{pointer, typeAt}
+use Rattle.file.specs.File.{pointerIndex, located}
+use Rattle.file_laws.specs.Path.{Answers}
 
 -- the bytes of a run: "a part of the log or of the lent blank page"; "A refusal hands back an empty part"
 abbrev pub runBytes : Bytes → Bytes → Located → Bytes
@@ -27,7 +28,7 @@ runBytes log page (Refused w) = []
 -- "below a zero score all is zero", and so is what a leaf lacks
 unfoldable pub byteUnder : Bytes → Entry → ℕ → ℕ → Bytes → Option ℕ
 byteUnder log e offset zero s =
-    cond (same s zeroScore) (some 0) (on (held log (leafType e) s) none (λ r. some (getD (r .bytes) (offset % e .dsize) 0)))
+    cond (same s zeroScore) (some 0) (on (held log (typeAt e 0) s) none (λ r. some (getD (r .bytes) (offset % e .dsize) 0)))
 byteUnder log e offset (suc d) s =
     cond (same s zeroScore) (some 0)
     (on (held log (2 + suc d) s) none (λ r. byteUnder log e offset d (pointer (r .bytes) (pointerIndex e offset d))))

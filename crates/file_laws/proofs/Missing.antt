@@ -14,11 +14,12 @@ use Rattle.block.specs.Block.{Row}
 use Rattle.log.specs.LookUp.{held, absence}
 use Rattle.entry.specs.declared.Entry.{Entry}
 use Rattle.entry.specs.Entry.{entryOf, scoreOf}
 use Rattle.file.specs.declared.Located.{Located}
 use Rattle.file.specs.declared.Located.the-variants.{Refused}
-use Rattle.file.specs.File.{zeroRun, leafRun, fetched, pointer, pointerIndex, leafType, under, test}
-use Rattle.file.specs.Path.{Whole, Answers, ReadsWhole}
+use Rattle.tree.specs.Tree.{pointer, typeAt}
+use Rattle.file.specs.File.{zeroRun, leafRun, fetched, pointerIndex, under, test}
+use Rattle.file_laws.specs.Path.{Whole, Answers, ReadsWhole}
 use Rattle.file.proofs.Tests.{located-ind}
 
 -- a test that answers was passed
 pub tested : (b : Bool) (x : Located) (w : Refusal) → Answers (test b w x) → b ≡ true
@@ -47,7 +48,7 @@ held-if log t s count f a = go (held log t s) refl a
 pub under-whole : (log : Bytes) (page : ℕ) (e : Entry) (offset level : ℕ) (s : Bytes) → Answers (under log page e offset level s) → Whole log e offset level s
 unfolding under Whole
 under-whole log page e offset zero s a =
-    λ z. let h = held-if log (leafType e) s (e .dsize) (λ (r : Row). leafRun page e offset (r .first) (length (r .bytes))) (looked (same s zeroScore) (zeroRun page e offset) _ z a) in
+    λ z. let h = held-if log (typeAt e 0) s (e .dsize) (λ (r : Row). leafRun page e offset (r .first) (length (r .bytes))) (looked (same s zeroScore) (zeroRun page e offset) _ z a) in
     (h .0, h .1)
 under-whole log page e offset (suc d) s a =
     λ z. let f : Row → Located = λ r. cond (eqb (length (r .bytes) % 20) 0) (under log page e offset d (pointer (r .bytes) (pointerIndex e offset d))) (Refused why.Pointers) in

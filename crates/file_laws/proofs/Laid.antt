@@ -17,12 +17,12 @@ use Rattle.block.specs.Block.{Row}
 use Rattle.log.specs.LookUp.{held}
 use Rattle.entry.specs.declared.Entry.{Entry}
 use Rattle.entry.specs.Entry.{entryOf, scoreOf}
 use Rattle.file.specs.declared.Located.{Located}
 use Rattle.file.specs.File.{zeroRun, storedRun, pageAllowed, located}
-use Rattle.file.specs.Path.{Answers}
-use Rattle.file.specs.Bytes.{runBytes, byteUnder, fileByte, laid, RunIsTheFiles, WholeFile}
-use Rattle.file.proofs.Stored.{stored-bytes}
-use Rattle.file.proofs.Runs.{least-pos, least-below, through, Onward, Run, nothing, block, under-run}
+use Rattle.file_laws.specs.Path.{Answers}
+use Rattle.file_laws.specs.Bytes.{runBytes, byteUnder, fileByte, laid, RunIsTheFiles, WholeFile}
+use Rattle.file_laws.proofs.Stored.{stored-bytes}
+use Rattle.file_laws.proofs.Runs.{least-pos, least-below, through, Onward, Run, nothing, block, under-run}
 
 -- ---- the next bytes of a leaf
 
@@ -44,7 +44,7 @@ same-leaf w o j pos h =
 abbrev Next : Entry → ℕ → (ℕ → Option ℕ) → Bytes → Type 0
 Next e offset byte b = (1 ≤ length b) × (offset + length b ≤ e .size) × ((j : ℕ) → j < length b → byte (offset + j) ≡ some (getD b j 0))
 
-page-facts : (page : Bytes) → pageAllowed page ≡ true → (0 < length page) × (zeros page ≡ true)
+pub page-facts : (page : Bytes) → pageAllowed page ≡ true → (0 < length page) × (zeros page ≡ true)
 unfolding pageAllowed
 page-facts page h =
     let p = and-true (not (eqb (length page) 0)) (zeros page) h in

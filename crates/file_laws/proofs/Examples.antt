@@ -13,7 +13,8 @@ use Rattle.log.specs.LookUp.{held}
 use Rattle.entry.specs.declared.Entry.{Entry}
 use Rattle.entry.specs.Entry.{entryOf}
 use Rattle.entry.specs.Examples.{entryBytes}
-use Rattle.file.specs.File.{pointer, leafRun, under}
+use Rattle.tree.specs.Tree.{typeAt, pointer}
+use Rattle.file.specs.File.{leafRun, under}
 
 -- the entry: psize 60, which makes p 3, dsize 1,024, depth 2, size 9,216
 abbrev pub entry : Entry
@@ -26,5 +27,5 @@ module _ (log : Bytes) (page : ℕ) (s : Bytes) (two one leaf : Row)
     (la : leb (length (two .bytes)) 60 ≡ true) (lb : leb (length (one .bytes)) 60 ≡ true) (lc : leb (length (leaf .bytes)) 1024 ≡ true)
     (ma : eqb (length (two .bytes) % 20) 0 ≡ true) (mb : eqb (length (one .bytes) % 20) 0 ≡ true) where
   pub second-then-second : under log page entry 4096 2 s ≡ leafRun page entry 4096 (leaf .first) (length (leaf .bytes))
-  unfolding under digits valueFrom entryOf
+  unfolding under digits valueFrom entryOf typeAt
   second-then-second = rw (za, a, la, ma, zb, b, lb, mb, zc, c, lc) refl

@@ -1,0 +1,10 @@
+pub mod Examples
+pub mod Missing
+pub mod Stored
+pub mod Runs
+pub mod Again
+pub mod Laid
+pub mod Pages
+pub mod Gathered
+pub mod Filled
+pub mod Whole

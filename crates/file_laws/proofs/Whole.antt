@@ -1,0 +1,168 @@
+-- A buffer filled to the end has the runs laid end to end; where every offset reads, the whole file.
+use mathlib.Core.Path.{_≡_, refl, sym, ap, _∙_}
+use mathlib.Core.Bool.{Bool, true, false}
+use mathlib.Core.List.{_++_}
+use mathlib.Core.Option.{Option, none, some}
+use Prim.Native.Nat.{ℕ, zero, suc, _+_, _-_, _≤_, _<_, min}
+use native.Mathlib.Omega.{arith}
+use lib.Dec.{ltb}
+use borrow.Author.Tests.{ltb-true, ltb-false, lt-ltb}
+use lib.ListN.{length, take, drop, getD, length-append, length-take, List·getD-append}
+use lib.Seq.{ext-getD, getD-take, getD-append-add, length-take-le}
+use Rattle.buffer.specs.Bytes.{Bytes, put}
+use Rattle.buffer.proofs.Put.{length-put}
+use Rattle.refusal.specs.declared.Refusal.{Refusal}
+use Rattle.entry.specs.Entry.{entryOf}
+use Rattle.file.specs.declared.Located.{Located}
+use Rattle.file.specs.declared.Located.the-variants as run
+use Rattle.file.specs.File.{pageAllowed, located}
+use Rattle.fill.specs.declared.Stop.{Stop}
+use Rattle.fill.specs.declared.Stop.the-variants.{Done, Refused}
+use Rattle.fill.specs.Fill.{byteAt, gathered, Outcome, written, fillOf}
+use Rattle.file_laws.specs.Path.{Answers}
+use Rattle.file_laws.specs.Bytes.{runBytes, fileByte, laid}
+use Rattle.file_laws.specs.Fill.{FillIsTheRuns, FillWhole}
+use Rattle.file_laws.proofs.Runs.{through}
+use Rattle.file_laws.proofs.Laid.{run-bytes}
+use Rattle.file_laws.proofs.Gathered.{gathers}
+use Rattle.file_laws.proofs.Filled.{byte-answers, byte-refused, Filling, stopped, down, filling, fill-files}
+
+-- ---- runs laid end to end, as far as every offset reads
+
+module _ (log page entry : Bytes) where
+  size : ℕ
+  size = (entryOf entry) .size
+
+  -- the first n bytes of b are the file's from the offset on
+  abbrev Front : ℕ → ℕ → Bytes → Type 0
+  Front n offset b = (n ≤ length b) × ((i : ℕ) → i < n → fileByte log entry (offset + i) ≡ some (getD b i 0))
+
+  no-front : (n offset : ℕ) (b : Bytes) → n ≤ 0 → Front n offset b
+  no-front n offset b h = (omega arith, λ i g. absurd (omega arith))
+
+  front-more : (n offset : ℕ) (b rest : Bytes) → ((j : ℕ) → j < length b → fileByte log entry (offset + j) ≡ some (getD b j 0))
+      → Front (n - length b) (offset + length b) rest → Front n offset (b ++ rest)
+  front-more n offset b rest f R = (omega (arith, length-append b rest, R .0), λ i g. go i g (ltb i (length b)) refl)
+    where
+      go : (i : ℕ) → i < n → (t : Bool) → ltb i (length b) ≡ t → fileByte log entry (offset + i) ≡ some (getD (b ++ rest) i 0)
+      go i g true q = let lt = ltb-true i (length b) q in f i lt ∙ ap (λ (y : ℕ). some y) (sym (List·getD-append b rest 0 i lt))
+      go i g false q =
+          let ge = ltb-false i (length b) q in
+          let m : offset + i ≡ offset + length b + (i - length b) = omega arith in
+          let k : length b + (i - length b) ≡ i = omega arith in
+          ap (fileByte log entry) m ∙ R .1 (i - length b) (omega arith)
+          ∙ ap (λ (y : ℕ). some y) (sym (getD-append-add b rest (i - length b) 0) ∙ ap (λ (y : ℕ). getD (b ++ rest) y 0) k)
+
+  laid-front : (k n offset : ℕ) → n ≤ k → offset + n ≤ size → ((o : ℕ) → offset ≤ o → o < offset + n → Answers (located log page entry o))
+      → Front n offset (laid k log page entry offset)
+  unfolding laid size
+  laid-front zero n offset h s a = no-front n offset (laid 0 log page entry offset) (omega arith)
+  laid-front (suc k) n offset h s a = go (ltb 0 n) refl (laid-front k)
+    where
+      go : (t : Bool) → ltb 0 n ≡ t
+          → ((m o : ℕ) → m ≤ k → o + m ≤ size → ((p : ℕ) → o ≤ p → p < o + m → Answers (located log page entry p)) → Front m o (laid k log page entry o))
+          → Front n offset (laid (suc k) log page entry offset)
+      go false q f = no-front n offset (laid (suc k) log page entry offset) (ltb-false 0 n q)
+      go true q f =
+          let pos = ltb-true 0 n q in
+          let inside : offset < size = omega arith in
+          let b = runBytes log page (located log page entry offset) in
+          let R = run-bytes log page entry offset (a offset (omega arith) (omega arith)) in
+          let rest = f (n - length b) (offset + length b) (omega (arith, R .0)) (omega (arith, R .1)) (λ o g l. a o (omega arith) (omega (arith, g, l))) in
+          rw (lt-ltb offset size inside) (front-more n offset b (laid k log page entry (offset + length b)) (R .2) rest)
+
+-- ---- filled to the end
+
+-- where filling is done every offset that it filled reads
+record Done-at (log page entry : Bytes) (offset : ℕ) (d : Bytes) (count : ℕ) : Type 0 where
+  full : count ≡ min (length d) ((entryOf entry) .size - offset)
+  inside : offset < (entryOf entry) .size
+  answers : (o : ℕ) → offset ≤ o → o < offset + count → Answers (located log page entry o)
+
+done-at : (log page entry : Bytes) (offset : ℕ) (d : Bytes) → pageAllowed page ≡ true → (r : Outcome) → Filling log entry offset d r → r .filled .stop ≡ Done
+    → Done-at log page entry offset d (r .filled .count)
+done-at log page entry offset d p r (stopped w e h) q =
+    let y : Refused w ≡ Done = ap (λ (o : Outcome). o .filled .stop) (sym e) ∙ q in
+    let z : _≡_ {A = ℕ} 0 1 = cc in absurd (omega arith)
+done-at log page entry offset d p r (down inside e) q =
+    let n = min (length d) ((entryOf entry) .size - offset) in
+    let G = gathers (byteAt log entry) n offset in
+    let c = ap (λ (o : Outcome). o .filled .count) e in
+    record {
+      full = c ∙ G .done (ap (λ (o : Outcome). o .filled .stop) (sym e) ∙ q);
+      inside = inside;
+      answers = λ o g l.
+          let z : offset + (o - offset) ≡ o = omega arith in
+          byte-answers log entry page p o _ (ap (byteAt log entry) (sym z) ∙ G .each (o - offset) (omega (arith, c)));
+    }
+
+some-same : (a b : ℕ) → _≡_ {A = Option ℕ} (some a) (some b) → a ≡ b
+some-same a b e = cc
+
+pub fill-runs : FillIsTheRuns
+unfolding size
+fill-runs log page entry offset d p q =
+    let r = fillOf log entry offset d in
+    let c = r .filled .count in
+    let D = done-at log page entry offset d p r (filling log entry offset d) q in
+    let F = fill-files log entry offset d in
+    let L = laid-front log page entry c c offset (omega arith) (omega (arith, F .1, D .inside)) (D .answers) in
+    let b = laid c log page entry offset in
+    let long : c ≤ length (r .buffer) = buffer-long log entry offset d (filling log entry offset d) in
+    let left : length (take c (r .buffer)) ≡ c = length-take-le c (r .buffer) long in
+    let right : length (take c b) ≡ c = length-take-le c b (L .0) in (
+      D .full,
+      ext-getD 0 (take c (r .buffer)) (take c b) (left ∙ sym right)
+          (λ i h. let g : i < c = omega arith in
+          getD-take c (r .buffer) i 0 g ∙ some-same _ _ (sym (F .2 i g) ∙ L .1 i g) ∙ sym (getD-take c b i 0 g)),
+    )
+  where
+    buffer-long : (log entry : Bytes) (offset : ℕ) (d : Bytes) → Filling log entry offset d (fillOf log entry offset d)
+        → fillOf log entry offset d .filled .count ≤ length (fillOf log entry offset d .buffer)
+    buffer-long log entry offset d (stopped w e h) = rw e (omega arith)
+    buffer-long log entry offset d (down inside e) =
+        let x = gathered (byteAt log entry) (min (length d) ((entryOf entry) .size - offset)) offset .bytes in
+        let few = gathers (byteAt log entry) (min (length d) ((entryOf entry) .size - offset)) offset .few in
+        rw e (omega (arith, few, length-put d 0 x (omega (arith, few))))
+
+-- ---- the whole file
+
+refused-none : (x : Located) (w : Refusal) → x ≡ run.Refused w → Answers x → ⊥
+refused-none x w e a = rw e at a
+
+whole-count : (log page entry d : Bytes) → ((o : ℕ) → o < (entryOf entry) .size → Answers (located log page entry o)) → (entryOf entry) .size ≤ length d
+    → (r : Outcome) → Filling log entry 0 d r → (r .filled .count ≡ (entryOf entry) .size) × (0 < (entryOf entry) .size → r .filled .stop ≡ Done)
+whole-count log page entry d a h r (stopped w e f) = go (ltb 0 ((entryOf entry) .size)) refl
+  where
+    go : (t : Bool) → ltb 0 ((entryOf entry) .size) ≡ t → (r .filled .count ≡ (entryOf entry) .size) × (0 < (entryOf entry) .size → r .filled .stop ≡ Done)
+    go true q =
+        let pos = ltb-true 0 ((entryOf entry) .size) q in
+        let T = through log page entry 0 (a 0 pos) in
+        absurd (refused-none (located log page entry 0) w (sym (f page (T .zeros))) (a 0 pos))
+    go false q =
+        let z = ltb-false 0 ((entryOf entry) .size) q in
+        (omega (arith, ap (λ (o : Outcome). o .filled .count) e), λ pos. absurd (omega arith))
+whole-count log page entry d a h r (down pos e) = go (gathered (byteAt log entry) (min (length d) ((entryOf entry) .size - 0)) 0 .stop) refl
+  where
+    go : (s : Stop) → gathered (byteAt log entry) (min (length d) ((entryOf entry) .size - 0)) 0 .stop ≡ s
+        → (r .filled .count ≡ (entryOf entry) .size) × (0 < (entryOf entry) .size → r .filled .stop ≡ Done)
+    go Done q = (
+      omega (arith, ap (λ (o : Outcome). o .filled .count) e, gathers (byteAt log entry) (min (length d) ((entryOf entry) .size - 0)) 0 .done q),
+      λ _. ap (λ (o : Outcome). o .filled .stop) e ∙ q,
+    )
+    go (Refused w) q =
+        let n = min (length d) ((entryOf entry) .size - 0) in
+        let t = gathers (byteAt log entry) n 0 .ends w q in
+        let o = 0 + length (gathered (byteAt log entry) n 0 .bytes) in
+        let T = through log page entry 0 (a 0 pos) in
+        absurd (refused-none (located log page entry o) w (byte-refused log entry page (T .zeros) o w (t .1)) (a o (omega (arith, t .0))))
+
+pub fill-whole : FillWhole
+fill-whole log page entry d a h =
+    let r = fillOf log entry 0 d in
+    let W = whole-count log page entry d a h r (filling log entry 0 d) in
+    let F = fill-files log entry 0 d in (
+      W .0,
+      λ i g. let z : i ≡ 0 + i = omega arith in ap (fileByte log entry) z ∙ F .2 i (omega (arith, W .0)),
+      W .1,
+    )

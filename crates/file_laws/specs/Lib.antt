@@ -1,0 +1,4 @@
+-- What is claimed of reading a file.
+pub mod Path
+pub mod Bytes
+pub mod Fill

@@ -1,0 +1,63 @@
+-- The bytes of a leaf that was found, and the refusal where none was.
+use mathlib.Core.Path.{_≡_, refl, sym, ap, _∙_}
+use mathlib.Core.Bool.{Bool, true, false}
+use Prim.Native.Nat.{ℕ, _+_, _*_, _/_, _%_, _≤_, _<_}
+use native.Mathlib.Nat.{div-add-mod, mul-add-div, mul-add-mod-self-left, mod-eq-of-lt, div-eq-of-lt}
+use native.Mathlib.Omega.{arith}
+use lib.Dec.{ltb}
+use borrow.Author.Tests.{ltb-true, ltb-false}
+use lib.ListN.{length, getD, List·getD-eq-default}
+use Rattle.buffer.specs.Bytes.{Bytes}
+use Rattle.refusal.specs.declared.Refusal.{Refusal}
+use Rattle.sector.specs.declared.SectorNumber.{SectorNumber}
+use Rattle.block.specs.Block.{partsOf}
+use Rattle.block.specs.Log.{sectors}
+use Rattle.reader.specs.Reader.{bytesAt}
+use Rattle.reader.proofs.Pieces.{length-bytes}
+use Rattle.log.specs.declared.Look.{Look}
+use Rattle.log.specs.declared.Look.the-variants as look
+use Rattle.entry.specs.declared.Entry.{Entry}
+use Rattle.file.specs.File.{leafRun, under}
+use Rattle.file.specs.Fetch.{runIn}
+use Rattle.file.proofs.Places.{byte-place}
+use Rattle.file.proofs.Steps.{leaf-in, leaf-past}
+use Rattle.fill.specs.Fill.{Read, byte, refused, firstOf, byteBelow}
+
+sum-front : (x r j o : ℕ) → x + r ≡ o → o + j ≡ x + (r + j)
+sum-front x r j o e = omega arith
+
+-- j bytes on, in the same leaf
+pub same-leaf : (w o j : ℕ) → 0 < w → o % w + j < w → ((o + j) / w ≡ o / w) × ((o + j) % w ≡ o % w + j)
+same-leaf w o j pos h =
+    let e : o + j ≡ w * (o / w) + (o % w + j) = sum-front (w * (o / w)) (o % w) j o (div-add-mod o w) in
+    let z : o / w + 0 ≡ o / w = omega arith in (
+      ap (λ (x : ℕ). x / w) e ∙ mul-add-div pos (o / w) (o % w + j) ∙ ap (λ (x : ℕ). o / w + x) (div-eq-of-lt h) ∙ z,
+      ap (λ (x : ℕ). x % w) e ∙ mul-add-mod-self-left w (o / w) (o % w + j) ∙ mod-eq-of-lt h,
+    )
+
+-- the first byte of a leaf's run is the leaf's byte there, and zero past its end
+first-byte : (log : Bytes) (e : Entry) (o n size : ℕ) → n + partsOf size ≤ sectors (length log)
+    → firstOf log (leafRun 1 e o n size) ≡ byte (getD (bytesAt log n size) (o % e .dsize) 0)
+first-byte log e o n size h = go (ltb (o % e .dsize) size) refl
+  where
+    go : (t : Bool) → ltb (o % e .dsize) size ≡ t → firstOf log (leafRun 1 e o n size) ≡ byte (getD (bytesAt log n size) (o % e .dsize) 0)
+    go true q =
+        let lt = ltb-true (o % e .dsize) size q in
+        ap (firstOf log) (sym (leaf-in 1 e o n size lt)) ∙ ap byte (sym (byte-place log n size h (o % e .dsize) lt))
+    go false q =
+        let ge = ltb-false (o % e .dsize) size q in
+        let past : length (bytesAt log n size) ≤ o % e .dsize = omega (arith, length-bytes log n size) in
+        ap (firstOf log) (sym (leaf-past 1 e o n size ge)) ∙ ap byte (sym (List·getD-eq-default (bytesAt log n size) 0 past))
+
+module _ (log : Bytes) (e : Entry) (top : Bytes) (offset : ℕ) (l : Look)
+    (found : (page o : ℕ) → o / e .dsize ≡ offset / e .dsize → runIn page e o l ≡ under log page e o (e .depth) top) where
+  pub leaf-refused : (w : Refusal) → l ≡ look.Refused w → byteBelow log e top offset ≡ refused w
+  leaf-refused w z = ap (firstOf log) (sym (found 1 offset refl) ∙ ap (runIn 1 e offset) z)
+
+  pub leaf-bytes : (first : SectorNumber) (size : ℕ) → l ≡ look.Found first size → first .0 + partsOf size ≤ sectors (length log) → 0 < e .dsize
+      → (j : ℕ) → offset % e .dsize + j < e .dsize → byteBelow log e top (offset + j) ≡ byte (getD (bytesAt log (first .0) size) (offset % e .dsize + j) 0)
+  leaf-bytes first size z room pos j h =
+      let s = same-leaf (e .dsize) offset j pos h in
+      ap (firstOf log) (sym (found 1 (offset + j) (s .0)) ∙ ap (runIn 1 e (offset + j)) z)
+      ∙ first-byte log e (offset + j) (first .0) size room
+      ∙ ap (λ (x : ℕ). byte (getD (bytesAt log (first .0) size) x 0)) (s .1)

@@ -1,0 +1,4 @@
+pub mod Leaf
+pub mod Gather
+pub mod Tests
+pub mod Turn

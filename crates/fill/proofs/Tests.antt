@@ -1,0 +1,69 @@
+-- The tests before the tree, one after the other, and what they show.
+use mathlib.Core.Path.{_≡_, refl, sym, ap, _∙_}
+use mathlib.Core.Bool.{Bool, true, false}
+use mathlib.Core.List.{[], _∷_}
+use Prim.Native.Nat.{ℕ, _+_, _-_, _≤_, _<_, min}
+use native.Mathlib.Omega.{arith}
+use borrow.Author.Tests.{lt-ltb, le-ltb}
+use lib.ListN.{length}
+use Rattle.buffer.specs.Bytes.{Bytes}
+use Rattle.refusal.specs.declared.Refusal.{Refusal}
+use Rattle.refusal.specs.declared.Refusal.the-variants as why
+use Rattle.log.specs.LookUp.{logAllowed}
+use Rattle.entry.specs.declared.Entry.{Entry}
+use Rattle.entry.specs.Entry.{entryOf, scoreOf}
+use Rattle.file.specs.File.{pageAllowed, entryReadable}
+use Rattle.file.specs.Fetch.{Open}
+use Rattle.file.proofs.Tests.{goes-down}
+use Rattle.fill.specs.declared.Stop.the-variants.{Refused}
+use Rattle.fill.specs.Fill.{firstOf, byteAt, byteBelow, gathered, Outcome, outcome, written, fillOf}
+use Rattle.fill.proofs.Gather.{gathered-same}
+
+-- further on in the file
+pub open-on : (m : ℕ) (e : Entry) (offset o : ℕ) → Open m e offset → o < e .size → Open m e o
+open-on m e offset o p h = record {
+  log = p .log;
+  psize-from = p .psize-from;
+  psize-to = p .psize-to;
+  dsize-from = p .dsize-from;
+  dsize-to = p .dsize-to;
+  depth = p .depth;
+  inside = h;
+}
+
+-- the page of one zero
+pub zero-page : pageAllowed (0 ∷ []) ≡ true
+unfolding pageAllowed
+zero-page = refl
+
+-- nothing written
+abbrev pub nothing : Bytes → Refusal → Outcome
+nothing d w = outcome (record { count = 0; stop = Refused w }) d
+
+module _ (log b : Bytes) (offset : ℕ) (d : Bytes) (a : Bool) (ea : a ≡ logAllowed (length log)) where
+  pub fill-stops-log : a ≡ false → nothing d why.LogLength ≡ fillOf log b offset d
+  unfolding fillOf
+  fill-stops-log q = rw (sym ea ∙ q)
+
+  module _ (ta : a ≡ true) (r : Bool) (er : r ≡ entryReadable b) where
+    pub fill-stops-entry : r ≡ false → nothing d why.Entry ≡ fillOf log b offset d
+    unfolding fillOf
+    fill-stops-entry q = rw (sym ea ∙ ta, sym er ∙ q)
+
+    module _ (tr : r ≡ true) (e : Entry) (ee : e ≡ entryOf b) where
+      pub fill-stops-offset : e .size ≤ offset → nothing d why.Offset ≡ fillOf log b offset d
+      unfolding fillOf
+      fill-stops-offset h = rw (sym ea ∙ ta, sym er ∙ tr, ← ee, le-ltb offset (e .size) h)
+
+      -- at every offset of the file the tests let through
+      below : (o : ℕ) → o < e .size → byteBelow log e (scoreOf b) o ≡ byteAt log b o
+      below o h = ap (firstOf log) (goes-down log (0 ∷ []) b o a ea ta true (sym zero-page) refl r er tr e ee h)
+
+      pub fill-goes-down : offset < e .size
+          → written d (gathered (byteBelow log e (scoreOf b)) (min (length d) (e .size - offset)) offset) ≡ fillOf log b offset d
+      unfolding fillOf
+      fill-goes-down h =
+          let n = min (length d) (e .size - offset) in
+          let s : offset + n ≤ e .size = omega arith in
+          ap (written d) (gathered-same (byteBelow log e (scoreOf b)) (byteAt log b) n offset (λ j p q. below j (omega arith)))
+          ∙ sym (rw (sym ea ∙ ta, sym er ∙ tr, ← ee, lt-ltb offset (e .size) h) refl)

@@ -1,0 +1,89 @@
+-- Reading a file into a lent buffer, byte by byte.
+use mathlib.Core.Bool.{Bool, cond}
+use mathlib.Core.List.{[], _∷_}
+use Prim.Native.Nat.{ℕ, zero, suc, _-_, min}
+use lib.Dec.{ltb}
+use lib.ListN.{length, getD}
+use Rattle.buffer.specs.Bytes.{Bytes, put}
+use Rattle.refusal.specs.declared.Refusal.{Refusal}
+use Rattle.refusal.specs.declared.Refusal.the-variants as why
+use Rattle.refusal.specs.Number.{numberOf}
+use Rattle.log.specs.declared.Look.{Look}
+use Rattle.log.specs.declared.Look.the-variants as look
+use Rattle.log.specs.LookUp.{logAllowed}
+use Rattle.entry.specs.declared.Entry.{Entry}
+use Rattle.entry.specs.Entry.{entryOf}
+use Rattle.file.specs.declared.Located.{Located}
+use Rattle.file.specs.declared.Located.the-variants as run
+use Rattle.file.specs.File.{under, entryReadable, located}
+use Rattle.fill.specs.declared.Stop.{Stop}
+use Rattle.fill.specs.declared.Stop.the-variants.{Done, Refused}
+use Rattle.fill.specs.declared.Filled.{Filled}
+
+-- "the number, 0 for none"
+abbrev pub stopNumber : Stop → ℕ
+stopNumber Done = 0
+stopNumber (Refused w) = numberOf w
+
+-- how filling ends that ends with a look-up
+abbrev pub stopOf : Look → Stop
+stopOf (look.Found first size) = Done
+stopOf (look.Refused w) = Refused w
+
+-- what is read at an offset: a byte, or why there is none
+pub data Read : Type 0 where
+  byte : ℕ → Read
+  refused : Refusal → Read
+
+-- the first byte of a run
+abbrev pub firstOf : Bytes → Located → Read
+firstOf log (run.Stored at n) = byte (getD log at 0)
+firstOf log (run.Zeros n) = byte 0
+firstOf log (run.Refused w) = refused w
+
+-- byte o of the file of an entry: that of the run there. The page of one zero passes its test, and no byte depends on it
+abbrev pub byteAt : Bytes → Bytes → ℕ → Read
+byteAt log entry o = firstOf log (located log (0 ∷ []) entry o)
+
+-- the same below a score at the top level
+abbrev pub byteBelow : Bytes → Entry → Bytes → ℕ → Read
+byteBelow log e top o = firstOf log (under log 1 e o (e .depth) top)
+
+-- bytes up to the first refusal, and that refusal
+pub record Gathered : Type 0 where
+  pub bytes : Bytes
+  pub stop : Stop
+
+-- what is read at one offset in front of what is gathered behind it
+abbrev pub infront : Read → Gathered → Gathered
+infront (byte b) g = record { bytes = b ∷ g .bytes; stop = g .stop }
+infront (refused w) g = record { bytes = []; stop = Refused w }
+
+-- n bytes from offset o on
+unfoldable pub gathered : (ℕ → Read) → ℕ → ℕ → Gathered
+gathered read zero o = record { bytes = []; stop = Done }
+gathered read (suc n) o = infront (read o) (gathered read n (suc o))
+
+-- what a call leaves: its answer, and the buffer to its last byte
+pub record Outcome : Type 0 where
+  pub filled : Filled
+  pub buffer : Bytes
+
+abbrev pub outcome : Filled → Bytes → Outcome
+outcome f d = record { filled = f; buffer = d }
+
+-- bytes gathered, written to the front of the buffer; "the rest stays"
+abbrev pub written : Bytes → Gathered → Outcome
+written d g = outcome (record { count = length (g .bytes); stop = g .stop }) (put d 0 (g .bytes))
+
+-- a test, which refuses, the buffer as it was lent, or lets through
+abbrev pub test : Bool → Refusal → Bytes → Outcome → Outcome
+test b w d x = cond b x (outcome (record { count = 0; stop = Refused w }) d)
+
+-- "Tests: 3, 16, 17, then the tree": the file's bytes from the offset on, up to the end of the buffer or of the file
+unfoldable pub fillOf : Bytes → Bytes → ℕ → Bytes → Outcome
+fillOf log entry offset d =
+    test (logAllowed (length log)) why.LogLength d
+    (test (entryReadable entry) why.Entry d
+    (test (ltb offset ((entryOf entry) .size)) why.Offset d
+    (written d (gathered (byteAt log entry) (min (length d) ((entryOf entry) .size - offset)) offset))))

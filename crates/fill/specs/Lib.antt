@@ -1,0 +1,2 @@
+-- What the clauses of `fill` cite.
+pub mod Fill

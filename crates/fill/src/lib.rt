@@ -1,0 +1,108 @@
+// Reading a file into a lent buffer: leaf by leaf, each leaf looked for once.
+use entry::Entry;
+use log::Look;
+use refusal::Refusal;
+use sector::SECTOR;
+use sector::SectorNumber;
+ghost use mathlib.Core.Path.{_≡_};
+ghost use Prim.Native.Nat.{_-_, _≤_, min};
+ghost use lib.ListN.{length};
+ghost use Rattle.file.specs.Fetch.{Open};
+ghost use Rattle.fill.specs.Fill.{stopNumber, stopOf, outcome, written, byteBelow, gathered, fillOf};
+
+// How filling a buffer ended: the buffer or the file is full, or the refusal at the first offset that has one.
+pub enum Stop {
+    Done,
+    Refused(Refusal),
+}
+
+// What filling a buffer answers: how many bytes are written to its front, and how it ended.
+pub struct Filled {
+    pub count: usize,
+    pub stop: Stop,
+}
+
+// The number of how filling a buffer ended: 0 for done.
+pub fn number(stop: Stop) -> u8
+    ensures { λ r. ⌜ r ≡ stopNumber stop ⌝ }
+{
+    match stop {
+        Stop::Done => 0,
+        Stop::Refused(why) => refusal::number(why),
+    }
+}
+
+// The end of filling where a look-up ends it.
+fn stop_of(look: Look) -> Stop
+    ensures { λ r. ⌜ r ≡ stopOf look ⌝ }
+{
+    match look {
+        Look::Found { first: _, size: _ } => Stop::Done,
+        Look::Refused(why) => Stop::Refused(why),
+    }
+}
+
+// The lesser of two.
+fn lesser(a: usize, b: u64) -> usize
+    ensures { λ r. ⌜ r ≡ min a b ⌝ }
+{
+    if a as u64 <= b {
+        return a;
+    }
+    b as usize
+}
+
+// Fills d from an offset on, up to its end or the file's, below the score at the top level.
+fn fill_leaves(log: &[u8], e: Entry, top: &[u8], offset: u64, d: &mut [u8]) -> Filled
+    requires { ⌜ Open (length (now log)) e offset × (length (now top) ≡ 20) ⌝ }
+    ensures { λ r. ⌜ outcome r (now (d .exit)) ≡ written (now (d .entry)) (gathered (byteBelow (now (log .entry)) e (now (top .entry))) (min (length (now (d .entry))) (e .size - offset)) offset) ⌝ }
+{
+    let none = [0u8; 0];
+    let end = SectorNumber(log.len() / SECTOR);
+    let count = lesser(d.len(), e.size - offset);
+    let mut done: usize = 0;
+    while done < count {
+        let o = offset + done as u64;
+        let look = file::descend(log, e, o, top);
+        let Look::Found { first, size } = look else {
+            return Filled {
+                count: done,
+                stop: stop_of(look),
+            };
+        };
+        let k = (o % e.dsize as u64) as usize;
+        let next = done + lesser(e.dsize - k, (count - done) as u64);
+        tree::read_part(log, end, &none, first, size, k, &mut d[done..next]);
+        done = next;
+    }
+    Filled {
+        count: done,
+        stop: Stop::Done,
+    }
+}
+
+// Fills d with the bytes of a file from an offset on: any log, entry, offset and buffer.
+pub fn fill(log: &[u8], entry: &[u8], offset: u64, d: &mut [u8]) -> Filled
+    ensures { λ r. ⌜ outcome r (now (d .exit)) ≡ fillOf (now (log .entry)) (now (entry .entry)) offset (now (d .entry)) ⌝ }
+{
+    if !lookup::is_allowed(log.len()) {
+        return Filled {
+            count: 0,
+            stop: Stop::Refused(Refusal::LogLength),
+        };
+    }
+    if !file::is_readable(entry) {
+        return Filled {
+            count: 0,
+            stop: Stop::Refused(Refusal::Entry),
+        };
+    }
+    let e = entry::entry_at(entry, 0);
+    if e.size <= offset {
+        return Filled {
+            count: 0,
+            stop: Stop::Refused(Refusal::Offset),
+        };
+    }
+    fill_leaves(log, e, &entry[20..40], offset, d)
+}

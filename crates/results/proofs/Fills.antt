@@ -1,0 +1,33 @@
+-- The bytes that are filled are few: a file's size has six bytes.
+use mathlib.Core.Path.{_≡_, sym, ap, _∙_}
+use Prim.Native.Nat.{ℕ, _+_, _*_, _-_, _^_, _≤_, _<_}
+use native.Mathlib.Nat.{pow-le-pow-right, zero-lt-suc}
+use native.Mathlib.Omega.{arith}
+use lib.ListN.{length, take, drop, length-take}
+use Rattle.buffer.specs.Bytes.{Bytes}
+use Rattle.buffer.proofs.Bytes.{small-all, small-getD, small-take, small-drop}
+use Rattle.word.specs.Number.{Below}
+use Rattle.word.proofs.NumberLaws.{value-lt}
+use Rattle.entry.specs.Entry.{entryOf}
+use Rattle.fill.specs.declared.Filled.{Filled}
+use Rattle.fill.specs.Fill.{stopNumber, Outcome, outcome, fillOf}
+use Rattle.file_laws.proofs.Filled.{fill-files}
+use Rattle.results.specs.Tree.{filledNumber, filledUp, fillResult}
+
+size-few : (b : Bytes) → Below 256 b → (entryOf b) .size < 2 ^ 48
+unfolding entryOf
+size-few b h =
+    let s = take 6 (drop 14 b) in
+    let few : Below 256 s = λ k. small-getD s k (small-take 6 (drop 14 b) (small-drop 14 b (small-all b h))) in
+    let short : length s ≤ 6 = omega (arith, length-take 6 (drop 14 b)) in
+    let room : 256 ^ length s ≤ 256 ^ 6 = pow-le-pow-right (zero-lt-suc 255) short in
+    omega (arith, value-lt 256 s few, room)
+
+-- of the code's answer
+pub fills-few : (log b : Bytes) (offset : ℕ) (d d′ : Bytes) (f : Filled) → Below 256 b → outcome f d′ ≡ fillOf log b offset d → f .count < 2 ^ 48
+fills-few log b offset d d′ f h e =
+    let c : f .count ≡ fillOf log b offset d .filled .count = ap (λ (o : Outcome). o .filled .count) e in
+    omega (arith, c, fill-files log b offset d .1, size-few b h)
+
+pub filled-so : (f : Filled) (d : Bytes) (o : Outcome) (k : ℕ) → outcome f d ≡ o → k ≡ stopNumber (f .stop) → filledUp (k + 256 * f .count) d ≡ fillResult o
+filled-so f d o k e g = ap (λ (x : ℕ). filledUp (x + 256 * f .count) d) g ∙ ap fillResult e

@@ -1,0 +1,2 @@
+-- What the clauses of `tree` cite.
+pub mod Tree

@@ -1,0 +1,122 @@
+// What reading a file and walking share: parts of a block copied out, the scores of a pointer block, an entry's blocks by their level.
+// A block lies in two runs of sectors that are read as one, as in `reader`.
+use entry::Entry;
+use sector::LABEL;
+use sector::PAYLOAD;
+use sector::SectorNumber;
+ghost use mathlib.Core.Path.{_≡_};
+ghost use Prim.Native.Nat.{_+_, _-_, _%_, _^_, _≤_, _<_, min};
+ghost use lib.ListN.{length, take, drop};
+ghost use Rattle.sector.specs.Sector.{filled};
+ghost use Rattle.block.specs.Block.{partsOf};
+ghost use Rattle.block.specs.Log.{sectors, joined};
+ghost use Rattle.reader.specs.Reader.{bytesAt};
+ghost use Rattle.tree.specs.Tree.{typeAt, countAt, pointer};
+
+// The least of three.
+pub fn least(a: usize, b: usize, c: u64) -> usize
+    ensures { λ r. ⌜ r ≡ min a (min b c) ⌝ }
+{
+    if a <= b {
+        if a as u64 <= c {
+            return a;
+        }
+        return c as usize;
+    }
+    if b as u64 <= c {
+        return b;
+    }
+    c as usize
+}
+
+// The bytes of a block from byte k on, where they lie: up to the end of the payload, of the block or of the room.
+fn piece_from<'a>(
+    log: &'a [u8],
+    end: SectorNumber,
+    waiting: &'a [u8],
+    first: SectorNumber,
+    size: usize,
+    k: usize,
+    room: usize,
+) -> &'a [u8]
+    requires { ⌜ (end .0 ≤ sectors (length (now log))) × (first .0 + partsOf size ≤ end .0 + sectors (length (now waiting))) × (k < size) ⌝ }
+    ensures { λ r. ⌜ now r ≡ take (min (403 - k % 403) (min (size - k) room)) (drop k (bytesAt (joined (end .0) (now (log .entry)) (now (waiting .entry))) (first .0) size)) ⌝ }
+{
+    let at = k % PAYLOAD;
+    let n = first.0 + k / PAYLOAD;
+    let s = reader::sector_at(log, end, waiting, SectorNumber(n));
+    let from = LABEL + at;
+    let to = from + least(PAYLOAD - at, size - k, room as u64);
+    &s[from..to]
+}
+
+// Fills d with the bytes of a block from `from` on, and zeros past its end: payload by payload.
+pub fn read_part<'a>(
+    log: &'a [u8],
+    end: SectorNumber,
+    waiting: &'a [u8],
+    first: SectorNumber,
+    size: usize,
+    from: usize,
+    d: &mut [u8],
+)
+    requires { ⌜ (end .0 ≤ sectors (length (now log))) × (first .0 + partsOf size ≤ end .0 + sectors (length (now waiting))) × (from + length (now d) < 2 ^ 64) ⌝ }
+    ensures { λ _. ⌜ now (d .exit) ≡ filled (length (now (d .entry))) (drop from (bytesAt (joined (end .0) (now (log .entry)) (now (waiting .entry))) (first .0) size)) ⌝ }
+{
+    let mut done: usize = 0;
+    while done < d.len() {
+        let k = from + done;
+        if size <= k {
+            buffer::clear(&mut d[done..]);
+            return;
+        }
+        let piece = piece_from(log, end, waiting, first, size, k, d.len() - done);
+        buffer::copy_at(d, done, piece);
+        done += piece.len();
+    }
+}
+
+// Score i of a pointer block; past its end the zero score.
+pub fn score_at<'a>(
+    log: &'a [u8],
+    end: SectorNumber,
+    waiting: &'a [u8],
+    first: SectorNumber,
+    size: usize,
+    i: usize,
+) -> [u8; 20]
+    requires { ⌜ (end .0 ≤ sectors (length (now log))) × (first .0 + partsOf size ≤ end .0 + sectors (length (now waiting))) × (size % 20 ≡ 0) × (i < 2 ^ 32) ⌝ }
+    ensures { λ r. ⌜ r ≡ pointer (bytesAt (joined (end .0) (now (log .entry)) (now (waiting .entry))) (first .0) size) i ⌝ }
+{
+    let from = 20 * i;
+    if size <= from {
+        return kind::zero_score();
+    }
+    let mut d = [0u8; 20];
+    read_part(log, end, waiting, first, size, from, &mut d);
+    d
+}
+
+// The type of an entry's blocks at a level.
+pub fn type_at(e: Entry, level: usize) -> u8
+    requires { ⌜ level ≤ 7 ⌝ }
+    ensures { λ r. ⌜ r ≡ typeAt e level ⌝ }
+{
+    if level == 0 {
+        if e.directory {
+            return 2;
+        }
+        return 13;
+    }
+    (2 + level) as u8
+}
+
+// The longest that an entry's blocks may be at a level.
+pub fn count_at(e: Entry, level: usize) -> usize
+    ensures { λ r. ⌜ r ≡ countAt e level ⌝ }
+{
+    if level == 0 {
+        return e.dsize;
+    }
+    e.psize
+}
