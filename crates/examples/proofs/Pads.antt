@@ -19,9 +19,10 @@ use Rattle.archive.specs.declared.Session.the-variants.{Fresh, Greeted, Closed}
 use Rattle.entry.specs.Entry.{entryOf, wellFormed, entryAllowed}
 use Rattle.entry.specs.declared.Entry.{Entry}
 use Rattle.file.specs.File.{entryReadable, pageAllowed, located, answerOf}
-use Rattle.walk.specs.declared.Walked.{Walked}
-use Rattle.walk.specs.declared.End.the-variants.{Done, Refused}
-use Rattle.walk.specs.Walk.{walked, judged}
+use Rattle.visit.specs.declared.Walked.{Walked}
+use Rattle.visit.specs.declared.End.the-variants.{Done, Refused}
+use Rattle.visit.specs.Visit.{walked}
+use Rattle.descent.specs.Descent.{judged}
 use Rattle.examples.specs.Pads.{Six, Pads}
 
 -- a byte other than 0 among w bytes at an offset

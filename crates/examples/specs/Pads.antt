@@ -12,9 +12,10 @@ use Rattle.archive.specs.declared.Session.{Session}
 use Rattle.archive.specs.declared.Session.the-variants.{Closed}
 use Rattle.entry.specs.Entry.{entryOf}
 use Rattle.file.specs.File.{pageAllowed, located, answerOf}
-use Rattle.walk.specs.declared.Walked.{Walked}
-use Rattle.walk.specs.declared.End.the-variants.{Done, Refused}
-use Rattle.walk.specs.Walk.{walked, judged}
+use Rattle.visit.specs.declared.Walked.{Walked}
+use Rattle.visit.specs.declared.End.the-variants.{Done, Refused}
+use Rattle.visit.specs.Visit.{walked}
+use Rattle.descent.specs.Descent.{judged}
 
 -- a message that tests 1 to 4 pass is refused with 6
 abbrev pub Six : Bytes → Type 0

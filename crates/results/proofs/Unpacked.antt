@@ -36,6 +36,9 @@ use Rattle.fill.specs.Fill.{stopNumber, fillOf}
 use Rattle.walk.specs.declared.End.{End}
 use Rattle.walk.specs.declared.End.the-variants.{Done, Refused}
 use Rattle.walk.specs.Walk.{endNumber, walkOf}
+use Rattle.visit.specs.declared.End.{End}
+use Rattle.visit.specs.declared.End.the-variants.{Done, Refused}
+use Rattle.visit.specs.Visit.{endNumber}
 use Rattle.results.specs.Serve.{sessionOf, sessionNumber}
 use Rattle.results.specs.Survey.{soundResult}
 use Rattle.results.specs.Blocks.{typeResult}

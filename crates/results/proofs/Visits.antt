@@ -11,18 +11,21 @@ use Rattle.log.specs.LookUp.{held, logAllowed}
 use Rattle.entry.specs.declared.Entry.{Entry}
 use Rattle.entry.specs.Entry.{entryOf, entryAllowed, scoreOf}
 use Rattle.entry.specs.Root.{rootWellFormed, rootScore}
-use Rattle.walk.specs.declared.Walked.{Walked}
-use Rattle.walk.specs.declared.End.{End}
-use Rattle.walk.specs.declared.End.the-variants.{Done, Refused}
-use Rattle.walk.specs.Walk.{endNumber, after, visiting, padded, piece, inOrder, typeAt, countAt, nestOf, entriesOf, judged, visitDirectory, visitEntry, walkTop, walkRoot, walkOf}
+use Rattle.visit.specs.declared.Walked.{Walked}
+use Rattle.visit.specs.declared.End.{End}
+use Rattle.visit.specs.declared.End.the-variants.{Done, Refused}
+use Rattle.tree.specs.Tree.{piece, typeAt, countAt}
+use Rattle.visit.specs.Visit.{endNumber, visiting}
+use Rattle.descent.specs.Descent.{andThen, paddedTo, inOrder, nestOf, entriesOf, judged, visitDirectory, visitEntry}
+use Rattle.walk.specs.Walk.{walkTop, walkRoot, walkOf}
 use Rattle.results.specs.Tree.{walkResult}
 
 abbrev Within : ℕ → Walked → Type 0
 Within left w = w .visits ≤ left
 
-after-within : (left : ℕ) (e : End) (n : ℕ) (k : ℕ → Walked) → n ≤ left → Within left (k n) → Within left (after e n k)
-after-within left Done n k h f = f
-after-within left (Refused r) n k h f = h
+and-then-within : (left : ℕ) (e : End) (n : ℕ) (k : ℕ → Walked) → n ≤ left → Within left (k n) → Within left (andThen e n k)
+and-then-within left Done n k h f = f
+and-then-within left (Refused r) n k h f = h
 
 order-within : (go : Bytes → ℕ → Walked) (w : ℕ) (b : Bytes) (left : ℕ) → ((x : Bytes) (a : ℕ) → Within a (go x a)) → (k i n : ℕ) → n ≤ left → Within left (inOrder go w b left k i n)
 unfolding inOrder
@@ -30,7 +33,7 @@ order-within go w b left g zero i n h = h
 order-within go w b left g (suc k) i n h =
     let p = piece w i b in
     let m : n + go p (left - n) .visits ≤ left = omega (arith, g p (left - n)) in
-    after-within left (go p (left - n) .end) (n + go p (left - n) .visits) _ m (order-within go w b left g k (suc i) _ m)
+    and-then-within left (go p (left - n) .end) (n + go p (left - n) .visits) _ m (order-within go w b left g k (suc i) _ m)
 
 visit-within : (log : Bytes) (nest left kind count : ℕ) (score : Bytes) (next : Bytes → Walked) → ((b : Bytes) → Within (left - 1) (next b))
     → Within left (visiting log nest left kind count score next)
@@ -63,7 +66,7 @@ mutual
   directory-within : (f : ℕ) (log : Bytes) (nest : ℕ) (b : Bytes) (left : ℕ) → Within left (visitDirectory f log nest b left)
   directory-within zero log nest b left = omega arith
   directory-within (suc f) log nest b left =
-      order-within _ 40 (padded (40 * entriesOf (length b)) b) left
+      order-within _ 40 (paddedTo (40 * entriesOf (length b)) b) left
       (λ x a. judged-within x _ a (entry-within f log (entryOf x) (entryOf x .depth) (nestOf (entryOf x) nest) (scoreOf x) a))
       (entriesOf (length b)) 0 0 (omega arith)
 
@@ -75,7 +78,7 @@ root-within : (log score : Bytes) (left : ℕ) → Within left (walkRoot log sco
 unfolding walkRoot
 root-within log score left =
     visit-within log 0 left 1 300 score _
-    (λ b. cond-ind (Within (left - 1)) (rootWellFormed (padded 300 b)) _ _ (λ _. top-within log (rootScore (padded 300 b)) (left - 1)) (λ _. omega arith))
+    (λ b. cond-ind (Within (left - 1)) (rootWellFormed (paddedTo 300 b)) _ _ (λ _. top-within log (rootScore (paddedTo 300 b)) (left - 1)) (λ _. omega arith))
 
 pub walk-within : (log score : Bytes) (allowance : ℕ) → (walkOf log score allowance .visits ≤ allowance) × (walkOf log score allowance .visits ≤ 1000000)
 unfolding walkOf

@@ -10,6 +10,8 @@ use Rattle.fill.specs.declared.Filled.{Filled}
 use Rattle.fill.specs.Fill.{stopNumber, Outcome}
 use Rattle.walk.specs.declared.Walked.{Walked}
 use Rattle.walk.specs.Walk.{endNumber}
+use Rattle.visit.specs.declared.Walked.{Walked}
+use Rattle.visit.specs.Visit.{endNumber}
 
 -- in the lowest 8 bits the number of the refusal, 0 for none; then a bit that is 1 for zeros; 16 bits of length; and the start
 abbrev pub packed : Located → ℕ

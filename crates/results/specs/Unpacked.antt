@@ -23,7 +23,8 @@ use Rattle.archive.specs.declared.Session.{Session}
 use Rattle.file.specs.File.{located}
 use Rattle.fill.specs.Fill.{stopNumber, fillOf}
 use Rattle.walk.specs.Walk.{endNumber, walkOf}
-use Rattle.results.specs.Serve.{sessionOf, sessionNumber, servedOf}
+use Rattle.results.specs.Serve.{sessionOf, sessionNumber, servedOf, outcome}
+use Rattle.visit.specs.Visit.{endNumber}
 use Rattle.results.specs.Blocks.{typeResult, cutResult}
 use Rattle.results.specs.Survey.{reportNumber, textLength, soundResult}
 use Rattle.results.specs.Tree.{packed, unpacked, runOf, filledNumber, walkResult}

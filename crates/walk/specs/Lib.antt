@@ -1,4 +1,2 @@
 -- What the clauses of `walk` cite.
 pub mod Walk
-pub mod Met
-pub mod Found

@@ -1,27 +1,47 @@
 -- `walk::walk` meets its contract: tests 3 and 23, then the root.
-use borrow.Author.Needs.{needs}
-use Rattle.walk.proofs.Tops.{walk-log, walk-over, walk-on}
-use Rattle.lookup.proofs.Laws.{allowed-sectors}
-use lib.ListN.{length}
-use borrow.Author.Tests.{not-true, not-false}
 use native.Mathlib.Omega.{arith}
+use lib.ListN.{length}
+use borrow.Author.Needs.{needs}
+use borrow.Author.Tests.{not-true, not-false}
+use Rattle.lookup.proofs.Laws.{allowed-sectors}
+use Rattle.walk.proofs.FromRoot.{log-not-allowed, allowance-too-large, tests-passed}
 use Rattle.walk.proofs.walk.Statement.{statement}
 use Rattle.walk.proofs.walk.Tie as tie
 
-is-allowed-requires : tie.Need-is-allowed-requires
-is-allowed-requires c κs = search needs
+-- where the function began: one `.before` for each lent slice
+abbrev start : tie.After-is-allowed → tie.Start
+start t = t .before .before
 
-returns : tie.Need-returns
-returns c = walk-log (c .before .before .before .args .log .now) (c .before .before .before .args .score .now) (c .before .before .before .args .allowance) _ (c .before .is-allowed .ensures) (not-true _ (c .if1 .taken))
+refused-by-log : tie.Need-returns
+refused-by-log c =
+    let t = c .before in
+    let a = start t .args in
+    log-not-allowed (a .log .now) (a .score .now) (a .allowance) _ (t .is-allowed .ensures) (not-true _ (c .if1 .taken))
 
-returns-2 : tie.Need-returns-2
-returns-2 c = walk-over (c .before .before .before .before .args .log .now) (c .before .before .before .before .args .score .now) (c .before .before .before .before .args .allowance) _ (c .before .before .is-allowed .ensures) (not-false _ (c .before .if1 .left)) (c .if2 .taken)
+refused-by-allowance : tie.Need-returns-2
+refused-by-allowance c =
+    let t = c .before .before in
+    let a = start t .args in
+    allowance-too-large (a .log .now) (a .score .now) (a .allowance) _ (t .is-allowed .ensures) (not-false _ (c .before .if1 .left)) (c .if2 .taken)
 
 walk-root-requires : tie.Need-walk-root-requires
-walk-root-requires c κs = (omega (arith, allowed-sectors (length (c .before .before .before .before .before .args .log .now)) _ (c .before .before .before .is-allowed .ensures) (not-false _ (c .before .before .if1 .left))), search needs)
+walk-root-requires c κs =
+    let t = c .before .before .before in
+    (omega (arith, allowed-sectors (length (start t .args .log .now)) _ (t .is-allowed .ensures) (not-false _ (c .before .before .if1 .left))), search needs)
 
-returns-3 : tie.Need-returns-3
-returns-3 c = walk-on (c .before .before .before .before .before .before .args .log .now) (c .before .before .before .before .before .before .args .score .now) (c .before .before .before .before .before .before .args .allowance) _ (c .before .before .before .before .is-allowed .ensures) (not-false _ (c .before .before .before .if1 .left)) (c .before .before .if2 .left) _ (c .walk-root .ensures)
+from-root : tie.Need-returns-3
+from-root c =
+    let i = c .before .before .before in
+    let t = i .before in
+    let a = start t .args in
+    tests-passed (a .log .now) (a .score .now) (a .allowance) _ (t .is-allowed .ensures) (not-false _ (i .if1 .left)) (c .before .before .if2 .left) _ (c .walk-root .ensures)
 
 pub walk-spec : {M : Type 1} → statement M
-walk-spec = tie.close (tie.spec is-allowed-requires returns returns-2 walk-root-requires returns-3)
+walk-spec =
+    tie.close
+    (tie.spec
+    (λ c κs. search needs)  -- is-allowed-requires
+    refused-by-log
+    refused-by-allowance
+    walk-root-requires
+    from-root)

@@ -1,52 +1,46 @@
 -- `walk::walk_top` meets its contract: refused, or the directory below.
-use borrow.Author.Needs.{needs}
-use Rattle.walk.proofs.Tops.{top-refused, top-found}
-use Rattle.walk.proofs.Visits.{found-known, spent-within}
 use native.Mathlib.Omega.{arith}
+use borrow.Author.Needs.{needs}
+use Rattle.walk.proofs.FromRoot.{top-refused, top-found}
+use Rattle.visit.proofs.Visits.{Known, found-known}
 use Rattle.walk.proofs.walk_top.Statement.{statement}
 use Rattle.walk.proofs.walk_top.Tie as tie
 
-visit-requires : tie.Need-visit-requires
-visit-requires c κs = search needs
+-- where the function began: one `.before` for each lent slice
+abbrev start : tie.After-visit → tie.Start
+start v = v .before .before .before
 
-enum-known-look : tie.Need-enum-known-look
-enum-known-look c = search needs
+-- what is known of the block that was found
+found : (c : tie.After-look)
+    → let a = start (c .before .before) .args in
+    Known (a .log .now) 1 (a .left) 2 57344 (a .score .now) (c .look .given .0 .0 .0) (c .look .given .0 .1 .0) (c .before .before .visit .result .spent)
+found c = found-known _ _ _ _ _ _ _ (c .before .before .visit .ensures) _ _ (c .look .given .1)
 
-enum-told : tie.Need-enum-told
-enum-told c = search needs
+refused : tie.Need-returns
+refused c =
+    let v = c .before .before .before in
+    let a = start v .args in
+    top-refused (a .log .now) (a .score .now) (a .left) (v .visit .ensures) (c .before .enum-told .given .1) (c .answer .ensures)
 
-answer-requires : tie.Need-answer-requires
-answer-requires c κs = search needs
-
-returns : tie.Need-returns
-returns c = (
-  rw (c .answer .ensures) (spent-within (c .before .before .before .before .before .before .args .log .now) 1 (c .before .before .before .before .before .before .args .left) 2 57344 (c .before .before .before .before .before .before .args .score .now) _ (c .before .before .before .visit .ensures)),
-  top-refused (c .before .before .before .before .before .before .args .log .now) (c .before .before .before .before .before .before .args .score .now) (c .before .before .before .before .before .before .args .left) _ (c .before .before .before .visit .ensures) _ (c .before .enum-told .given .1) _ (c .answer .ensures),
-)
-
-sub-visit-directory : tie.Need-sub-visit-directory
-sub-visit-directory c = let k = (found-known (c .before .before .before .before .before .before .args .log .now) 1 (c .before .before .before .before .before .before .args .left) 2 57344 (c .before .before .before .before .before .before .args .score .now) _ (c .before .before .before .visit .ensures) _ _ (c .before .look .given .1)) in omega (arith, k .some-left)
+some-left : tie.Need-sub-visit-directory
+some-left c = omega (arith, found (c .before) .some-left)
 
 visit-directory-requires : tie.Need-visit-directory-requires
-visit-directory-requires c κs = let k = (found-known (c .before .before .before .before .before .before .args .log .now) 1 (c .before .before .before .before .before .before .args .left) 2 57344 (c .before .before .before .before .before .before .args .score .now) _ (c .before .before .before .visit .ensures) _ _ (c .before .look .given .1)) in ((c .before .before .before .before .before .before .pre .0), k .in-log, k .not-many, k .not-deep)
+visit-directory-requires c κs = let k = found (c .before) in (search needs, k .in-log, k .not-many, k .not-deep)
 
-one-more-requires : tie.Need-one-more-requires
-one-more-requires c κs = search needs
-
-returns-2 : tie.Need-returns-2
-returns-2 c = let k = (found-known (c .before .before .before .before .before .before .before .before .args .log .now) 1 (c .before .before .before .before .before .before .before .before .args .left) 2 57344 (c .before .before .before .before .before .before .before .before .args .score .now) _ (c .before .before .before .before .before .visit .ensures) _ _ (c .before .before .before .look .given .1)) in
-    rw (c .one-more .ensures) (omega (arith, k .some-left, (c .before .visit-directory .ensures .0)), top-found (c .before .before .before .before .before .before .before .before .args .log .now) (c .before .before .before .before .before .before .before .before .args .score .now) (c .before .before .before .before .before .before .before .before .args .left) _ _ _ k _ (c .before .visit-directory .ensures .1))
+below : tie.Need-returns-2
+below c = rw (c .one-more .ensures) (top-found (found (c .before .before .before)) _ (c .before .visit-directory .ensures))
 
 pub walk-top-spec : {M : Type 1} → statement M
 walk-top-spec =
     tie.close
     (tie.spec
-    visit-requires
-    enum-known-look
-    enum-told
-    answer-requires
-    returns
-    sub-visit-directory
+    (λ c κs. search needs)  -- visit-requires
+    (λ c. search needs)  -- enum-known-look
+    (λ c. search needs)  -- enum-told
+    (λ c κs. search needs)  -- answer-requires
+    refused
+    some-left
     visit-directory-requires
-    one-more-requires
-    returns-2)
+    (λ c κs. search needs)  -- one-more-requires
+    below)

@@ -1,0 +1,60 @@
+-- `descent::visit_listed` meets its contract: by what the entry says.
+use Prim.Native.Nat.{ℕ}
+use mathlib.Core.Path.{sym, _∙_}
+use native.Mathlib.Omega.{arith}
+use borrow.Author.Needs.{needs}
+use borrow.Author.Tests.{not-true, not-false}
+use Rattle.reader.specs.Reader.{bytesAt}
+use Rattle.descent.proofs.Listed.{EntryRead, entry-read, depth-at-most-7, score-of-20, inactive-is-skipped, ill-formed-is-refused, well-formed-is-visited}
+use Rattle.descent.proofs.visit_listed.Reads.{Post}
+use Rattle.descent.proofs.+visit_directory+visit_entry+visit_listed+visit_scores.Lts-visit_listed as lts
+use Rattle.descent.proofs.+visit_directory+visit_entry+visit_listed+visit_scores.Proof.Calls.{listed-at, listed-calls}
+
+module _ (t : ℕ) where
+  -- where the function began: one `.before` for each lent slice
+  abbrev start : lts.After-entry-bytes (listed-calls t) (listed-at t) Post → lts.Start (listed-calls t) (listed-at t) Post
+  start c = c .before .before
+
+  -- the entry as it is read
+  here : (c : lts.After-entry-at (listed-calls t) (listed-at t) Post)
+      → let a = start (c .before .before) .args in
+      EntryRead (bytesAt (a .log .now) (a .first .0) (a .size)) (a .i) (c .before .before .entry-bytes .result) (c .entry-at .result)
+  here c = entry-read _ _ _ _ (start (c .before .before) .pre .1 .4) (c .before .before .entry-bytes .ensures) (c .entry-at .ensures)
+
+  skipped : lts.Need-returns (listed-calls t) (listed-at t) Post
+  skipped c = (omega arith, λ f l. inactive-is-skipped (here (c .before .before)) (not-true _ (c .if1 .taken)) f _ _ _)
+
+  refused : lts.Need-returns-2 (listed-calls t) (listed-at t) Post
+  refused c =
+      let i = c .before .before in
+      (omega arith, λ f l. ill-formed-is-refused (here (i .before .before)) (not-false _ (i .if1 .left)) (sym (c .before .is-well-formed .ensures) ∙ not-true _ (c .if2 .taken)) f _ _ _)
+
+  visit-entry-requires : lts.Need-visit-entry-requires (listed-calls t) (listed-at t) Post
+  visit-entry-requires c κs =
+      let r = here (c .before .before .before .before .before .before .before) in
+      (omega arith, (search needs, score-of-20 r, depth-at-most-7 r))
+
+  visited : lts.Need-returns-3 (listed-calls t) (listed-at t) Post
+  visited c =
+      let y = c .before .before .before .before in
+      let i = y .before .before in (
+        c .visit-entry .ensures .0,
+        λ f l. well-formed-is-visited (here (i .before .before)) (not-false _ (i .if1 .left)) (sym (y .before .is-well-formed .ensures) ∙ not-false _ (y .if2 .left)) _ _ _
+            (c .before .nest-of .ensures) f (c .visit-entry .ensures .1 f l),
+      )
+
+pub listed-meets : {M : Type 1} (t : ℕ) → lts.Closed (listed-calls t) (listed-at t) Post M
+listed-meets t =
+    lts.spec (listed-calls t) (listed-at t) Post
+    (λ c κs. search needs)  -- entry-bytes-requires
+    (λ c. search needs)  -- slice-aggregate-entry-at
+    (λ c κs. search needs)  -- entry-at-requires
+    (skipped t)
+    (λ c κs. search needs)  -- is-well-formed-requires
+    (refused t)
+    (λ c. search needs)  -- sub-visit-entry
+    (λ c. search needs)  -- part-visit-entry-start
+    (λ c. search needs)  -- part-visit-entry-end
+    (λ c κs. search needs)  -- nest-of-requires
+    (visit-entry-requires t)
+    (visited t)

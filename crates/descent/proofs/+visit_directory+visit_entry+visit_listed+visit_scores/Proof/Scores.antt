@@ -1,0 +1,74 @@
+-- `descent::visit_scores` meets its contract: the scores of the block in order.
+use Prim.Native.Nat.{ℕ, _-_}
+use native.Mathlib.Omega.{arith}
+use borrow.Author.Needs.{needs}
+use Rattle.reader.specs.Reader.{bytesAt}
+use Rattle.descent.specs.Descent.{visitEntry}
+use Rattle.descent.proofs.InOrder.{Rest, rest-at-first, all-done, rest-goes-on, refused-stops}
+use Rattle.descent.proofs.EntryBlocks.{scores-one-by-one, score-of-20, score-visited}
+use Rattle.descent.proofs.visit_scores.Reads.{Post}
+use Rattle.descent.proofs.+visit_directory+visit_entry+visit_listed+visit_scores.Lts-visit_scores as lts
+use Rattle.descent.proofs.+visit_directory+visit_entry+visit_listed+visit_scores.Proof.Calls.{scores-at, scores-calls}
+
+abbrev Inv : lts.InvT-loop
+Inv log e first size level nest left count visits₀ i₀ visits i =
+    Rest (λ f x a. visitEntry f log e level nest x a) 20 (bytesAt log (first .0) size) left count visits i
+
+abbrev μ : lts.MeasureT-loop
+μ log e first size level nest left count visits₀ i₀ visits i = count - i
+
+module _ (t : ℕ) where
+  -- where the function began: one `.before` for each lent slice
+  abbrev start : lts.At-loop (scores-calls t) (scores-at t) Post Inv μ → lts.Start (scores-calls t) (scores-at t) Post Inv μ
+  start l = l .before .before
+
+  loop-holds : lts.Need-loop-holds (scores-calls t) (scores-at t) Post Inv μ
+  loop-holds c = rest-at-first _ _ _ _ _
+
+  visit-entry-requires : lts.Need-visit-entry-requires (scores-calls t) (scores-at t) Post Inv μ
+  visit-entry-requires c κs =
+      let f = start (c .before .before .before) in
+      (omega arith, (search needs, score-of-20 _ (f .args .first .0) (f .args .size) _ (c .before .score-bytes .ensures) (f .pre .1 .3), search needs))
+
+  refused : lts.Need-returns (scores-calls t) (scores-at t) Post Inv μ
+  refused c =
+      let w = c .before .before .before in
+      let s = w .before .before in
+      let h = s .before .loop-test .taken in
+      let l = s .before .before in
+      let a = start l .args in
+      scores-one-by-one _ _ _ _ (a .first .0) (a .size) _ _
+      (refused-stops (l .loop .inv) h _ (w .visit-entry .ensures .0) (score-visited _ _ _ _ (a .first .0) (a .size) _ h (s .score-bytes .ensures) (w .visit-entry .ensures .1)) _
+      (c .enum-told2 .given .1))
+
+  loop-again : lts.Need-loop-again (scores-calls t) (scores-at t) Post Inv μ
+  loop-again c =
+      let w = c .before .before .before in
+      let s = w .before .before in
+      let h = s .before .loop-test .taken in
+      let l = s .before .before in
+      let a = start l .args in
+      rest-goes-on (l .loop .inv) h _ (w .visit-entry .ensures .0) (score-visited _ _ _ _ (a .first .0) (a .size) _ h (s .score-bytes .ensures) (w .visit-entry .ensures .1))
+      (c .enum-told .given .1)
+
+  ended : lts.Need-returns-2 (scores-calls t) (scores-at t) Post Inv μ
+  ended c =
+      let a = start (c .before) .args in
+      scores-one-by-one _ _ _ _ (a .first .0) (a .size) _ _ (all-done (c .before .loop .inv) (c .loop-test .left))
+
+pub scores-meets : {M : Type 1} (t : ℕ) → lts.Closed (scores-calls t) (scores-at t) Post M
+scores-meets t =
+    lts.spec (scores-calls t) (scores-at t) Post Inv μ
+    (loop-holds t)
+    (λ c κs. search needs)  -- score-bytes-requires
+    (λ c. search needs)  -- slice-aggregate-visit-entry
+    (λ c. search needs)  -- sub-visit-entry
+    (visit-entry-requires t)
+    (λ c. search needs)  -- add-visits
+    (λ c. search needs)  -- enum-told
+    (λ c. search needs)  -- enum-told-2
+    (refused t)
+    (λ c. search needs)  -- add-i
+    (λ c. search needs)  -- loop-less
+    (loop-again t)
+    (ended t)

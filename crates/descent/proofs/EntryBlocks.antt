@@ -1,0 +1,120 @@
+-- A block of an entry: refused, a leaf, a directory block, or a pointer block.
+use mathlib.Core.Path.{_≡_, sym, ap, ap₂, _∙_}
+use mathlib.Core.Bool.{Bool, true, false, cond}
+use Prim.Native.Nat.{ℕ, zero, suc, _+_, _-_, _/_, _%_, _≤_, _<_}
+use native.Mathlib.Omega.{arith}
+use lib.Dec.{eqb}
+use borrow.Author.Tests.{eq-eqb, ne-eqb}
+use lib.ListN.{length}
+use Rattle.buffer.specs.Bytes.{Bytes}
+use Rattle.refusal.specs.declared.Refusal.{Refusal}
+use Rattle.refusal.specs.declared.Refusal.the-variants.{Pointers}
+use Rattle.sector.specs.declared.SectorNumber.{SectorNumber}
+use Rattle.reader.specs.Reader.{bytesAt}
+use Rattle.reader.proofs.Pieces.{length-bytes}
+use Rattle.log.specs.declared.Look.the-variants.{Found, Refused}
+use Rattle.entry.specs.declared.Entry.{Entry}
+use Rattle.visit.specs.declared.Walked.{Walked}
+use Rattle.visit.specs.declared.Met.{Met}
+use Rattle.visit.specs.declared.End.the-variants.{Done, Refused as Stopped}
+use Rattle.tree.specs.Tree.{piece, pointer, typeAt, countAt}
+use Rattle.tree.proofs.Pointers.{pointer-piece, length-pointer}
+use Rattle.visit.specs.Visit.{walked, more, visiting}
+use Rattle.descent.specs.Descent.{inOrder, visitDirectory, visitEntry}
+use Rattle.visit.specs.Met.{metOf, answerOf, endOf}
+use Rattle.descent.specs.Parts.{visitScores}
+use Rattle.descent.proofs.InOrder.{OfAll}
+use Rattle.visit.proofs.Visits.{Known, found-known, refused-known, spent-within}
+
+-- what goes on below a block of an entry, by its bytes b
+abbrev belowBlock : ℕ → Bytes → Entry → ℕ → ℕ → ℕ → Bytes → Walked
+belowBlock f log e level nest left b =
+    cond (eqb level 0)
+    (cond (e .directory) (visitDirectory f log nest b (left - 1)) (walked 0 Done))
+    (cond (eqb (length b % 20) 0) (visitScores f log e (level - 1) nest b (left - 1)) (walked 0 (Stopped Pointers)))
+
+-- a visit of an entry is exact, and spends no more than what is left
+abbrev pub Visited : Bytes → Entry → ℕ → ℕ → Bytes → ℕ → Walked → Type 0
+Visited log e level nest score left r = (r .visits ≤ left) × ((f : ℕ) → left + left + 1 ≤ f → r ≡ visitEntry f log e level nest score left)
+
+-- what was met where a block of an entry is visited
+pub record EntryMet (log : Bytes) (e : Entry) (level nest : ℕ) (score : Bytes) (left : ℕ) (m : Met) : Type 0 where
+  pub met : m ≡ metOf log nest left (typeAt e level) (countAt e level) score
+
+module _ (log : Bytes) (e : Entry) (level nest : ℕ) (score : Bytes) (left : ℕ) where
+  visiting-is-entry : (v : Walked) → ((g : ℕ) → left + left ≤ g → v ≡ visiting log nest left (typeAt e level) (countAt e level) score (belowBlock g log e level nest left))
+      → (f : ℕ) → left + left + 1 ≤ f → v ≡ visitEntry f log e level nest score left
+  unfolding visitEntry
+  visiting-is-entry v k zero h = absurd (omega arith)
+  visiting-is-entry v k (suc f) h = k f (omega arith)
+
+module _ {log : Bytes} {e : Entry} {level nest : ℕ} {score : Bytes} {left : ℕ} {m : Met} (M : EntryMet log e level nest score left m) where
+  pub refused-ends : (why : Refusal) → m .look ≡ Refused why → (r : Walked) → r ≡ answerOf m → Visited log e level nest score left r
+  refused-ends why d r er = (
+    rw er (spent-within log nest left (typeAt e level) (countAt e level) score m (M .met)),
+    visiting-is-entry log e level nest score left r
+        (λ g h. er ∙ refused-known log nest left (typeAt e level) (countAt e level) score m (M .met) why d (belowBlock g log e level nest left)),
+  )
+
+  module _ {first : SectorNumber} {size : ℕ} (d : m .look ≡ Found first size) where
+    pub block-known : Known log nest left (typeAt e level) (countAt e level) score (first .0) size (m .spent)
+    block-known = found-known log nest left (typeAt e level) (countAt e level) score m (M .met) first size d
+
+    -- one visit, and what goes on
+    goes-on-below : (w : Walked) → w .visits ≤ left - 1 → ((g : ℕ) → left + left ≤ g → w ≡ belowBlock g log e level nest left (bytesAt log (first .0) size))
+        → Visited log e level nest score left (more w)
+    goes-on-below w h k = (
+      omega (arith, block-known .some-left),
+      visiting-is-entry log e level nest score left (more w) (λ g l. block-known .goes-on (belowBlock g log e level nest left) w (k g l)),
+    )
+
+    pub leaf-ends : level ≡ 0 → e .directory ≡ false → (r : Walked) → r ≡ answerOf m → Visited log e level nest score left r
+    leaf-ends z q r er =
+        let y : r ≡ walked 1 Done = er ∙ ap₂ walked (block-known .one-spent) (ap endOf d) in
+        rw y (goes-on-below (walked 0 Done) (omega arith) (λ g l. rw (eq-eqb level 0 z, q)))
+
+    pub directory-below : level ≡ 0 → e .directory ≡ true → (w : Walked)
+        → (w .visits ≤ left - 1) × ((g : ℕ) → (left - 1) + (left - 1) + 2 ≤ g → w ≡ visitDirectory g log nest (bytesAt log (first .0) size) (left - 1))
+        → Visited log e level nest score left (more w)
+    directory-below z q w k = goes-on-below w (k .0) (λ g l. rw (eq-eqb level 0 z, q) (k .1 g (omega (arith, block-known .some-left))))
+
+    whole-scores : (t : Bool) → eqb (size % 20) 0 ≡ t → eqb (length (bytesAt log (first .0) size) % 20) 0 ≡ t
+    whole-scores t q = ap (λ (x : ℕ). eqb (x % 20) 0) (length-bytes log (first .0) size) ∙ q
+
+    module _ (n : level ≡ 0 → ⊥) where
+      pub ragged-is-refused : (size % 20 ≡ 0 → ⊥) → Visited log e level nest score left (walked 1 (Stopped Pointers))
+      ragged-is-refused q =
+          let y = whole-scores false (ne-eqb (size % 20) 0 q) in
+          goes-on-below (walked 0 (Stopped Pointers)) (omega arith) (λ g l. rw (ne-eqb level 0 n, y))
+
+      pub scores-below : size % 20 ≡ 0 → (w : Walked)
+          → (w .visits ≤ left - 1)
+          × ((g : ℕ) → (left - 1) + (left - 1) + 1 ≤ g → w ≡ visitScores g log e (level - 1) nest (bytesAt log (first .0) size) (left - 1))
+          → Visited log e level nest score left (more w)
+      scores-below q w k =
+          let y = whole-scores true (eq-eqb (size % 20) 0 q) in
+          goes-on-below w (k .0) (λ g l. rw (ne-eqb level 0 n, y) (k .1 g (omega (arith, block-known .some-left))))
+
+-- ---- the scores of a pointer block
+
+-- one after the other, of a block of a size in the log
+pub scores-one-by-one : (log : Bytes) (e : Entry) (level nest first size left : ℕ) (v : Walked)
+    → OfAll (λ f x a. visitEntry f log e level nest x a) 20 (bytesAt log first size) left (size / 20) v
+    → (v .visits ≤ left) × ((f : ℕ) → left + left + 1 ≤ f → v ≡ visitScores f log e level nest (bytesAt log first size) left)
+scores-one-by-one log e level nest first size left v k = (
+  k .0,
+  λ f h. k .1 f h
+      ∙ ap (λ (n : ℕ). inOrder (λ x a. visitEntry f log e level nest x a) 20 (bytesAt log first size) left (n / 20) 0 0) (sym (length-bytes log first size)),
+)
+
+pub score-of-20 : (log : Bytes) (first size i : ℕ) {x : Bytes} → x ≡ pointer (bytesAt log first size) i → size % 20 ≡ 0 → length x ≡ 20
+score-of-20 log first size i {x} e h = length-pointer (bytesAt log first size) i x e (ap (λ (n : ℕ). n % 20) (length-bytes log first size) ∙ h)
+
+-- score i as it is read is piece i, and what its visit gives is what the piece's gives
+pub score-visited : (log : Bytes) (e : Entry) (level nest first size a : ℕ) {i : ℕ} {x : Bytes} {r : Walked} → i < size / 20
+    → x ≡ pointer (bytesAt log first size) i → ((f : ℕ) → a + a + 1 ≤ f → r ≡ visitEntry f log e level nest x a)
+    → (f : ℕ) → a + a + 1 ≤ f → r ≡ visitEntry f log e level nest (piece 20 i (bytesAt log first size)) a
+score-visited log e level nest first size a {i} h ex v f l =
+    v f l
+    ∙ ap (λ (y : Bytes). visitEntry f log e level nest y a)
+    (ex ∙ sym (pointer-piece (bytesAt log first size) i (omega (arith, length-bytes log first size))))

@@ -1,0 +1,3 @@
+-- What the clauses of `descent` cite.
+pub mod Descent
+pub mod Parts

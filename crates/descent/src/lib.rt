@@ -1,0 +1,151 @@
+// What is below a block: the entries of a directory, and the scores of a pointer block, are visited in order while the allowance lasts.
+use entry::Entry;
+use log::Look;
+use refusal::Refusal;
+use sector::SectorNumber;
+use visit::End;
+use visit::Walked;
+ghost use mathlib.Core.Path.{_≡_};
+ghost use Prim.Native.Nat.{ℕ, _+_, _%_, _≤_, _<_, _^_};
+ghost use lib.ListN.{length};
+ghost use Rattle.block.specs.Block.{partsOf};
+ghost use Rattle.block.specs.Log.{sectors};
+ghost use Rattle.reader.specs.Reader.{bytesAt};
+ghost use Rattle.descent.specs.Descent.{nestOf, entriesOf, visitDirectory, visitEntry};
+ghost use Rattle.descent.specs.Parts.{entryIn, visitListed, visitScores};
+
+// The nest of an entry's blocks, in a directory block of a nest.
+fn nest_of(e: Entry, nest: usize) -> usize
+    requires { ⌜ nest ≤ 16 ⌝ }
+    ensures { λ r. ⌜ r ≡ nestOf e nest ⌝ }
+{
+    if e.directory {
+        return nest + 1;
+    }
+    nest
+}
+
+// Visits the entries of a directory block, one after the other.
+pub fn visit_directory(
+    log: &[u8],
+    first: SectorNumber,
+    size: usize,
+    nest: usize,
+    left: usize,
+) -> Walked
+    requires { ⌜ (sectors (length (now log)) ≤ 16 ^ 8) × (first .0 + partsOf size ≤ sectors (length (now log))) × (size ≤ 57344) × (nest ≤ 16) ⌝ }
+    ensures within { λ r. ⌜ r .visits ≤ left ⌝ }
+    ensures exact { λ r. ⌜ ((f : ℕ) → left + left + 2 ≤ f → r ≡ visitDirectory f (now (log .entry)) nest (bytesAt (now (log .entry)) (first .0) size) left) ⌝ }
+{
+    let count = (size + 39) / 40;
+    let mut visits: usize = 0;
+    let mut i: usize = 0;
+    while i < count {
+        let w = visit_listed(log, first, size, i, nest, left - visits);
+        let end = w.end;
+        visits += w.visits;
+        let End::Done = end else {
+            return Walked {
+                visits: visits,
+                end: end,
+            };
+        };
+        i += 1;
+    }
+    Walked {
+        visits: visits,
+        end: End::Done,
+    }
+}
+
+// Visits entry i of a directory block: an inactive one is skipped, and an ill-formed active one is refused.
+fn visit_listed(
+    log: &[u8],
+    first: SectorNumber,
+    size: usize,
+    i: usize,
+    nest: usize,
+    left: usize,
+) -> Walked
+    requires { ⌜ (sectors (length (now log)) ≤ 16 ^ 8) × (first .0 + partsOf size ≤ sectors (length (now log))) × (size ≤ 57344) × (nest ≤ 16) × (i < entriesOf size) ⌝ }
+    ensures within { λ r. ⌜ r .visits ≤ left ⌝ }
+    ensures exact { λ r. ⌜ ((f : ℕ) → left + left + 1 ≤ f → r ≡ visitListed f (now (log .entry)) nest (entryIn (bytesAt (now (log .entry)) (first .0) size) i) left) ⌝ }
+{
+    let bytes = visit::entry_bytes(log, first, size, i);
+    let e = entry::entry_at(&bytes, 0);
+    if !e.active {
+        return Walked {
+            visits: 0,
+            end: End::Done,
+        };
+    }
+    if !entry::is_well_formed(e) {
+        return Walked {
+            visits: 0,
+            end: End::Refused(Refusal::Entry),
+        };
+    }
+    visit_entry(log, e, &bytes[20..], e.depth, nest_of(e, nest), left)
+}
+
+// Visits a block of an entry at a level, and what is below it: a pointer block's scores, or the entries of a directory.
+fn visit_entry(log: &[u8], e: Entry, score: &[u8], level: usize, nest: usize, left: usize) -> Walked
+    requires { ⌜ (sectors (length (now log)) ≤ 16 ^ 8) × (length (now score) ≡ 20) × (level ≤ 7) ⌝ }
+    ensures within { λ r. ⌜ r .visits ≤ left ⌝ }
+    ensures exact { λ r. ⌜ ((f : ℕ) → left + left + 1 ≤ f → r ≡ visitEntry f (now (log .entry)) e level nest (now (score .entry)) left) ⌝ }
+{
+    let m = visit::visit_level(log, e, score, level, nest, left);
+    let look = m.look;
+    let Look::Found { first, size } = look else {
+        return visit::answer(m);
+    };
+    if level == 0 {
+        if !e.directory {
+            return visit::answer(m);
+        }
+        return visit::one_more(visit_directory(log, first, size, nest, left - 1));
+    }
+    if size % 20 != 0 {
+        return Walked {
+            visits: 1,
+            end: End::Refused(Refusal::Pointers),
+        };
+    }
+    visit::one_more(visit_scores(log, e, first, size, level - 1, nest, left - 1))
+}
+
+// Visits the scores of a pointer block, one after the other: blocks of an entry at a level.
+fn visit_scores(
+    log: &[u8],
+    e: Entry,
+    first: SectorNumber,
+    size: usize,
+    level: usize,
+    nest: usize,
+    left: usize,
+) -> Walked
+    requires { ⌜ (sectors (length (now log)) ≤ 16 ^ 8) × (first .0 + partsOf size ≤ sectors (length (now log))) × (size ≤ 57344) × (size % 20 ≡ 0) × (level ≤ 7) ⌝ }
+    ensures within { λ r. ⌜ r .visits ≤ left ⌝ }
+    ensures exact { λ r. ⌜ ((f : ℕ) → left + left + 1 ≤ f → r ≡ visitScores f (now (log .entry)) e level nest (bytesAt (now (log .entry)) (first .0) size) left) ⌝ }
+{
+    let count = size / 20;
+    let mut visits: usize = 0;
+    let mut i: usize = 0;
+    while i < count {
+        let s = visit::score_bytes(log, first, size, i);
+        let w = visit_entry(log, e, &s, level, nest, left - visits);
+        let end = w.end;
+        visits += w.visits;
+        let End::Done = end else {
+            return Walked {
+                visits: visits,
+                end: end,
+            };
+        };
+        i += 1;
+    }
+    Walked {
+        visits: visits,
+        end: End::Done,
+    }
+}

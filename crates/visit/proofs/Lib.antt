@@ -1,0 +1,3 @@
+-- The laws of a visit.
+pub mod Alone
+pub mod Visits

@@ -1,0 +1,3 @@
+-- What the clauses of `visit` cite.
+pub mod Visit
+pub mod Met

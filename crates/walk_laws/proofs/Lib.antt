@@ -1,0 +1,5 @@
+-- The laws of a walk that no contract needs.
+pub mod Enough
+pub mod Examples
+pub mod Found
+pub mod Again

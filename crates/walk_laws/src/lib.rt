@@ -1,0 +1,1 @@
+// The laws of walking: specs/ has the claims and proofs/ the proofs; nothing here runs.
