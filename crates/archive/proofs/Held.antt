@@ -8,7 +8,7 @@ use Rattle.ground.specs.Choice.{on}
 use Rattle.buffer.specs.Bytes.{Bytes}
 use Rattle.kind.specs.Kind.{longest}
 use Rattle.refusal.specs.declared.Refusal.{Refusal}
-use Rattle.sector.specs.declared.SectorNumber.{SectorNumber}
+use Rattle.sector_number.specs.declared.SectorNumber.{SectorNumber}
 use Rattle.block.specs.Block.{Row, partsOf, parts}
 use Rattle.block.specs.Log.{sectors}
 use Rattle.reader.specs.Reader.{bytesAt}

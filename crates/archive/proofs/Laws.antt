@@ -15,7 +15,7 @@ use lib.Seq.{take-length, drop-drop}
 use Rattle.buffer.specs.Bytes.{Bytes, same, put}
 use Rattle.refusal.specs.declared.Refusal.{Refusal}
 use Rattle.refusal.specs.declared.Refusal.the-variants.{Frame, Buffer, LogLength, Hello as BadHello, BlockType, DataLength}
-use Rattle.sector.specs.declared.SectorNumber.{SectorNumber}
+use Rattle.sector_number.specs.declared.SectorNumber.{SectorNumber}
 use Rattle.kind.specs.Kind.{lawful, longest}
 use Rattle.log.specs.declared.Look.{Look}
 use Rattle.log.specs.declared.Look.the-variants.{Found, Refused}

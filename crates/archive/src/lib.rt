@@ -6,7 +6,7 @@ use log::Stored;
 use message::Request;
 use refusal::Refusal;
 use sector::SECTOR;
-use sector::SectorNumber;
+use sector_number::SectorNumber;
 ghost use mathlib.Core.Path.{_≡_};
 ghost use mathlib.Core.Bool.{true};
 ghost use mathlib.Core.List.{[]};

@@ -2,7 +2,7 @@
 use refusal::Refusal;
 use report::Reported;
 use sector::SECTOR;
-use sector::SectorNumber;
+use sector_number::SectorNumber;
 ghost use mathlib.Core.Path.{_≡_};
 ghost use Prim.Native.Nat.{_≤_};
 ghost use Rattle.report.specs.Report.{reportOf};

@@ -123,7 +123,7 @@ read-found t count s m log buffer Q n = go (look.held log t s) refl (ap (λ (o :
 
     go : (o : Option Row) → look.held log t s ≡ o → given log m buffer count o .number ≡ 0
         → (r : Row) × (look.held log t s ≡ some r) × (length (r .bytes) ≤ count) × (step Greeted m log buffer ≡ granted (readReply (tagOf m) (r .bytes)) Greeted log buffer)
-    go none e z = absurd (cond-ind (λ w. numberOf w ≡ 0 → ⊥) (eqb (look.doubtful log) 0) NotHeld NotKnown (λ _ x. omega arith) (λ _ x. omega arith) z)
+    go none e z = absurd (cond-ind (λ w. numberOf w ≡ 0 → ⊥) (eqb (look.doubtful log) 0) NotHeld (NotKnown (record { 0 = look.firstDoubtful log })) (λ _ x. omega arith) (λ _ x. omega arith) z)
     go (some r) e z = short r e (ltb count (length (r .bytes))) refl z
 
 pub answers-have-the-score : claims.AnswersHaveTheScore

@@ -19,4 +19,5 @@ pub mod Lost
 pub mod Histories
 pub mod Hurt
 pub mod Corollaries
+pub mod Doubt
 pub mod Witness

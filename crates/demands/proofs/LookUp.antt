@@ -1,5 +1,5 @@
 -- The log's words and the ledger's for the same things: the blocks, the first of a type and score, what is uncovered.
-use mathlib.Core.Path.{_≡_, refl, ap}
+use mathlib.Core.Path.{_≡_, refl, ap, ap₂}
 use mathlib.Core.Bool.{Bool, true, false, cond, not, _&&_, _||_}
 use mathlib.Core.List.{List, [], _∷_}
 use mathlib.Core.Option.{Option, none, some}
@@ -11,12 +11,13 @@ use borrow.Author.Tests.{ne-eqb}
 use Rattle.ground.specs.Places.{within}
 use Rattle.ground.specs.Choice.{on}
 use Rattle.buffer.specs.Bytes.{Bytes, same}
-use Rattle.refusal.specs.declared.Refusal.the-variants.{NotHeld, NotKnown}
+use Rattle.refusal.specs.declared.Refusal.{Refusal}
+use Rattle.refusal.specs.declared.Refusal.the-variants.{NotHeld}
 use Rattle.block.specs.Block.{Row, parts}
 use Rattle.block.specs.Log.{sectors, used, sound}
 use Rattle.log.specs.LookUp as look
 use Rattle.ledger.specs.Ledger.{blocks}
-use Rattle.demands.specs.Ledger.{coveredBy, anyUncovered, firstRow}
+use Rattle.demands.specs.Ledger.{coveredBy, anyUncovered, firstUncovered, absent, firstRow}
 use Rattle.demands.specs.Instance.{archive}
 
 pub blocks-same : (log : Bytes) → look.blocks log ≡ blocks archive log
@@ -45,11 +46,17 @@ outside-none rows (suc k) = go (look.inBlock rows k) (coveredBy rows k) (in-same
     go true false e h = cc
     go false true e h = cc
 
+outside-first : (rows : List Row) (k n : ℕ) → look.firstOutside rows k n ≡ firstUncovered rows k n
+unfolding look.firstOutside firstUncovered
+outside-first rows zero n = refl
+outside-first rows (suc k) n = ap₂ (λ (b : Bool) (i : ℕ). cond b i n) (in-same rows n) (outside-first rows k (suc n))
+
 -- why a block is not found
-pub absence-same : (log : Bytes) → look.absence log ≡ cond (anyUncovered (look.blocks log) (used log)) NotKnown NotHeld
-unfolding look.absence look.doubtful
-absence-same log = rw (outside-none (look.blocks log) (used log)) (turned (anyUncovered (look.blocks log) (used log)))
+pub absence-same : (log : Bytes) → look.absence log ≡ absent (look.blocks log) (used log)
+unfolding look.absence look.doubtful look.firstDoubtful
+absence-same log =
+    rw (outside-none (look.blocks log) (used log), outside-first (look.blocks log) (used log) 0) (turned (anyUncovered (look.blocks log) (used log)) NotHeld _)
   where
-    turned : (b : Bool) → cond (not b) NotHeld NotKnown ≡ cond b NotKnown NotHeld
-    turned true = refl
-    turned false = refl
+    turned : (b : Bool) (x y : Refusal) → cond (not b) x y ≡ cond b y x
+    turned true x y = refl
+    turned false x y = refl

@@ -28,7 +28,7 @@ use Rattle.log.specs.LookUp.{logAllowed}
 use Rattle.archive.specs.Step as steps
 use Rattle.archive.specs.declared.Session.{Session}
 use Rattle.archive.specs.declared.Session.the-variants.{Fresh, Greeted, Closed as Shut}
-use Rattle.demands.specs.Corollaries.{AtMostOne, alike, adds, AppendsAtMostOne}
+use Rattle.demands.specs.Corollaries.{AtMostOne, alike, AppendsAtMostOne, adds}
 use Rattle.demands.proofs.TellAdds.{rowOf, row-valid}
 use Rattle.demands.proofs.Seen.{storedAs, kept, held-zero, empty-score}
 
@@ -49,7 +49,7 @@ module _ (log m buffer : Bytes) where
   unfolding look.absence
   absent = alike refl (go (eqb (look.doubtful log) 0) refl)
     where
-      go : (b : Bool) → eqb (look.doubtful log) 0 ≡ b → numberOf (cond b NotHeld NotKnown) ≡ 11 → look.doubtful log ≡ 0
+      go : (b : Bool) → eqb (look.doubtful log) 0 ≡ b → numberOf (cond b NotHeld (NotKnown (record { 0 = look.firstDoubtful log }))) ≡ 11 → look.doubtful log ≡ 0
       go true q e = eqb-true (look.doubtful log) 0 q
       go false q e = absurd (omega arith)
 

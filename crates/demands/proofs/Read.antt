@@ -18,7 +18,7 @@ use Rattle.block.specs.Block.{Row}
 use Rattle.log.specs.LookUp as look
 use Rattle.archive.specs.Step as steps
 use Rattle.archive.specs.declared.Session.the-variants.{Greeted}
-use Rattle.demands.specs.Ledger.{Decision, refusal, reply, anyUncovered, firstRow, readRow}
+use Rattle.demands.specs.Ledger.{Decision, refusal, reply, absent, firstRow, readRow}
 use Rattle.demands.proofs.Tests.{contrary, ltb-not}
 use Rattle.demands.proofs.Seen.{given, seen, view, Mirrors, held-zero, held-other, absence-is}
 
@@ -26,15 +26,11 @@ module _ (log : Bytes) (rows : List Row) (end : ℕ) (M : Mirrors log rows end) 
   -- what the ledger decides, by its first row
   abbrev decided : Option Row → Decision
   decided o =
-      on o (cond (anyUncovered rows end) (refusal NotKnown) (refusal NotHeld))
+      on o (refusal (absent rows end))
       (λ r. cond (leb (length (r .bytes)) count) (reply (readReply (tagOf m) (r .bytes)) Greeted none) (refusal OverCount))
 
   by-row : (o : Option Row) → seen (given log m buffer count o) ≡ view log Greeted m buffer (decided o)
-  by-row none = rw (absence-is log rows end M) (go (anyUncovered rows end))
-    where
-      go : (b : Bool) → seen (steps.refused (cond b NotKnown NotHeld) (tagOf m) Greeted log buffer) ≡ view log Greeted m buffer (cond b (refusal NotKnown) (refusal NotHeld))
-      go true = refl
-      go false = refl
+  by-row none = rw (absence-is log rows end M)
   by-row (some r) =
       contrary seen (view log Greeted m buffer) (ltb count (length (r .bytes))) (leb (length (r .bytes)) count) (ltb-not count (length (r .bytes))) (λ _. refl) (λ _. refl)
 

@@ -24,7 +24,7 @@ use Rattle.archive.specs.declared.Session.{Session}
 use Rattle.archive.specs.declared.Session.the-variants.{Greeted}
 use Rattle.ledger.specs.Archive.{Seen}
 use Rattle.ledger.specs.Ledger.{shown}
-use Rattle.demands.specs.Ledger.{Answer, Decision, rulingOf, anyUncovered, firstRow}
+use Rattle.demands.specs.Ledger.{Answer, Decision, rulingOf, absent, firstRow}
 use Rattle.demands.specs.Instance.{archive}
 use Rattle.demands.proofs.LookUp.{first-same, absence-same}
 
@@ -81,5 +81,5 @@ module _ (log : Bytes) (rows : List Row) (end : ℕ) (M : Mirrors log rows end) 
       go true = first-same t s (look.blocks log) ∙ ap (firstRow t s) (M .blocks)
       go false = first-same t s (look.blocks log) ∙ ap (firstRow t s) (M .blocks)
 
-  pub absence-is : look.absence log ≡ cond (anyUncovered rows end) NotKnown NotHeld
+  pub absence-is : look.absence log ≡ absent rows end
   absence-is = rw (← M .blocks, ← M .ends) (absence-same log)

@@ -26,7 +26,7 @@ use Rattle.archive.specs.Step.{replyRoom, version}
 use Rattle.archive.specs.declared.Session.{Session}
 use Rattle.archive.specs.declared.Session.the-variants.{Fresh, Greeted, Closed as Shut}
 use Rattle.ledger.specs.Ledger.{Ledger, intact, end}
-use Rattle.demands.specs.Ledger.{Asked, Decision, silence, refusal, reply, close, rulingOf, anyUncovered, firstRow, writeRow, readRow, decide, bySession, decision, tell}
+use Rattle.demands.specs.Ledger.{Asked, Decision, silence, refusal, reply, close, rulingOf, firstRow, writeRow, readRow, decide, bySession, decision, tell}
 use Rattle.demands.specs.Instance.{archive}
 
 log-allowed : (m : ℕ) → logAllowed m ≡ true → sectors m ≤ mostSectors
@@ -114,7 +114,7 @@ module _ (rows : List Row) (e size : ℕ) where
   read-good q m t count s tag =
       by-test (same s zeroScore) (λ _. nothing refl) (λ _.
       on-ind (λ d. Good rows e size q m d) (firstRow t s rows) _ _
-      (λ _. by-test (anyUncovered rows e) (λ _. nothing refl) (λ _. nothing refl))
+      (λ _. nothing refl)
       (λ r _. by-test (leb (length (r .bytes)) count) (λ _. nothing refl) (λ _. nothing refl)))
 
   decide-good : (g : Bool) (q : Request) (m : Bytes) → logAllowed size ≡ true → small m ≡ true → Good rows e size q m (decide rows e size g q m)

@@ -7,9 +7,10 @@ use mathlib.Core.Logic.{_≢_, _⊎_}
 use mathlib.Core.Option.{none, some}
 use Prim.Native.Nat.{ℕ, _+_, _≤_, _<_}
 use lib.ListN.{length}
-use Rattle.buffer.specs.Bytes.{Bytes}
+use Rattle.buffer.specs.Bytes.{Bytes, zeros}
 use Rattle.word.specs.Number.{small}
 use Rattle.sha1.specs.Sha1.{sha1Of}
+use Rattle.refusal.specs.declared.Refusal.{Refusal}
 use Rattle.refusal.specs.declared.Refusal.the-variants.{NotKnown}
 use Rattle.message.specs.Message.{tagOf}
 use Rattle.message.specs.Reply.{readReply, writeReply}
@@ -20,9 +21,9 @@ use Rattle.log.specs.LookUp.{held, doubtful}
 use Rattle.archive.specs.Step.{Outcome, step, granted, refused}
 use Rattle.archive.specs.declared.Session.{Session}
 use Rattle.archive.specs.declared.Session.the-variants.{Greeted}
-use Rattle.ledger.specs.Ledger.{has, hit, intact, end}
+use Rattle.ledger.specs.Ledger.{has, covers, hit, intact, end}
 use Rattle.ledger.specs.History.{Item, AllOfBytes, first-log, first-books}
-use Rattle.demands.specs.Ledger.{anyUncovered}
+use Rattle.demands.specs.Ledger.{coveredBy, anyUncovered, firstUncovered}
 use Rattle.demands.specs.Instance.{archive}
 use Rattle.demands.specs.Requests.{Writes, Reads}
 use Rattle.demands.specs.Histories.{History, cleanLog, atDamage, logOf, toldLedger, ledgerOf, afterwards, NoneIntact, NoneStored}
@@ -114,24 +115,37 @@ abbrev pub NeverNotHeldUncovered : Type 0
 NeverNotHeldUncovered = (h : History) (s : Session) (m buffer : Bytes) → small m ≡ true
     → anyUncovered (intact archive (ledgerOf h)) (end archive (ledgerOf h)) ≡ true → step s m (logOf h) buffer .number ≢ 11
 
+-- "not known", with "the first uncovered one's" number
+abbrev pub notKnown : History → Refusal
+notKnown h = NotKnown (record { 0 = firstUncovered (intact archive (ledgerOf h)) (end archive (ledgerOf h)) 0 })
+
 -- a block that lost a sector and has no other intact row, or was never stored, is "not known until a block of that score and type is stored": a refused
 -- write does not end it
 abbrev pub NotKnownUntilStored : Type 0
 NotKnownUntilStored = (h : History) (t count : ℕ) (s m buffer : Bytes) (k : ℕ) → s ≢ zeroScore → has k (h .changed) ≡ true
     → NoneIntact t s (toldLedger h) → NoneStored t s (atDamage h) (h .later) → Reads m buffer (logOf h) t count s
-    → step Greeted m (logOf h) buffer ≡ refused NotKnown (tagOf m) Greeted (logOf h) buffer
+    → step Greeted m (logOf h) buffer ≡ refused (notKnown h) (tagOf m) Greeted (logOf h) buffer
 
 -- so is what look-up found before the damage, if that changed one of its sectors
 abbrev pub DamagedNotKnown : Type 0
 DamagedNotKnown = (h : History) (t count : ℕ) (s m buffer : Bytes) (r : Row) → s ≢ zeroScore
     → held (cleanLog h) t s ≡ some r → hit archive (h .changed) r ≡ true → NoneStored t s (atDamage h) (h .later) → Reads m buffer (logOf h) t count s
-    → step Greeted m (logOf h) buffer ≡ refused NotKnown (tagOf m) Greeted (logOf h) buffer
+    → step Greeted m (logOf h) buffer ≡ refused (notKnown h) (tagOf m) Greeted (logOf h) buffer
 
 -- and what no request of the history stored, while any sector is changed
 abbrev pub NeverStoredNotKnown : Type 0
 NeverStoredNotKnown = (h : History) (t count : ℕ) (s m buffer : Bytes) (k : ℕ) → s ≢ zeroScore → has k (h .changed) ≡ true
     → held (cleanLog h) t s ≡ none → NoneStored t s (atDamage h) (h .later) → Reads m buffer (logOf h) t count s
-    → step Greeted m (logOf h) buffer ≡ refused NotKnown (tagOf m) Greeted (logOf h) buffer
+    → step Greeted m (logOf h) buffer ≡ refused (notKnown h) (tagOf m) Greeted (logOf h) buffer
+
+-- "Say where the doubt is": while a sector is uncovered, the one told lies before the end and in no intact row. It is one of a row that lost a sector, though
+-- not always the lost one; or no row has it: then it is changed, or blank, with something behind it
+abbrev pub DoubtIsThere : Type 0
+DoubtIsThere = (h : History) → let L = ledgerOf h in let n = firstUncovered (intact archive L) (end archive L) 0 in
+    anyUncovered (intact archive L) (end archive L) ≡ true
+    → (n < end archive L) × (coveredBy (intact archive L) n ≡ false)
+    × (((r : Row) × List·Memᴰ r (L .rows) × (hit archive (L .changed) r ≡ true) × (covers archive r n ≡ true))
+    ⊎ ((coveredBy (L .rows) n ≡ false) × ((has n (L .changed) ≡ true) ⊎ (zeros (at (logOf h) n) ≡ true))))
 
 -- ---- there is something to speak of
 

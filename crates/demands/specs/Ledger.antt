@@ -47,6 +47,15 @@ unfoldable pub anyUncovered : List Row → ℕ → Bool
 anyUncovered rows zero = false
 anyUncovered rows (suc e) = not (coveredBy rows e) || anyUncovered rows e
 
+-- "in the ledger the first uncovered one's": the first of k sectors from n on that is in no row, else the sector after them
+unfoldable pub firstUncovered : List Row → ℕ → ℕ → ℕ
+firstUncovered rows zero n = n
+firstUncovered rows (suc k) n = cond (coveredBy rows n) (firstUncovered rows k (suc n)) n
+
+-- "12 if a sector is uncovered, else 11", with the first one
+abbrev pub absent : List Row → ℕ → Refusal
+absent rows end = cond (anyUncovered rows end) (NotKnown (record { 0 = firstUncovered rows end 0 })) NotHeld
+
 -- "the first intact row of its type and score"
 unfoldable pub firstRow : ℕ → Bytes → List Row → Option Row
 firstRow t s [] = none
@@ -80,7 +89,7 @@ module _ (intact : List Row) (end size : ℕ) where
   abbrev pub readRow : ℕ → ℕ → Bytes → ℕ → Decision
   readRow t count s tag =
       cond (same s zeroScore) (reply (readReply tag []) Greeted none)
-      (on (firstRow t s intact) (cond (anyUncovered intact end) (refusal NotKnown) (refusal NotHeld))
+      (on (firstRow t s intact) (refusal (absent intact end))
       (λ r. cond (leb (length (r .bytes)) count) (reply (readReply tag (r .bytes)) Greeted none) (refusal OverCount)))
 
   -- "if that row has other bytes or data has the zero score, it is 15; if the log has too few sectors from the end on, 14. Else its row

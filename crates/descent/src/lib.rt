@@ -2,7 +2,7 @@
 use entry::Entry;
 use log::Look;
 use refusal::Refusal;
-use sector::SectorNumber;
+use sector_number::SectorNumber;
 use visit::End;
 use visit::Walked;
 ghost use mathlib.Core.Path.{_≡_};

@@ -3,6 +3,7 @@ use mathlib.Core.Path.{refl}
 use native.Mathlib.Omega.{arith}
 use lib.ListN.{length}
 use borrow.Author.Tests.{lt-ltb, le-ltb}
+use Rattle.word.specs.Hex.{hex, digitChar}
 use Rattle.word.specs.Number.{digits, valueFrom}
 use Rattle.kind.specs.Kind.{longest}
 use Rattle.block.proofs.Counts.{counts}
@@ -16,11 +17,12 @@ use Rattle.file.specs.File.{entryReadable, located}
 use Rattle.examples.specs.Marked.{Marked}
 
 pub marked : Marked
-unfolding digits valueFrom follows framed textEnd countedEnd bytesEnd exactly requestOf reply step inSession fresh greeted write entryOf wellFormed entryReadable located
+unfolding digits valueFrom follows hex digitChar framed textEnd countedEnd bytesEnd exactly requestOf reply step inSession fresh greeted write entryOf wellFormed entryReadable located
 marked = record {
   ping = λ log buffer a h. rw (le-ltb (length buffer) replyRoom h, a) refl;
   greeting = λ log buffer a h. rw (le-ltb (length buffer) replyRoom h, a) refl;
   not-held = refl;
+  not-known = refl;
   counts = counts;
   ten = λ t m log buffer f h a q l n. rw (f, le-ltb (length buffer) replyRoom h, a, q, l, lt-ltb longest (length (dataOf m)) (omega arith)) refl;
   hello-world = cut.hello-world;

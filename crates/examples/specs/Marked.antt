@@ -5,7 +5,7 @@ use mathlib.Core.List.{[], _∷_, _++_, map}
 use Prim.Native.Nat.{ℕ, _≤_}
 use lib.ListN.{length, replicate}
 use Rattle.buffer.specs.Bytes.{Bytes}
-use Rattle.refusal.specs.declared.Refusal.the-variants.{NotHeld, DataLength}
+use Rattle.refusal.specs.declared.Refusal.the-variants.{NotHeld, NotKnown, DataLength}
 use Rattle.kind.specs.Kind.{lawful}
 use Rattle.block.specs.Counts.{Count, table, countOf}
 use Rattle.log.specs.LookUp.{logAllowed}
@@ -36,6 +36,10 @@ pub record Marked : Type 0 where
       ≡ granted (0x00 ∷ 0x06 ∷ 0x05 ∷ 0x00 ∷ 0x00 ∷ 0x00 ∷ 0x00 ∷ 0x00 ∷ []) Greeted log buffer
   -- "refusal 11, tag 9: 00 0a 01 09 00 06 77 68 79 3d 31 31"
   pub not-held : errorReply 9 NotHeld ≡ 0x00 ∷ 0x0a ∷ 0x01 ∷ 0x09 ∷ 0x00 ∷ 0x06 ∷ 0x77 ∷ 0x68 ∷ 0x79 ∷ 0x3d ∷ 0x31 ∷ 0x31 ∷ []
+  -- "as in why=12 at=0000002a", tag 9
+  pub not-known : errorReply 9 (NotKnown (record { 0 = 42 }))
+      ≡ 0x00 ∷ 0x16 ∷ 0x01 ∷ 0x09 ∷ 0x00 ∷ 0x12 ∷ 0x77 ∷ 0x68 ∷ 0x79 ∷ 0x3d ∷ 0x31 ∷ 0x32 ∷ 0x20 ∷ 0x61 ∷ 0x74 ∷ 0x3d
+      ∷ 0x30 ∷ 0x30 ∷ 0x30 ∷ 0x30 ∷ 0x30 ∷ 0x30 ∷ 0x32 ∷ 0x61 ∷ []
   -- "403 bytes take 1 sector, 404 take 2, 57,344 take 143 (of=008f, last payload 118)": `table` in block/specs/Counts.antt
   pub counts : map (λ (c : Count). countOf (c .size)) table ≡ table
   -- "57,345 is 10": a write of so many bytes, well-formed but for that

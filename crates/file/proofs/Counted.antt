@@ -11,7 +11,7 @@ use Rattle.ground.specs.Choice.{on}
 use Rattle.buffer.specs.Bytes.{Bytes}
 use Rattle.refusal.specs.declared.Refusal.{Refusal}
 use Rattle.refusal.specs.declared.Refusal.the-variants as why
-use Rattle.sector.specs.declared.SectorNumber.{SectorNumber}
+use Rattle.sector_number.specs.declared.SectorNumber.{SectorNumber}
 use Rattle.block.specs.Block.{Row}
 use Rattle.log.specs.declared.Look.{Look}
 use Rattle.log.specs.declared.Look.the-variants as look

@@ -52,7 +52,7 @@ module _ (log : Bytes) (page : ℕ) (e : Entry) (offset : ℕ) where
 
   under-in : (level : ℕ) (s : Bytes) → In (under log page e offset level s)
   unfolding In
-  under-in = under-ind log page e offset (Inside (length log) page) (λ w. tt) zero-in leaf-in
+  under-in = under-ind log page e offset (Inside (length log) page) tt tt tt zero-in leaf-in
 
 pub located-in : (log page b : Bytes) (offset : ℕ) → Inside (length log) (length page) (located log page b offset)
 unfolding In

@@ -12,7 +12,7 @@ use Rattle.buffer.specs.Bytes.{Bytes, same}
 use Rattle.kind.specs.Kind.{lawful, zeroScore}
 use Rattle.refusal.specs.declared.Refusal.{Refusal}
 use Rattle.refusal.specs.declared.Refusal.the-variants as why
-use Rattle.sector.specs.declared.SectorNumber.{SectorNumber}
+use Rattle.sector_number.specs.declared.SectorNumber.{SectorNumber}
 use Rattle.block.specs.Block.{Row, partsOf}
 use Rattle.block.specs.Log.{sectors, joined}
 use Rattle.log.specs.declared.Look.{Look}

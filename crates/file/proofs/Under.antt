@@ -1,4 +1,4 @@
--- What holds of every run of zeros, of every leaf's run and of every refusal holds of the run under any score.
+-- What holds of every run of zeros, of every leaf's run and of the three refusals holds of the run under any score.
 use mathlib.Core.Path.{_≡_}
 use Prim.Native.Nat.{ℕ, zero, suc, _%_}
 use lib.Dec.{leb, eqb}
@@ -6,24 +6,24 @@ use lib.ListN.{length}
 use Rattle.ground.proofs.Cases.{cond-ind, on-ind}
 use Rattle.buffer.specs.Bytes.{Bytes, same}
 use Rattle.kind.specs.Kind.{zeroScore}
-use Rattle.refusal.specs.declared.Refusal.{Refusal}
+use Rattle.refusal.specs.declared.Refusal.the-variants.{OverCount, Pointers}
 use Rattle.block.specs.Block.{Row}
-use Rattle.log.specs.LookUp.{held}
+use Rattle.log.specs.LookUp.{held, absence}
 use Rattle.lookup.proofs.Held.{Stands, held-stands}
 use Rattle.entry.specs.declared.Entry.{Entry}
 use Rattle.file.specs.declared.Located.{Located}
 use Rattle.file.specs.declared.Located.the-variants.{Refused}
 use Rattle.file.specs.File.{zeroRun, leafRun, fetched, under}
 
-module _ (log : Bytes) (page : ℕ) (e : Entry) (offset : ℕ) (P : Located → Type 0) (no : (w : Refusal) → P (Refused w)) (zeros : P (zeroRun page e offset))
+module _ (log : Bytes) (page : ℕ) (e : Entry) (offset : ℕ) (P : Located → Type 0) (missing : P (Refused (absence log))) (long : P (Refused OverCount)) (uneven : P (Refused Pointers)) (zeros : P (zeroRun page e offset))
     (leaf : (r : Row) → Stands log r → P (leafRun page e offset (r .first) (length (r .bytes)))) where
   fetched-ind : (t : ℕ) (s : Bytes) (count : ℕ) (f : Row → Located) → ((r : Row) → Stands log r → P (f r)) → P (fetched log t s count f)
   fetched-ind t s count f g =
-      on-ind P (held log t s) _ _ (λ _. no _) (λ r q. cond-ind P (leb (length (r .bytes)) count) _ _ (λ _. g r (held-stands log t s r q)) (λ _. no _))
+      on-ind P (held log t s) _ _ (λ _. missing) (λ r q. cond-ind P (leb (length (r .bytes)) count) _ _ (λ _. g r (held-stands log t s r q)) (λ _. long))
 
   pub under-ind : (level : ℕ) (s : Bytes) → P (under log page e offset level s)
   unfolding under
   under-ind zero s = cond-ind P (same s zeroScore) _ _ (λ _. zeros) (λ _. fetched-ind _ s (e .dsize) _ leaf)
   under-ind (suc d) s =
       cond-ind P (same s zeroScore) _ _ (λ _. zeros)
-      (λ _. fetched-ind _ s (e .psize) _ (λ r _. cond-ind P (eqb (length (r .bytes) % 20) 0) _ _ (λ _. under-ind d _) (λ _. no _)))
+      (λ _. fetched-ind _ s (e .psize) _ (λ r _. cond-ind P (eqb (length (r .bytes) % 20) 0) _ _ (λ _. under-ind d _) (λ _. uneven)))

@@ -21,7 +21,7 @@ use Rattle.file_laws.specs.Path.{Answers}
 use Rattle.file_laws.specs.Bytes.{runBytes, byteUnder}
 use Rattle.file_laws.proofs.Missing.{held-if}
 use Rattle.file_laws.proofs.Stored.{stored-bytes}
-use Rattle.file_laws.proofs.Runs.{least-pos, least-below, through, Run, nothing, block, under-run}
+use Rattle.file_laws.proofs.Runs.{least-pos, least-below, through, Run, under-run, nothing, block}
 
 -- ---- an answer that is the same wherever the answer below is
 

@@ -23,7 +23,7 @@ use Rattle.file.specs.declared.Located.the-variants as run
 use Rattle.file.specs.File.{pageAllowed, entryReadable, located}
 use Rattle.file.proofs.Tests.{stops-log, stops-entry, stops-offset}
 use Rattle.fill.specs.declared.Stop.the-variants.{Done, Refused}
-use Rattle.fill.specs.Fill.{Read, byte, refused, firstOf, byteAt, gathered, Outcome, written, fillOf}
+use Rattle.fill.specs.Fill.{Read, firstOf, byteAt, gathered, Outcome, written, fillOf, byte, refused}
 use Rattle.fill.proofs.Tests.{zero-page, nothing}
 use Rattle.file_laws.specs.Path.{Answers}
 use Rattle.file_laws.specs.Bytes.{runBytes, fileByte, laid}

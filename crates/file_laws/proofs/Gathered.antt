@@ -6,7 +6,7 @@ use native.Mathlib.Omega.{arith}
 use lib.ListN.{length, getD}
 use Rattle.refusal.specs.declared.Refusal.{Refusal}
 use Rattle.fill.specs.declared.Stop.the-variants.{Done, Refused}
-use Rattle.fill.specs.Fill.{Read, byte, refused, Gathered, infront, gathered}
+use Rattle.fill.specs.Fill.{Read, Gathered, infront, gathered, byte, refused}
 
 pub record Gathers (read : ℕ → Read) (n o : ℕ) (g : Gathered) : Type 0 where
   pub few : length (g .bytes) ≤ n

@@ -22,7 +22,7 @@ use Rattle.file.specs.File.{zeroRun, storedRun, pageAllowed, located}
 use Rattle.file_laws.specs.Path.{Answers}
 use Rattle.file_laws.specs.Bytes.{runBytes, byteUnder, fileByte, laid, RunIsTheFiles, WholeFile}
 use Rattle.file_laws.proofs.Stored.{stored-bytes}
-use Rattle.file_laws.proofs.Runs.{least-pos, least-below, through, Onward, Run, nothing, block, under-run}
+use Rattle.file_laws.proofs.Runs.{least-pos, least-below, through, Onward, Run, under-run, nothing, block}
 
 -- ---- the next bytes of a leaf
 

@@ -14,7 +14,7 @@ use Rattle.sector.specs.Sector.{filled}
 use Rattle.block.proofs.Payloads.{filled-getD}
 use Rattle.tree.proofs.Filled.{length-filled}
 use Rattle.fill.specs.declared.Stop.the-variants.{Done, Refused}
-use Rattle.fill.specs.Fill.{Read, byte, refused, Gathered, infront, gathered, Outcome, outcome, written}
+use Rattle.fill.specs.Fill.{Read, Gathered, infront, gathered, Outcome, outcome, written, byte, refused}
 
 -- known bytes in front
 abbrev pub behind : Bytes → Gathered → Gathered

@@ -9,7 +9,7 @@ use borrow.Author.Tests.{ltb-true, ltb-false}
 use lib.ListN.{length, getD, List·getD-eq-default}
 use Rattle.buffer.specs.Bytes.{Bytes}
 use Rattle.refusal.specs.declared.Refusal.{Refusal}
-use Rattle.sector.specs.declared.SectorNumber.{SectorNumber}
+use Rattle.sector_number.specs.declared.SectorNumber.{SectorNumber}
 use Rattle.block.specs.Block.{partsOf}
 use Rattle.block.specs.Log.{sectors}
 use Rattle.reader.specs.Reader.{bytesAt}
@@ -21,7 +21,7 @@ use Rattle.file.specs.File.{leafRun, under}
 use Rattle.file.specs.Fetch.{runIn}
 use Rattle.file.proofs.Places.{byte-place}
 use Rattle.file.proofs.Steps.{leaf-in, leaf-past}
-use Rattle.fill.specs.Fill.{Read, byte, refused, firstOf, byteBelow}
+use Rattle.fill.specs.Fill.{Read, firstOf, byteBelow, byte, refused}
 
 sum-front : (x r j o : ℕ) → x + r ≡ o → o + j ≡ x + (r + j)
 sum-front x r j o e = omega arith

@@ -9,7 +9,7 @@ use Rattle.buffer.specs.Bytes.{Bytes, put}
 use Rattle.buffer.proofs.Put.{put-mid, length-put}
 use Rattle.refusal.specs.declared.Refusal.{Refusal}
 use Rattle.sector.specs.Sector.{filled}
-use Rattle.sector.specs.declared.SectorNumber.{SectorNumber}
+use Rattle.sector_number.specs.declared.SectorNumber.{SectorNumber}
 use Rattle.block.specs.Block.{partsOf}
 use Rattle.block.specs.Log.{sectors, joined}
 use Rattle.reader.specs.Reader.{bytesAt}
@@ -21,7 +21,7 @@ use Rattle.tree.proofs.Filled.{length-filled}
 use Rattle.file.specs.File.{under}
 use Rattle.file.specs.Fetch.{endOf, runIn}
 use Rattle.fill.specs.declared.Stop.{Stop}
-use Rattle.fill.specs.Fill.{Read, byte, stopOf, byteBelow, gathered, outcome, written}
+use Rattle.fill.specs.Fill.{Read, stopOf, byteBelow, gathered, outcome, written, byte}
 use Rattle.fill.proofs.Gather.{Rest, rest-refused, rest-leaf}
 use Rattle.fill.proofs.Leaf.{leaf-refused, leaf-bytes}
 

@@ -22,7 +22,7 @@ module _ (a b : Bytes) (f : Alike a b) where
   held-alike t s = rw blocks-alike
 
   pub absence-alike : absence a ≡ absence b
-  unfolding absence doubtful
+  unfolding absence doubtful firstDoubtful
   absence-alike = rw (blocks-alike, used-alike a b f)
 
   pub first-doubtful-alike : firstDoubtful a ≡ firstDoubtful b

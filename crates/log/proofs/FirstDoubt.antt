@@ -71,7 +71,7 @@ all-in rows (suc k) n h i a b = go (inBlock rows n) (eqb i n) refl refl (λ g. a
     go true true q e f = ap (inBlock rows) (eqb-true i n e) ∙ q
     go true false q e f = f (let g : n + suc k ≤ firstOutside rows k (suc n) = rw q at h in omega arith) (omega (arith, eqb-false i n e)) (omega arith)
 
-pub absence-known : (log : Bytes) → firstDoubtful log < used log → absence log ≡ NotKnown
+pub absence-known : (log : Bytes) → firstDoubtful log < used log → absence log ≡ NotKnown (record { 0 = firstDoubtful log })
 unfolding absence doubtful firstDoubtful
 absence-known log h =
     let n = firstOutside (blocks log) (used log) 0 in

@@ -56,9 +56,9 @@ emptyRow t = record { kind = t; score = zeroScore; bytes = []; first = 0 }
 unfoldable pub held : Bytes → ℕ → Bytes → Option Row
 held log t s = cond (lawful t && same s zeroScore) (some (emptyRow t)) (firstOf t s (blocks log))
 
--- "Else 12 if any sector is doubtful, else 11"
+-- "Else 12 if any sector is doubtful, else 11"; "refusal 12 must also carry the first doubtful sector's number"
 unfoldable pub absence : Bytes → Refusal
-absence log = cond (eqb (doubtful log) 0) NotHeld NotKnown
+absence log = cond (eqb (doubtful log) 0) NotHeld (NotKnown (record { 0 = firstDoubtful log }))
 
 unfoldable pub lookUp : Bytes → ℕ → Bytes → Look
 lookUp log t s = on (held log t s) (Refused (absence log)) (λ r. Found (record { 0 = r .first }) (length (r .bytes)))

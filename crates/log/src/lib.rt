@@ -1,6 +1,6 @@
 // Look-up and store in any log.
 use refusal::Refusal;
-use sector::SectorNumber;
+use sector_number::SectorNumber;
 
 // What a look-up finds: the block's place and size, or the reason why there is none. The empty block is found at sector 0 with size 0.
 pub enum Look {

@@ -25,7 +25,7 @@ use Rattle.reader.specs.Reader.{sizeOf}
 use Rattle.kind.specs.Kind.{lawful, zeroScore}
 use Rattle.refusal.specs.declared.Refusal.{Refusal}
 use Rattle.refusal.specs.declared.Refusal.the-variants.{LogLength, BlockType, NotHeld, NotKnown, OverCount}
-use Rattle.sector.specs.declared.SectorNumber.{SectorNumber}
+use Rattle.sector_number.specs.declared.SectorNumber.{SectorNumber}
 use Rattle.log.specs.declared.Look.{Look}
 use Rattle.log.specs.declared.Look.the-variants.{Found, Refused}
 use Rattle.log.specs.LookUp.{blocks, firstOf, outside, firstDoubtful, mostSectors, logAllowed, held, absence, lookUp, counted, lookUpAsked}
@@ -217,8 +217,8 @@ find-border log waiting u t s r f e = e ∙ ap (λ (l : List Row). placeOf (firs
 
 -- why a block is missing, by the first doubtful sector n and the end m of the used part of both
 module _ (log waiting : Bytes) (u n m : ℕ) (e : u ≡ used log) (p : n ≡ firstDoubtful (joined u log waiting)) (q : m ≡ used (joined u log waiting)) where
-  pub absent-known : n < m → NotKnown ≡ absence (tape log waiting)
-  absent-known h = sym (absence-known (joined u log waiting) (omega arith)) ∙ ap (λ (x : ℕ). absence (joined x log waiting)) e
+  pub absent-known : n < m → NotKnown (record { 0 = n }) ≡ absence (tape log waiting)
+  absent-known h = ap (λ (x : ℕ). NotKnown (record { 0 = x })) p ∙ sym (absence-known (joined u log waiting) (omega arith)) ∙ ap (λ (x : ℕ). absence (joined x log waiting)) e
 
   pub absent-held : m ≤ n → NotHeld ≡ absence (tape log waiting)
   absent-held h = sym (absence-held (joined u log waiting) (omega arith)) ∙ ap (λ (x : ℕ). absence (joined x log waiting)) e

@@ -2,7 +2,7 @@
 use log::Look;
 use refusal::Refusal;
 use sector::SECTOR;
-use sector::SectorNumber;
+use sector_number::SectorNumber;
 ghost use mathlib.Core.Path.{_≡_};
 ghost use Prim.Native.Nat.{_+_, _≤_};
 ghost use lib.ListN.{length};
@@ -116,7 +116,7 @@ pub fn first_doubtful<'a>(
     last
 }
 
-// Why a block that wasn't found is missing: not known if any sector is doubtful, else not held.
+// Why a block that wasn't found is missing: not known if any sector is doubtful, with the first one's number, else not held.
 pub fn why_absent<'a>(log: &'a [u8], waiting: &'a [u8]) -> Refusal
     ensures { λ r. ⌜ r ≡ absence (tape (now (log .entry)) (now (waiting .entry))) ⌝ }
 {
@@ -125,7 +125,7 @@ pub fn why_absent<'a>(log: &'a [u8], waiting: &'a [u8]) -> Refusal
     let last = end.0 + waits.0;
     let n = first_doubtful(log, end, waiting, SectorNumber(last));
     if n.0 < last {
-        return Refusal::NotKnown;
+        return Refusal::NotKnown(n);
     }
     Refusal::NotHeld
 }

@@ -1,5 +1,5 @@
 -- Replies: their parts and length, and how they come to stand at the front of the buffer.
-use mathlib.Core.Path.{_≡_, sym, ap, _∙_}
+use mathlib.Core.Path.{_≡_, refl, sym, ap, ap₂, _∙_}
 use mathlib.Core.Bool.{true}
 use mathlib.Core.List.{[], _∷_, _++_, append-assoc}
 use Prim.Native.Nat.{ℕ, _+_, _≤_, _<_}
@@ -11,7 +11,13 @@ use Rattle.buffer.specs.Bytes.{Bytes, put}
 use Rattle.buffer.proofs.Bytes.{small-append}
 use Rattle.word.specs.Number.{digits, beBytes, small}
 use Rattle.word.proofs.NumberLaws.{length-digits, below-digits}
-use Rattle.message.specs.Reply.{reply, answered}
+use Rattle.word.proofs.HexLaws.{hex-length}
+use Rattle.sector_number.specs.declared.SectorNumber.{SectorNumber}
+use Rattle.refusal.specs.declared.Refusal.{Refusal}
+use Rattle.refusal.specs.declared.Doubt.{Doubt}
+use Rattle.refusal.specs.declared.Doubt.the-variants.{At, Nowhere}
+use Rattle.refusal.specs.Number.{numberOf, doubtOf}
+use Rattle.message.specs.Reply.{reply, answered, why, place, errorText, errorReply}
 use Rattle.buffer.proofs.Put.{length-put, put-front-put}
 
 -- size, type and tag of a reply whose body has n bytes
@@ -55,3 +61,26 @@ size-type-tag buffer x n type tag h e =
     let rest : drop 2 buffer ≡ getD buffer 2 0 ∷ getD buffer 3 0 ∷ drop 4 buffer
     = drop-cons buffer 2 0 (omega arith) ∙ ap (λ (z : Bytes). getD buffer 2 0 ∷ z) (drop-cons buffer 3 0 (omega arith)) in
     rw (e, length-take-le 2 buffer (omega arith), rest)
+
+-- ---- the text of an error
+
+module _ (buffer : Bytes) (tag n : ℕ) (w : Refusal) (d : Doubt) (number : n ≡ numberOf w) (doubt : d ≡ doubtOf w) where
+  text-told : (x : Doubt) → d ≡ x → why n ++ place x ≡ errorText w
+  text-told x e = ap₂ (λ (k : ℕ) (y : Doubt). why k ++ place y) number (sym e ∙ doubt)
+
+  body-told : (k : ℕ) (x : Doubt) → d ≡ x → k ≡ length (why n ++ place x)
+      → answered buffer (reply 1 tag (0 ∷ k ∷ (why n ++ place x))) ≡ answered buffer (errorReply tag w)
+  body-told k x e l =
+      ap (λ (i : ℕ). answered buffer (reply 1 tag (0 ∷ i ∷ (why n ++ place x)))) l
+      ∙ ap (λ (t : Bytes). answered buffer (reply 1 tag (0 ∷ length t ∷ t))) (text-told x e)
+
+  -- with a sector
+  pub error-doubt : (s : SectorNumber) (body : Bytes) → d ≡ At s → body ≡ 0 ∷ 18 ∷ (why n ++ place (At s))
+      → answered buffer (reply 1 tag body) ≡ answered buffer (errorReply tag w)
+  error-doubt s body e b =
+      ap (λ (x : Bytes). answered buffer (reply 1 tag x)) b
+      ∙ body-told 18 (At s) e (omega (arith, hex-length 8 (s .0)))
+
+  -- without one
+  pub error-plain : d ≡ Nowhere → answered buffer (reply 1 tag (0 ∷ 6 ∷ why n)) ≡ answered buffer (errorReply tag w)
+  error-plain e = body-told 6 Nowhere e refl

@@ -4,7 +4,10 @@ use Prim.Native.Nat.{ℕ, _+_, _/_, _%_}
 use lib.ListN.{length}
 use Rattle.buffer.specs.Bytes.{Bytes, put}
 use Rattle.word.specs.Number.{beBytes}
-use Rattle.refusal.specs.Number.{numberOf}
+use Rattle.word.specs.Hex.{hex}
+use Rattle.refusal.specs.Number.{numberOf, doubtOf}
+use Rattle.refusal.specs.declared.Doubt.{Doubt}
+use Rattle.refusal.specs.declared.Doubt.the-variants.{At, Nowhere}
 use Rattle.refusal.specs.declared.Refusal.{Refusal}
 
 -- "size[2], type[1], tag[1], body", "Replies echo the tag"
@@ -15,8 +18,16 @@ reply type tag body = beBytes 2 (2 + length body) ++ (type ∷ tag ∷ body)
 abbrev pub why : ℕ → Bytes
 why n = 119 ∷ 104 ∷ 121 ∷ 61 ∷ (48 + n / 10) ∷ (48 + n % 10) ∷ []
 
+-- "The error text for 12 becomes why=12 at= and eight lower-case hex digits, as in why=12 at=0000002a ... All other texts stay"
+abbrev pub place : Doubt → Bytes
+place (At sector) = 32 ∷ 97 ∷ 116 ∷ 61 ∷ hex 8 (sector .0)
+place Nowhere = []
+
+abbrev pub errorText : Refusal → Bytes
+errorText w = why (numberOf w) ++ place (doubtOf w)
+
 abbrev pub errorReply : ℕ → Refusal → Bytes
-errorReply tag w = reply 1 tag (0 ∷ 6 ∷ why (numberOf w))
+errorReply tag w = reply 1 tag (0 ∷ length (errorText w) ∷ errorText w)
 
 -- "ping 2, 3; hello 4, 5; ... read 12, 13; write 14, 15; sync 16, 17"
 abbrev pub pingReply : ℕ → Bytes

@@ -1,5 +1,7 @@
 // Requests taken apart, and replies put together.
+use refusal::Doubt;
 use refusal::Refusal;
+use sector_number::SectorNumber;
 ghost use mathlib.Core.Path.{_≡_};
 ghost use mathlib.Core.List.{[], _∷_, _++_};
 ghost use Prim.Native.Nat.{_+_, _≤_};
@@ -7,7 +9,8 @@ ghost use lib.ListN.{length};
 ghost use Rattle.buffer.specs.Bytes.{same, put};
 ghost use Rattle.word.specs.Number.{beBytes};
 ghost use Rattle.message.specs.Message.{framed, textEnd, countedEnd, helloEnd, exactly, readOf, writeOf, requestOf, versionOf};
-ghost use Rattle.message.specs.Reply.{reply, answered, errorReply};
+ghost use Rattle.message.specs.Reply.{reply, answered, why, place, errorReply};
+ghost use Rattle.refusal.specs.declared.Doubt.the-variants.{At};
 
 // What a message asks. The version of a hello, the score of a read and the data of a write stay where they are in the message.
 pub enum Request {
@@ -190,12 +193,50 @@ pub fn write_reply(buffer: &mut [u8], kind: u8, tag: u8, body: &[u8])
     buffer::copy_at(buffer, 4, body);
 }
 
-// Writes an error reply, whose text is why= and the number of the refusal in two digits.
+// The body of an error reply that tells of a doubtful sector: the length of its text, and the text, which ends with the sector.
+fn doubt_text(n: u8, sector: SectorNumber) -> [u8; 20]
+    ensures { λ r. ⌜ r ≡ 0 ∷ 18 ∷ (why n ++ place (At sector)) ⌝ }
+{
+    let tens = b'0' + n / 10;
+    let ones = b'0' + n % 10;
+    let mut body = [
+        0,
+        18,
+        b'w',
+        b'h',
+        b'y',
+        b'=',
+        tens,
+        ones,
+        b' ',
+        b'a',
+        b't',
+        b'=',
+        0,
+        0,
+        0,
+        0,
+        0,
+        0,
+        0,
+        0,
+    ];
+    word::hex::put_hex(&mut body[12..20], sector.0 as u64);
+    body
+}
+
+// Writes an error reply, whose text is why= and the number of the refusal in two digits, and for 12 at= and the doubtful sector.
 pub fn write_error(buffer: &mut [u8], tag: u8, why: Refusal)
-    requires { ⌜ 12 ≤ length (now buffer) ⌝ }
+    requires { ⌜ 24 ≤ length (now buffer) ⌝ }
     ensures { λ _. ⌜ now (buffer .exit) ≡ answered (now (buffer .entry)) (errorReply tag why) ⌝ }
 {
     let n = refusal::number(why);
+    let doubt = refusal::doubt_of(why);
+    if let Doubt::At(sector) = doubt {
+        let body = doubt_text(n, sector);
+        write_reply(buffer, 1, tag, &body);
+        return;
+    }
     let body = [0, 6, b'w', b'h', b'y', b'=', b'0' + n / 10, b'0' + n % 10];
     write_reply(buffer, 1, tag, &body);
 }

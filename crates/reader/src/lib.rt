@@ -7,7 +7,7 @@ use sector::LABEL;
 use sector::Label;
 use sector::PAYLOAD;
 use sector::SECTOR;
-use sector::SectorNumber;
+use sector_number::SectorNumber;
 use word::hex::Hex;
 ghost use mathlib.Core.Path.{_≡_};
 ghost use Prim.Native.Nat.{_+_, _-_, _≤_, _<_};

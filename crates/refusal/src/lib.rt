@@ -1,6 +1,7 @@
 // The reasons for which a call is refused, and the number of each.
+use sector_number::SectorNumber;
 ghost use mathlib.Core.Path.{_≡_};
-ghost use Rattle.refusal.specs.Number.{numberOf};
+ghost use Rattle.refusal.specs.Number.{numberOf, doubtOf, toldSector};
 
 pub enum Refusal {
     // Fewer than 4 bytes, or a size that isn't the count of bytes after it.
@@ -25,8 +26,8 @@ pub enum Refusal {
     DataLength,
     // The block is not held.
     NotHeld,
-    // Whether the block is held is not known.
-    NotKnown,
+    // Whether the block is held is not known, with the first doubtful sector.
+    NotKnown(SectorNumber),
     // The block is longer than the count.
     OverCount,
     // Too few sectors are left after the used part.
@@ -51,6 +52,54 @@ pub enum Refusal {
     Allowance,
 }
 
+// Where the doubt is that a refusal tells of: the first doubtful sector for 12, and nowhere for all others.
+pub enum Doubt {
+    At(SectorNumber),
+    Nowhere,
+}
+
+// Where the doubt is.
+pub fn doubt_of(why: Refusal) -> Doubt
+    ensures { λ r. ⌜ r ≡ doubtOf why ⌝ }
+{
+    match why {
+        Refusal::NotKnown(sector) => Doubt::At(sector),
+        Refusal::Frame
+        | Refusal::Buffer
+        | Refusal::LogLength
+        | Refusal::Closed
+        | Refusal::MessageType
+        | Refusal::Body
+        | Refusal::NoHello
+        | Refusal::Hello
+        | Refusal::BlockType
+        | Refusal::DataLength
+        | Refusal::NotHeld
+        | Refusal::OverCount
+        | Refusal::NoRoom
+        | Refusal::Clash
+        | Refusal::Entry
+        | Refusal::Offset
+        | Refusal::Pointers
+        | Refusal::Page
+        | Refusal::Nest
+        | Refusal::Spent
+        | Refusal::Pad
+        | Refusal::Allowance => Doubt::Nowhere,
+    }
+}
+
+// The sector that a refusal tells of, 0 where it tells of none.
+pub fn told_sector(why: Refusal) -> usize
+    ensures { λ r. ⌜ r ≡ toldSector why ⌝ }
+{
+    let doubt = doubt_of(why);
+    match doubt {
+        Doubt::At(sector) => sector.0,
+        Doubt::Nowhere => 0,
+    }
+}
+
 // The number of a refusal.
 pub fn number(why: Refusal) -> u8
     ensures { λ r. ⌜ r ≡ numberOf why ⌝ }
@@ -67,7 +116,7 @@ pub fn number(why: Refusal) -> u8
         Refusal::BlockType => 9,
         Refusal::DataLength => 10,
         Refusal::NotHeld => 11,
-        Refusal::NotKnown => 12,
+        Refusal::NotKnown(_) => 12,
         Refusal::OverCount => 13,
         Refusal::NoRoom => 14,
         Refusal::Clash => 15,

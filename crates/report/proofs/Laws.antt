@@ -11,7 +11,6 @@ use borrow.Author.Tests.{ne-eqb, lt-ltb, le-ltb}
 use lib.ListN.{length, set, length-append}
 use Rattle.ground.specs.Choice.{on}
 use Rattle.ground.specs.Places.{foundFrom}
-use Rattle.ground.specs.Choice.{on}
 use Rattle.buffer.specs.Bytes.{Bytes, put}
 use Rattle.buffer.proofs.Put.{length-put, put-next, put-one}
 use Rattle.refusal.specs.declared.Refusal.the-variants.{Buffer, LogLength}

@@ -1,7 +1,7 @@
 // The report of a log: its sectors, used part, sound blocks and doubtful sectors, counted and printed.
 use refusal::Refusal;
 use sector::SECTOR;
-use sector::SectorNumber;
+use sector_number::SectorNumber;
 ghost use mathlib.Core.Path.{_≡_};
 ghost use Prim.Native.Nat.{_+_, _≤_, _<_, _^_};
 ghost use lib.ListN.{length};

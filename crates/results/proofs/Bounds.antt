@@ -1,4 +1,4 @@
--- What locating a file's bytes gives is small: a start within the longest log, a length of at most 57,344.
+-- What locating a file's bytes gives is small: a start within the longest log, a length of at most 57,344, a sector of the longest log.
 use mathlib.Core.Path.{_≡_, refl, sym, ap, _∙_}
 use Prim.Native.Nat.{ℕ, _+_, _-_, _*_, _/_, _%_, _≤_, _<_, min}
 use native.Mathlib.Nat.{min-le-left, min-le-right}
@@ -8,6 +8,8 @@ use borrow.Author.Tests.{ltb-true}
 use lib.ListN.{length}
 use Rattle.ground.proofs.Cases.{cond-ind}
 use Rattle.buffer.specs.Bytes.{Bytes}
+use Rattle.refusal.specs.Number.{toldSector}
+use Rattle.refusal.specs.declared.Refusal.{Refusal}
 use Rattle.block.specs.Block.{Row, partsOf}
 use Rattle.block.specs.Log.{sectors}
 use Rattle.log.specs.LookUp.{mostSectors, logAllowed}
@@ -21,11 +23,12 @@ use Rattle.file.specs.File.{zeroRun, storedRun, placeIn, leafRun, pageAllowed, 
 use Rattle.file.proofs.Under.{under-ind}
 use Rattle.tree.proofs.Pieces.{part-of}
 use Rattle.file.proofs.Tests.{opened}
+use Rattle.results.proofs.Doubts.{absence-told}
 
 abbrev pub Small : Located → Type 0
 Small (Stored at n) = (at < 512 * mostSectors) × (n ≤ 57344)
 Small (Zeros n) = n ≤ 57344
-Small (Refused w) = Unit {0}
+Small (Refused w) = toldSector w ≤ mostSectors
 
 place-small : (l n size k : ℕ) → sectors l ≤ mostSectors → n + partsOf size ≤ sectors l → k < size → placeIn n k < 512 * mostSectors
 place-small l n size k h r g = omega (arith, part-of size k g)
@@ -51,7 +54,7 @@ module _ (log : Bytes) (page : ℕ) (e : Entry) (offset : ℕ) (h : sectors (len
       (λ q. stored-small r P (ltb-true (offset % e .dsize) (length (r .bytes)) q)) (λ _. zero-small)
 
   under-small : (level : ℕ) (s : Bytes) → Small (under log page e offset level s)
-  under-small = under-ind log page e offset Small (λ _. tt) zero-small leaf-small
+  under-small = under-ind log page e offset Small (absence-told log h) (omega arith) (omega arith) zero-small leaf-small
 
 pub located-small : (log page b : Bytes) (offset : ℕ) → Small (located log page b offset)
 unfolding located
@@ -62,10 +65,10 @@ located-small log page b offset =
     (λ q. cond-ind Small (ltb offset ((entryOf b) .size)) _ _
     (λ o. let w = opened (length log) b (entryOf b) offset _ _ refl p refl q refl (ltb-true offset ((entryOf b) .size) o) in
     under-small log (length page) (entryOf b) offset (allowed-sectors (length log) _ refl p) (w .dsize-to) ((entryOf b) .depth) (scoreOf b))
-    (λ _. tt))
-    (λ _. tt))
-    (λ _. tt))
-    (λ _. tt)
+    (λ _. omega arith))
+    (λ _. omega arith))
+    (λ _. omega arith))
+    (λ _. omega arith)
 
 -- of the code's answer
 module _ (log page b : Bytes) (offset : ℕ) (w : Located) (e : w ≡ located log page b offset) where
@@ -74,3 +77,6 @@ module _ (log page b : Bytes) (offset : ℕ) (w : Located) (e : w ≡ located lo
 
   pub zeros-within : (n : ℕ) → w ≡ Zeros n → n ≤ 57344
   zeros-within n q = rw (sym e ∙ q) at (located-small log page b offset)
+
+  pub refused-within : (r : Refusal) → w ≡ Refused r → toldSector r ≤ mostSectors
+  refused-within r q = rw (sym e ∙ q) at (located-small log page b offset)

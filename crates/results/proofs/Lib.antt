@@ -1,5 +1,6 @@
 -- What is answered is small enough to pack, and is read back as it was.
 pub mod Numbers
+pub mod Doubts
 pub mod ServeLaws
 pub mod BlockLaws
 pub mod SurveyLaws

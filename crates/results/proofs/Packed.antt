@@ -6,7 +6,7 @@ use native.Mathlib.Omega.{arith}
 use lib.Dec.{eqb}
 use borrow.Author.Tests.{eq-eqb, ne-eqb}
 use Rattle.buffer.specs.Bytes.{Bytes}
-use Rattle.refusal.specs.Number.{numberOf}
+use Rattle.refusal.specs.Number.{numberOf, toldSector}
 use Rattle.file.specs.declared.Located.{Located}
 use Rattle.file.specs.declared.Located.the-variants.{Stored, Zeros, Refused}
 use Rattle.file.specs.File.{located}
@@ -36,15 +36,17 @@ zeros-back n h =
     let m : n % 65536 ≡ n = omega arith in
     fields r 0 0 n true (omega arith) (eq-eqb (r / 256 % 2) 1 z) (ap (λ (x : ℕ). x / 65536) u ∙ o) (ap (λ (x : ℕ). x % 65536) u ∙ m)
 
-number-back : (k : ℕ) → k ≤ 23 → unpacked k ≡ run k false 0 0
-number-back k h =
-    let z : k / 256 % 2 ≡ 1 → ⊥ = λ e. omega arith in
-    fields k k 0 0 false (omega arith) (ne-eqb (k / 256 % 2) 1 z) (omega arith) (omega arith)
+refusal-back : (k s : ℕ) → k ≤ 23 → unpacked (k + 256 * (2 * (65536 * s))) ≡ run k false s 0
+refusal-back k s h =
+    let r = k + 256 * (2 * (65536 * s)) in
+    let u : r / 256 ≡ 2 * (65536 * s) = omega arith in
+    let z : r / 256 % 2 ≡ 1 → ⊥ = λ e. omega arith in
+    fields r k s 0 false (omega arith) (ne-eqb (r / 256 % 2) 1 z) (omega arith) (omega arith)
 
 pub unpacked-packed : (x : Located) → Small x → unpacked (packed x) ≡ runOf x
 unpacked-packed (Stored at n) h = stored-back at n (h .1)
 unpacked-packed (Zeros n) h = zeros-back n h
-unpacked-packed (Refused w) _ = number-back (numberOf w) ((number-bounds w) .1)
+unpacked-packed (Refused w) _ = refusal-back (numberOf w) (toldSector w) ((number-bounds w) .1)
 
 pub nothing-lost : (log page b : Bytes) (offset : ℕ) → unpacked (packed (located log page b offset)) ≡ runOf (located log page b offset)
 nothing-lost log page b offset = unpacked-packed (located log page b offset) (located-small log page b offset)

@@ -33,20 +33,20 @@ use Rattle.archive.specs.declared.Session.the-variants.{Fresh, Greeted, Closed 
 use Rattle.fill.specs.declared.Stop.{Stop}
 use Rattle.fill.specs.declared.Stop.the-variants as to
 use Rattle.fill.specs.Fill.{stopNumber, fillOf}
-use Rattle.walk.specs.declared.End.{End}
-use Rattle.walk.specs.declared.End.the-variants.{Done, Refused}
-use Rattle.walk.specs.Walk.{endNumber, walkOf}
 use Rattle.visit.specs.declared.End.{End}
 use Rattle.visit.specs.declared.End.the-variants.{Done, Refused}
+use Rattle.walk.specs.Walk.{walkOf}
 use Rattle.visit.specs.Visit.{endNumber}
 use Rattle.results.specs.Serve.{sessionOf, sessionNumber}
 use Rattle.results.specs.Survey.{soundResult}
 use Rattle.results.specs.Blocks.{typeResult}
+use Rattle.results.specs.Tree.{endSector}
 use Rattle.results.specs.Unpacked as claims
 use Rattle.results.specs.Unpacked.{numberIn, answerIn, wireNumber, typeIn}
 use Rattle.results.proofs.Numbers.{number-bounds}
 use Rattle.results.proofs.BlockLaws.{cut-kept, cut-refused}
 use Rattle.results.proofs.Packed.{nothing-lost}
+use Rattle.results.proofs.Visits.{walk-within}
 
 -- a number below 256 beside 256 times another
 beside : (n a : ℕ) → n < 256 → (numberIn (n + 256 * a) ≡ n) × (answerIn (n + 256 * a) ≡ a)
@@ -149,7 +149,16 @@ end-few Done = omega arith
 end-few (Refused w) = few w
 
 pub walk-unpacks : claims.WalkUnpacks
-walk-unpacks log score allowance = let w = walkOf log score allowance in beside (endNumber (w .end)) (w .visits) (end-few (w .end))
+walk-unpacks log score allowance =
+    let w = walkOf log score allowance in
+    let n = endNumber (w .end) in
+    let v = w .visits in
+    let s = endSector (w .end) in
+    let r = n + 256 * (v + 1048576 * s) in
+    let few = end-few (w .end) in
+    let short = walk-within log score allowance .1 .few in
+    let u : r / 256 ≡ v + 1048576 * s = omega arith in
+    (omega arith, ap (λ (x : ℕ). x % 1048576) u ∙ omega arith, ap (λ (x : ℕ). x / 1048576) u ∙ omega arith)
 
 pub report-unpacks : claims.ReportUnpacks
 report-unpacks (told.Written n) = above n

@@ -22,12 +22,12 @@ use Rattle.archive.specs.Step.{step}
 use Rattle.archive.specs.declared.Session.{Session}
 use Rattle.file.specs.File.{located}
 use Rattle.fill.specs.Fill.{stopNumber, fillOf}
-use Rattle.walk.specs.Walk.{endNumber, walkOf}
-use Rattle.results.specs.Serve.{sessionOf, sessionNumber, servedOf, outcome}
+use Rattle.walk.specs.Walk.{walkOf}
+use Rattle.results.specs.Serve.{sessionOf, sessionNumber, servedOf}
 use Rattle.visit.specs.Visit.{endNumber}
 use Rattle.results.specs.Blocks.{typeResult, cutResult}
 use Rattle.results.specs.Survey.{reportNumber, textLength, soundResult}
-use Rattle.results.specs.Tree.{packed, unpacked, runOf, filledNumber, walkResult}
+use Rattle.results.specs.Tree.{packed, unpacked, runOf, filledNumber, walkResult, endSector}
 
 -- in the lowest 8 bits the number of the refusal, 0 for none; above them the answer
 abbrev pub numberIn : ℕ → ℕ
@@ -53,10 +53,17 @@ abbrev pub FillUnpacks : Type 0
 FillUnpacks = (log b : Bytes) (offset : ℕ) (d : Bytes)
     → let f = fillOf log b offset d .filled in (numberIn (filledNumber f) ≡ stopNumber (f .stop)) × (answerIn (filledNumber f) ≡ f .count)
 
--- a walk: the number and the visits
+-- a walk: the number, the visits, and the sector that it tells of
+abbrev pub visitsIn : ℕ → ℕ
+visitsIn r = r / 256 % 1048576
+
+abbrev pub sectorIn : ℕ → ℕ
+sectorIn r = r / 256 / 1048576
+
 abbrev pub WalkUnpacks : Type 0
 WalkUnpacks = (log score : Bytes) (allowance : ℕ)
-    → let w = walkOf log score allowance in (numberIn (walkResult w) ≡ endNumber (w .end)) × (answerIn (walkResult w) ≡ w .visits)
+    → let w = walkOf log score allowance in
+    (numberIn (walkResult w) ≡ endNumber (w .end)) × (visitsIn (walkResult w) ≡ w .visits) × (sectorIn (walkResult w) ≡ endSector (w .end))
 
 -- a report: the number, 0 where it is written, and the length of its text
 abbrev pub reportedNumber : Reported → ℕ

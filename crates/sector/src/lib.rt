@@ -1,13 +1,11 @@
 // One sector of the log: label, payload and check, written and tested.
+use sector_number::SectorNumber;
 ghost use mathlib.Core.Path.{_≡_};
 ghost use Prim.Native.Nat.{_+_, _≤_};
 ghost use lib.ListN.{length, take, drop};
 ghost use Rattle.buffer.specs.Bytes.{same, put};
 ghost use Rattle.word.specs.Hex.{hex, hexBytes};
 ghost use Rattle.sector.specs.Sector.{line, scoreName, labelOf, fits, encode};
-
-// The number of a sector of the log, so that it can't be mixed with byte offsets or part numbers.
-pub struct SectorNumber(pub usize);
 
 // What the label of a sector says beside the score: the sector where the block starts, which part this is and of how many,
 // the block's type, and the bytes in the block.

@@ -13,7 +13,7 @@ use Rattle.buffer.proofs.Bytes.{same-false}
 use Rattle.sha1.specs.Sha1.{sha1Of}
 use Rattle.refusal.specs.declared.Refusal.{Refusal}
 use Rattle.refusal.specs.declared.Refusal.the-variants.{NoRoom, Clash}
-use Rattle.sector.specs.declared.SectorNumber.{SectorNumber}
+use Rattle.sector_number.specs.declared.SectorNumber.{SectorNumber}
 use Rattle.block.specs.Block.{Row, partsOf, written}
 use Rattle.block.specs.Log.{sectors, used}
 use Rattle.reader.specs.Reader.{bytesAt}

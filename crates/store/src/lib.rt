@@ -4,7 +4,7 @@ use log::Stored;
 use lookup::Place;
 use refusal::Refusal;
 use sector::SECTOR;
-use sector::SectorNumber;
+use sector_number::SectorNumber;
 ghost use mathlib.Core.Path.{_≡_};
 ghost use Prim.Native.Nat.{_+_, _≤_, _^_};
 ghost use lib.ListN.{length};

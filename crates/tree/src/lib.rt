@@ -3,7 +3,7 @@
 use entry::Entry;
 use sector::LABEL;
 use sector::PAYLOAD;
-use sector::SectorNumber;
+use sector_number::SectorNumber;
 ghost use mathlib.Core.Path.{_≡_};
 ghost use Prim.Native.Nat.{_+_, _-_, _%_, _^_, _≤_, _<_, min};
 ghost use lib.ListN.{length, take, drop};

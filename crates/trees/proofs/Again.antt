@@ -4,8 +4,6 @@ use Rattle.archive.specs.Step.{step}
 use Rattle.demands.specs.Histories.{Keeps, afterwards}
 use Rattle.demands.proofs.Keeps.{step-keeps, list-keeps}
 use Rattle.file_laws.proofs.Again.{again}
-use Rattle.walk.proofs.Again.{walk-again}
-use Rattle.file.proofs.Again.{again}
 use Rattle.walk_laws.proofs.Again.{walk-again}
 use Rattle.trees.specs.Again.{Alike, AfterOne, AfterAny}
 

@@ -13,12 +13,9 @@ use Rattle.demands.specs.Histories.{Keeps, afterwards}
 use Rattle.file.specs.File.{located}
 use Rattle.file_laws.specs.Path.{Answers}
 use Rattle.file_laws.specs.Bytes.{runBytes}
-use Rattle.walk.specs.Walk.{walked, walkOf}
-use Rattle.walk.specs.declared.End.the-variants.{Done}
-use Rattle.file.specs.Path.{Answers}
-use Rattle.file.specs.Bytes.{runBytes}
-use Rattle.visit.specs.Visit.{walked}
+use Rattle.walk.specs.Walk.{walkOf}
 use Rattle.visit.specs.declared.End.the-variants.{Done}
+use Rattle.visit.specs.Visit.{walked}
 
 -- a file that answers at an offset answers there alike later: the same run, by its place and its bytes
 abbrev pub ReadsAlike : Bytes → Bytes → Type 0

@@ -3,7 +3,7 @@ use entry::Entry;
 use log::Look;
 use refusal::Refusal;
 use sector::SECTOR;
-use sector::SectorNumber;
+use sector_number::SectorNumber;
 ghost use mathlib.Core.Path.{_≡_};
 ghost use Prim.Native.Nat.{_+_, _*_, _%_, _≤_, _<_, _^_};
 ghost use lib.ListN.{length, drop};

@@ -23,7 +23,7 @@ use Rattle.visit.specs.Visit.{walked, more, visiting}
 use Rattle.descent.specs.Descent.{andThen, paddedTo, inOrder, nestOf, entriesOf, judged, visitDirectory, visitEntry}
 use Rattle.walk.specs.Walk.{walkTop, walkRoot, walkOf}
 use Rattle.descent.specs.Parts.{entryIn}
-use Rattle.walk_laws.specs.Found.{Found, leaf, directory, pointers, FoundEntries, entries, FoundRoot, WalkFinds}
+use Rattle.walk_laws.specs.Found.{Found, leaf, directory, FoundEntries, FoundRoot, WalkFinds, pointers, entries}
 use Rattle.visit.proofs.Visits.{visitBy}
 
 -- no refusal is the end of a walk that is done

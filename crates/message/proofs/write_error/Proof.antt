@@ -1,8 +1,6 @@
--- `message::write_error` meets its contract: the body is the text of the refusal.
-use mathlib.Core.Path.{ap, _∙_}
-use mathlib.Core.List.{_∷_}
-use Prim.Native.Nat.{ℕ}
-use Rattle.message.specs.Reply.{why, reply, answered}
+-- `message::write_error` meets its contract: the body is the text of the refusal, with its sector where it has one.
+use mathlib.Core.Path.{_∙_}
+use Rattle.message.proofs.Replies.{error-doubt, error-plain}
 use borrow.Author.Needs.{needs}
 use Rattle.message.proofs.write_error.Statement.{statement}
 use Rattle.message.proofs.write_error.Tie as tie
@@ -10,11 +8,14 @@ use Rattle.message.proofs.write_error.Tie as tie
 number-requires : tie.Need-number-requires
 number-requires c κs = search needs
 
-add-t7 : tie.Need-add-t7
-add-t7 c = search needs
+doubt-of-requires : tie.Need-doubt-of-requires
+doubt-of-requires c κs = search needs
 
-add-t9 : tie.Need-add-t9
-add-t9 c = search needs
+enum-known-doubt : tie.Need-enum-known-doubt
+enum-known-doubt c = search needs
+
+doubt-text-requires : tie.Need-doubt-text-requires
+doubt-text-requires c κs = search needs
 
 slice-aggregate-write-reply : tie.Need-slice-aggregate-write-reply
 slice-aggregate-write-reply c = search needs
@@ -27,18 +28,52 @@ same-length c = search needs
 
 returns : tie.Need-returns
 returns c =
-    let a = c .before .before .before .before .before .before .before .args in
-    (c .before .before .write-reply .ensures)
-    ∙ ap (λ (n : ℕ). answered (a .buffer .now) (reply 1 (a .tag) (0 ∷ 6 ∷ why n))) (c .before .before .before .before .before .number .ensures)
+    let a = c .before .before .before .before .before .before .before .before .before .before .before .before .args in
+    c .before .before .write-reply .ensures
+    ∙ error-doubt (a .buffer .now) (a .tag) (c .before .before .before .before .before .before .before .before .before .before .number .result) (a .why) (c .before .before .before .before .before .before .before .before .before .doubt-of .result) (c .before .before .before .before .before .before .before .before .before .before .number .ensures) (c .before .before .before .before .before .before .before .before .before .doubt-of .ensures) _ _
+    (c .before .before .before .before .before .before .before .doubt .given .1) (c .before .before .before .before .before .doubt-text .ensures)
+
+enum-told : tie.Need-enum-told
+enum-told c = search needs
+
+add-t16 : tie.Need-add-t16
+add-t16 c = search needs
+
+add-t18 : tie.Need-add-t18
+add-t18 c = search needs
+
+slice-aggregate-write-reply-2 : tie.Need-slice-aggregate-write-reply-2
+slice-aggregate-write-reply-2 c = search needs
+
+write-reply-requires-2 : tie.Need-write-reply-requires-2
+write-reply-requires-2 c κs = search needs
+
+same-length-2 : tie.Need-same-length-2
+same-length-2 c = search needs
+
+returns-2 : tie.Need-returns-2
+returns-2 c =
+    let a = c .before .before .before .before .before .before .before .before .before .before .args in
+    c .before .before .write-reply2 .ensures
+    ∙ error-plain (a .buffer .now) (a .tag) (c .before .before .before .before .before .before .before .before .number .result) (a .why) (c .before .before .before .before .before .before .before .doubt-of .result) (c .before .before .before .before .before .before .before .before .number .ensures) (c .before .before .before .before .before .before .before .doubt-of .ensures)
+    (c .before .before .before .before .before .enum-told .given .1)
 
 pub write-error-spec : {M : Type 1} → statement M
 write-error-spec =
     tie.close
     (tie.spec
     number-requires
-    add-t7
-    add-t9
+    doubt-of-requires
+    enum-known-doubt
+    doubt-text-requires
     slice-aggregate-write-reply
     write-reply-requires
     same-length
-    returns)
+    returns
+    enum-told
+    add-t16
+    add-t18
+    slice-aggregate-write-reply-2
+    write-reply-requires-2
+    same-length-2
+    returns-2)

@@ -2,7 +2,7 @@
 use mathlib.Core.Path.{sym, ap, _∙_}
 use native.Mathlib.Omega.{arith}
 use Rattle.results.specs.Tree.{packed}
-use Rattle.results.proofs.Bounds.{stored-within, zeros-within}
+use Rattle.results.proofs.Bounds.{stored-within, zeros-within, refused-within}
 use borrow.Author.Needs.{needs}
 use Rattle.boundary.proofs.tree.skywimple_locate.Statement.{statement}
 use Rattle.boundary.proofs.tree.skywimple_locate.Tie as tie
@@ -40,11 +40,10 @@ mul-result-5 c = let s = c .before .before .before .before .before .before .befo
 enum-known-run-3 : tie.Need-enum-known-run-3
 enum-known-run-3 c = search needs
 
-number-requires : tie.Need-number-requires
-number-requires c κs = search needs
-
-cast-result : tie.Need-cast-result
-cast-result c = search needs
+refused-requires : tie.Need-refused-requires
+refused-requires c κs =
+    let s = c .before .before .before .before .before .before .before .args in
+    refused-within (s .log .now) (s .page .now) (s .entry .now) (s .offset) _ (c .before .before .before .locate .ensures) _ (c .before .run3 .given .1)
 
 returns : tie.Need-returns
 returns c = sym (ap packed (sym (c .before .before .before .locate .ensures) ∙ c .before .run .given .1))
@@ -53,7 +52,7 @@ returns-2 : tie.Need-returns-2
 returns-2 c = sym (ap packed (sym (c .before .before .before .locate .ensures) ∙ c .before .run2 .given .1))
 
 returns-3 : tie.Need-returns-3
-returns-3 c = c .number .ensures ∙ sym (ap packed (sym (c .before .before .before .before .locate .ensures) ∙ c .before .before .run3 .given .1))
+returns-3 c = c .refused .ensures ∙ sym (ap packed (sym (c .before .before .before .before .locate .ensures) ∙ c .before .before .run3 .given .1))
 
 pub skywimple-locate-spec : {M : Type 1} → statement M
 skywimple-locate-spec =
@@ -70,8 +69,7 @@ skywimple-locate-spec =
     add-result-2
     mul-result-5
     enum-known-run-3
-    number-requires
-    cast-result
+    refused-requires
     returns
     returns-2
     returns-3)
