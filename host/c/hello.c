@@ -1,4 +1,5 @@
-/* The archive from C: a hello is answered, and so is a write, whose block is read back. Exits with 0 if every answer is as it must be. */
+/* The archive from C: a hello is answered, and so is a write, whose block is read back; after damage a block that is not found is
+   not known, and the first doubtful sector is told. Exits with 0 if every answer is as it must be. */
 #include <stdio.h>
 #include <stdlib.h>
 #include <string.h>
@@ -11,11 +12,12 @@ static uint8_t log_bytes[LOG];
 static uint8_t reply[REPLY];
 static uint8_t session = 0;
 
-/* One message, and what its reply has to begin with. */
-static void ask(const char *what, const uint8_t *message, size_t length, const uint8_t *expected, size_t expected_length) {
+/* One message, and what its number and its reply have to be. */
+static void ask(const char *what, const uint8_t *message, size_t length, uint32_t number, const uint8_t *expected,
+                size_t expected_length) {
     memset(reply, 0xee, sizeof reply);
     uint32_t result = skywimple_serve(session, message, length, log_bytes, sizeof log_bytes, reply, sizeof reply);
-    if (result % 256 != 0 || memcmp(reply, expected, expected_length) != 0 || reply[expected_length] != 0xee) {
+    if (result % 256 != number || memcmp(reply, expected, expected_length) != 0 || reply[expected_length] != 0xee) {
         fprintf(stderr, "%s: number %u, reply %02x %02x %02x %02x ..\n", what, (unsigned)(result % 256), reply[0], reply[1],
                 reply[2], reply[3]);
         exit(1);
@@ -27,19 +29,33 @@ static void ask(const char *what, const uint8_t *message, size_t length, const u
 int main(void) {
     const uint8_t hello[] = {0, 11, 4, 0, 0, 2, '0', '2', 0, 0, 0, 0, 0};
     const uint8_t welcome[] = {0, 6, 5, 0, 0, 0, 0, 0};
-    ask("hello", hello, sizeof hello, welcome, sizeof welcome);
+    ask("hello", hello, sizeof hello, 0, welcome, sizeof welcome);
 
     /* a data block of three bytes, `abc`: its score is FIPS 180's first example */
     const uint8_t write[] = {0, 9, 14, 1, 13, 0, 0, 0, 'a', 'b', 'c'};
     const uint8_t written[] = {0,    22,   15,   1,    0xa9, 0x99, 0x3e, 0x36, 0x47, 0x06, 0x81, 0x6a,
                                0xba, 0x3e, 0x25, 0x71, 0x78, 0x50, 0xc2, 0x6c, 0x9c, 0xd0, 0xd8, 0x9d};
-    ask("write", write, sizeof write, written, sizeof written);
+    ask("write", write, sizeof write, 0, written, sizeof written);
 
     uint8_t read[28] = {0, 26, 12, 2};
     memcpy(read + 4, written + 4, 20);
     read[24] = 13;
     read[27] = 3;
     const uint8_t bytes[] = {0, 5, 13, 2, 'a', 'b', 'c'};
-    ask("read", read, sizeof read, bytes, sizeof bytes);
+    ask("read", read, sizeof read, 0, bytes, sizeof bytes);
+
+    /* a blank sector is written over: it is doubtful now, and so are the blank ones before it, from 1 on */
+    log_bytes[5 * 512] = 7;
+    read[4] ^= 1;
+    const uint8_t not_known[] = {0,   22,  1,   2,   0,   18,  'w', 'h', 'y', '=', '1', '2',
+                                 ' ', 'a', 't', '=', '0', '0', '0', '0', '0', '0', '0', '1'};
+    ask("read of another score", read, sizeof read, 12, not_known, sizeof not_known);
+
+    uint64_t walked = skywimple_walk(log_bytes, sizeof log_bytes, read + 4, 9);
+    unsigned number = walked % 256, visits = walked / 256 % 1048576, sector = walked / 268435456;
+    printf("walk: number %u, visits %u, first doubtful sector %u\n", number, visits, sector);
+    if (number != 12 || visits != 1 || sector != 1) {
+        return 1;
+    }
     return 0;
 }

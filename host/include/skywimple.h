@@ -1,7 +1,8 @@
 /* The functions of target/staticlib/libboundary.a, which `rt staticlib boundary` writes.
    crates/boundary/src has their contracts. A slice is a pointer to its bytes, not null, and their
    count. Slices of one call do not overlap, unless both are only read. "Number" is the number of a
-   refusal, 1 to 23, or 0 for none. No call has a precondition besides. */
+   refusal, 1 to 23, or 0 for none. 12 ("not known") comes with the log's first doubtful sector, which
+   is the 512 bytes from 512 times its number on. No call has a precondition besides. */
 #ifndef SKYWIMPLE_H
 #define SKYWIMPLE_H
 
@@ -21,7 +22,8 @@ uint32_t skywimple_sha1(const uint8_t *s, size_t s_len, uint8_t *out, size_t out
 
 /* Answers one request. session: 0 fresh, 1 greeted, anything else closed. The result is the number,
    and 256 times the session afterwards. A reply stands at the front of reply, which needs 57,348
-   bytes; a stored block is appended in log. */
+   bytes; a stored block is appended in log. An error reply's text is why= and two digits, and for 12
+   also " at=" and the first doubtful sector in eight lower-case hex digits. */
 uint32_t skywimple_serve(uint8_t session, const uint8_t *message, size_t message_len,
                          uint8_t *log, size_t log_len, uint8_t *reply, size_t reply_len);
 
@@ -43,17 +45,22 @@ uint32_t skywimple_pad(uint8_t kind, uint8_t *buffer, size_t buffer_len, size_t 
 
 /* Where the bytes of a file at an offset lie, as one run. entry has 40 bytes; page is zeros. From
    the lowest bit on, the result is: the number (8 bits), whether the run lies in page (1) or in log
-   (0), its length (16 bits), and the byte of log where it starts; a run in page starts at its front. */
+   (0), its length (16 bits), and the byte of log where it starts; a run in page starts at its front.
+   A refusal has 0 in all of these, but for 12, which has the first doubtful sector in place of the
+   start: result / 33554432. */
 uint64_t skywimple_locate(const uint8_t *log, size_t log_len, const uint8_t *page, size_t page_len,
                           const uint8_t *entry, size_t entry_len, uint64_t offset);
 
 /* Fills buffer with the bytes of a file from an offset on, up to the end of buffer or of the file.
    entry has 40 bytes. The result is the number, and 256 times the count of the bytes written to the
-   front of buffer; the rest of it stays. A refusal is the one at the first offset behind them. */
+   front of buffer; the rest of it stays. A refusal is the one that skywimple_locate gives at the
+   first offset behind them: it tells the sector of a 12. */
 uint64_t skywimple_fill(const uint8_t *log, size_t log_len, const uint8_t *entry, size_t entry_len,
                         uint64_t offset, uint8_t *buffer, size_t buffer_len);
 
-/* Walks from a root's score, 20 bytes. The result is the number, and 256 times the visits spent. */
+/* Walks from a root's score, 20 bytes. The result is the number, 256 times the visits spent, which are
+   at most 1,000,000, and for 12 also 268435456 times the first doubtful sector:
+   number = result % 256, visits = result / 256 % 1048576, sector = result / 268435456. */
 uint64_t skywimple_walk(const uint8_t *log, size_t log_len, const uint8_t score[20],
                         uint64_t allowance);
 

@@ -79,7 +79,7 @@ pub fn run() {
             for _ in 0..10 {
                 assert_eq!(
                     ordinary::read(&other[..whole], DATA, &[7; 20], &mut out),
-                    Err(11)
+                    Err(ordinary::Refused::Number(11))
                 );
             }
         });

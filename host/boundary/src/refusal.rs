@@ -3,8 +3,8 @@
 use std::error::Error;
 use std::fmt;
 
-/// A refusal, by the names that `crates/refusal` has for them. One that is to say more than its number
-/// says it in a field of its own; `number` and `of` are all that knows the numbers.
+/// A refusal, by the names that `crates/refusal` has for them. One that says more than its number has
+/// it in a field of its own; `number` and `with_sector` are all that knows the numbers.
 #[derive(Clone, Copy, Debug, PartialEq, Eq, Hash)]
 pub enum Refusal {
     /// Fewer than 4 bytes, or a size that isn't the count of bytes after it.
@@ -29,8 +29,8 @@ pub enum Refusal {
     DataLength,
     /// The block is not held.
     NotHeld,
-    /// Whether the block is held is not known.
-    NotKnown,
+    /// Whether the block is held is not known: this is the log's first doubtful sector.
+    NotKnown { sector: usize },
     /// The block is longer than the count.
     OverCount,
     /// Too few sectors are left after the used part.
@@ -56,7 +56,7 @@ pub enum Refusal {
 }
 
 impl Refusal {
-    /// All of them, in the order of their numbers, from 1 on.
+    /// All of them, in the order of their numbers, from 1 on; the doubt is at sector 0.
     pub const ALL: [Refusal; 23] = [
         Refusal::Frame,
         Refusal::Buffer,
@@ -69,7 +69,7 @@ impl Refusal {
         Refusal::BlockType,
         Refusal::DataLength,
         Refusal::NotHeld,
-        Refusal::NotKnown,
+        Refusal::NotKnown { sector: 0 },
         Refusal::OverCount,
         Refusal::NoRoom,
         Refusal::Clash,
@@ -97,7 +97,7 @@ impl Refusal {
             Refusal::BlockType => 9,
             Refusal::DataLength => 10,
             Refusal::NotHeld => 11,
-            Refusal::NotKnown => 12,
+            Refusal::NotKnown { .. } => 12,
             Refusal::OverCount => 13,
             Refusal::NoRoom => 14,
             Refusal::Clash => 15,
@@ -112,21 +112,41 @@ impl Refusal {
         }
     }
 
-    /// What a number of the library says: done for 0, else a refusal.
+    /// The log's first doubtful sector, where that is why.
+    pub fn first_doubtful(self) -> Option<usize> {
+        match self {
+            Refusal::NotKnown { sector } => Some(sector),
+            _ => None,
+        }
+    }
+
+    /// What a number of the library says that has no sector beside it: done for 0, else a refusal.
     pub(crate) fn of(number: u8) -> Result<(), Refusal> {
-        match number {
-            0 => Ok(()),
-            _ => match Refusal::ALL.get(usize::from(number) - 1) {
-                Some(refusal) => Err(*refusal),
-                None => panic!("the library says {number}, which is no refusal's number"),
-            },
+        Refusal::with_sector(number, 0)
+    }
+
+    /// The same where a sector stands beside the number: the first doubtful one for 12, and 0 for all
+    /// other refusals. Beside 0 it says something else.
+    pub(crate) fn with_sector(number: u8, sector: usize) -> Result<(), Refusal> {
+        let Some(index) = usize::from(number).checked_sub(1) else {
+            return Ok(());
+        };
+        match (Refusal::ALL.get(index), sector) {
+            (Some(Refusal::NotKnown { .. }), _) => Err(Refusal::NotKnown { sector }),
+            (Some(refusal), 0) => Err(*refusal),
+            (Some(_), _) => panic!("the library says {number}, which has no sector, at {sector}"),
+            (None, _) => panic!("the library says {number}, which is no refusal's number"),
         }
     }
 }
 
 impl fmt::Display for Refusal {
     fn fmt(&self, f: &mut fmt::Formatter) -> fmt::Result {
-        write!(f, "refused with {}", self.number())
+        write!(f, "refused with {}", self.number())?;
+        match self.first_doubtful() {
+            Some(sector) => write!(f, ", the first doubtful sector is {sector}"),
+            None => Ok(()),
+        }
     }
 }
 
@@ -139,11 +159,29 @@ mod tests {
     #[test]
     fn numbers_and_back() {
         assert_eq!(Refusal::of(0), Ok(()));
-        for number in 1..=23 {
-            assert_eq!(Refusal::of(number).unwrap_err().number(), number);
+        for (number, refusal) in (1..).zip(Refusal::ALL) {
+            assert_eq!(refusal.number(), number);
+            assert_eq!(Refusal::with_sector(number, 0), Err(refusal));
         }
-        let named = [Refusal::NotHeld, Refusal::NotKnown, Refusal::Allowance];
-        assert_eq!(named.map(Refusal::number), [11, 12, 23]);
+        let named = [Refusal::NotHeld, Refusal::Clash, Refusal::Allowance];
+        assert_eq!(named.map(Refusal::number), [11, 15, 23]);
         assert_eq!(Refusal::Clash.to_string(), "refused with 15");
+    }
+
+    #[test]
+    fn only_12_has_a_sector() {
+        let refusal = Refusal::with_sector(12, 1_048_575).unwrap_err();
+        assert_eq!(refusal, Refusal::NotKnown { sector: 1_048_575 });
+        assert_eq!(refusal.number(), 12);
+        assert_eq!(refusal.first_doubtful(), Some(1_048_575));
+        let words = "refused with 12, the first doubtful sector is 1048575";
+        assert_eq!(refusal.to_string(), words);
+        assert_eq!(Refusal::NotHeld.first_doubtful(), None);
+    }
+
+    #[test]
+    #[should_panic = "no sector, at 5"]
+    fn a_sector_beside_another_number() {
+        let _ = Refusal::with_sector(11, 5);
     }
 }

@@ -18,6 +18,10 @@ pub struct Served {
     pub session: Session,
 }
 
+/// The bytes of an error reply before its text, and the text of 12 before the sector's digits.
+const BEFORE_TEXT: usize = 6;
+const DOUBT_AT: &[u8] = b"why=12 at=";
+
 /// Answers one request. The reply stands at the front of `reply`, its length in the first two bytes;
 /// an appended block in `log`.
 pub fn serve(session: Session, message: &[u8], log: &mut [u8], reply: &mut [u8]) -> Served {
@@ -40,11 +44,47 @@ pub fn serve(session: Session, message: &[u8], log: &mut [u8], reply: &mut [u8])
         )
     };
     Served {
-        outcome: Refusal::of((result % 256) as u8),
+        outcome: Refusal::of((result % 256) as u8).map_err(|refusal| match refusal {
+            Refusal::NotKnown { .. } => Refusal::NotKnown {
+                sector: sector_in(reply).expect("the text of 12 tells the sector"),
+            },
+            other => other,
+        }),
         session: match result / 256 {
             0 => Session::Fresh,
             1 => Session::Greeted,
             _ => Session::Closed,
         },
+    }
+}
+
+/// The sector that the text of an error reply tells: eight lower-case hex digits.
+fn sector_in(reply: &[u8]) -> Option<usize> {
+    let text = reply.get(BEFORE_TEXT..BEFORE_TEXT + DOUBT_AT.len() + 8)?;
+    let digits = text.strip_prefix(DOUBT_AT)?;
+    let plain = |byte: &u8| matches!(byte, b'0'..=b'9' | b'a'..=b'f');
+    let digits = digits.iter().all(plain).then_some(digits)?;
+    usize::from_str_radix(str::from_utf8(digits).ok()?, 16).ok()
+}
+
+#[cfg(test)]
+mod tests {
+    use super::sector_in;
+
+    #[test]
+    fn the_sector_in_a_text() {
+        let sector = |text: &str| sector_in(&[b"\0\x16\x01\x09\0\x12", text.as_bytes()].concat());
+        assert_eq!(sector("why=12 at=0000002a"), Some(42));
+        assert_eq!(sector("why=12 at=001000fe and more"), Some(0x10_00fe));
+        for other in [
+            "why=11 at=0000002a",
+            "why=12 at=0000002A",
+            "why=12 at=2a",
+            "why=12",
+            "",
+        ] {
+            assert_eq!(sector(other), None, "{other}");
+        }
+        assert_eq!(sector("why=12 at=+000002a"), None);
     }
 }

@@ -12,7 +12,7 @@ pub enum Run {
 /// Where the bytes of a file at an offset lie, as one run.
 pub fn locate(log: &[u8], page: &[u8], entry: &[u8], offset: u64) -> Result<Run, Refusal> {
     // SAFETY: the pointers and lengths are those of slices that outlive the call and are only read.
-    let result = unsafe {
+    located(unsafe {
         boundary::skywimple_locate(
             log.as_ptr(),
             log.len(),
@@ -22,14 +22,17 @@ pub fn locate(log: &[u8], page: &[u8], entry: &[u8], offset: u64) -> Result<Run,
             entry.len(),
             offset,
         )
-    };
-    Refusal::of((result % 256) as u8)?;
+    })
+}
+
+/// What a result of locate says.
+fn located(result: u64) -> Result<Run, Refusal> {
+    // Where the run starts; beside a refusal, the first doubtful sector.
+    let at = (result / 512 / 65_536) as usize;
+    Refusal::with_sector((result % 256) as u8, at)?;
     let length = (result / 512 % 65_536) as usize;
     Ok(match result / 256 % 2 {
-        0 => Run::Log {
-            at: (result / 512 / 65_536) as usize,
-            length,
-        },
+        0 => Run::Log { at, length },
         _ => Run::Page { length },
     })
 }
@@ -70,10 +73,13 @@ pub fn fill(log: &[u8], entry: &[u8], offset: u64, buffer: &mut [u8]) -> Filled 
             buffer.len(),
         )
     };
-    Filled {
-        count: (result / 256) as usize,
-        outcome: Refusal::of((result % 256) as u8),
-    }
+    let count = (result / 256) as usize;
+    let outcome = match (result % 256) as u8 {
+        // The refusal is the one at the offset behind the bytes, and that tells the sector.
+        12 => locate(log, &[0], entry, offset + count as u64).map(|_| ()),
+        number => Refusal::of(number),
+    };
+    Filled { count, outcome }
 }
 
 /// How a walk ended.
@@ -87,10 +93,15 @@ pub struct Walked {
 /// Walks from a root's score.
 pub fn walk(log: &[u8], score: &[u8; 20], allowance: u64) -> Walked {
     // SAFETY: as above; `score` is a reference to 20 bytes.
-    let result = unsafe { boundary::skywimple_walk(log.as_ptr(), log.len(), score, allowance) };
+    walked(unsafe { boundary::skywimple_walk(log.as_ptr(), log.len(), score, allowance) })
+}
+
+/// What a result of walk says: the number, the visits, and behind them the first doubtful sector.
+fn walked(result: u64) -> Walked {
+    let sector = (result / 256 / 1_048_576) as usize;
     Walked {
-        outcome: Refusal::of((result % 256) as u8),
-        visits: result / 256,
+        outcome: Refusal::with_sector((result % 256) as u8, sector),
+        visits: result / 256 % 1_048_576,
     }
 }
 
@@ -98,4 +109,31 @@ pub fn walk(log: &[u8], score: &[u8; 20], allowance: u64) -> Walked {
 pub fn block_type(number: u64) -> Result<u8, Refusal> {
     // SAFETY: it takes a number.
     answer(unsafe { boundary::skywimple_block_type(number) }).map(|kind| kind as u8)
+}
+
+#[cfg(test)]
+mod tests {
+    use super::{located, walked, Refusal, Run, Walked};
+
+    #[test]
+    fn the_largest_results() {
+        for sector in [0, 1, 42, 1_048_575, 1_048_830] {
+            let refusal = Refusal::NotKnown { sector };
+            assert_eq!(located(12 + (sector as u64) * 33_554_432), Err(refusal));
+            for visits in [0, 1, 1_000_000] {
+                let result = 12 + 256 * (visits + 1_048_576 * sector as u64);
+                let outcome = Err(refusal);
+                assert_eq!(walked(result), Walked { outcome, visits });
+            }
+        }
+        let (at, length) = (1_048_575 * 512 + 96, 403);
+        let result = 512 * length as u64 + 33_554_432 * at as u64;
+        assert_eq!(located(result), Ok(Run::Log { at, length }));
+        let length = 57_344;
+        let result = 256 + 512 * length as u64;
+        assert_eq!(located(result), Ok(Run::Page { length }));
+        assert_eq!(located(17), Err(Refusal::Offset));
+        let (outcome, visits) = (Err(Refusal::Spent), 1_000_000);
+        assert_eq!(walked(21 + 256 * visits), Walked { outcome, visits });
+    }
 }

@@ -53,6 +53,12 @@ pub fn pieces(log: &[u8]) -> Result<Vec<Piece>, Refusal> {
     Ok(pieces)
 }
 
+/// The first doubtful sector of a log in pieces: the one that a look-up's refusal 12 tells.
+pub fn first_doubtful(pieces: &[Piece]) -> Option<usize> {
+    let first = pieces.iter().find(|piece| piece.block.is_none());
+    first.map(|piece| piece.sector)
+}
+
 fn piece(sector: usize, count: usize, block: Option<Block>) -> Piece {
     Piece {
         sector,
@@ -118,5 +124,24 @@ mod tests {
             [&[doubtful][..], &rest, &[again]].concat()
         );
         assert_eq!(pieces(&log[..700]), Err(Refusal::LogLength));
+    }
+
+    /// Any sector damaged: the look-up names the first doubtful one as well.
+    #[test]
+    fn the_first_doubtful_one() {
+        let mut log = vec![0; 12 * SECTOR];
+        let mut client = Client::greet(&mut log).unwrap();
+        for length in [5, 1000, 403, 404] {
+            client.write(&mut log, 13, &vec![7; length]).unwrap();
+        }
+        assert_eq!(first_doubtful(&pieces(&log).unwrap()), None);
+        let expected = [0, 1, 1, 1, 4, 5, 5, 7, 7, 7, 7, 7];
+        for (damaged, sector) in expected.into_iter().enumerate() {
+            let mut log = log.clone();
+            log[damaged * SECTOR + 300] ^= 1;
+            assert_eq!(first_doubtful(&pieces(&log).unwrap()), Some(sector));
+            let told = client.read(&mut log, 13, &[9; 20], 1);
+            assert_eq!(told, Err(Refusal::NotKnown { sector }));
+        }
     }
 }

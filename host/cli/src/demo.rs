@@ -24,6 +24,9 @@ const CARDS: [(&str, &str); 3] = [
     ("eve.card", "donor: Eve\nantigen Vel: not tested\n"),
 ];
 
+/// The refusal after the damage: the second card's sector.
+const NOT_KNOWN: Refusal = Refusal::NotKnown { sector: 1 };
+
 /// Runs a command, tells what fails and gives the status.
 type Run = fn(&[OsString], &mut Streams) -> u8;
 
@@ -119,13 +122,13 @@ impl Demo<'_, '_> {
     fn after(&mut self, scores: &[String]) -> Result<(), Failure> {
         let lost = self.command(&["get", LOG, &scores[1]])?;
         self.claim(
-            "status 12, not known, and not a byte",
-            refused(&lost, Refusal::NotKnown, "not known"),
+            "status 12, not known, and not a byte; it says where the damage is",
+            refused(&lost, NOT_KNOWN, "not known") && lost.err.contains("sector is 1, at byte 512"),
         )?;
         let other = self.command(&["get", LOG, &never_stored()])?;
         self.claim(
             "the card that nobody stored is \"not known\" now as well: it could have been there",
-            refused(&other, Refusal::NotKnown, "not known"),
+            refused(&other, NOT_KNOWN, "not known"),
         )?;
         self.say("The other cards are as they were.")?;
         self.reads(&scores[0], CARDS[0].1)?;

@@ -420,7 +420,10 @@ mod tests {
                 Ok(found) => assert_eq!(found, block),
                 Err(refusal) => {
                     assert!(!acknowledged.contains(&at), "block {at} is lost: {refusal}");
-                    assert!([Refusal::NotHeld, Refusal::NotKnown].contains(&refusal));
+                    assert!(matches!(
+                        refusal,
+                        Refusal::NotHeld | Refusal::NotKnown { .. }
+                    ));
                 }
             }
         }

@@ -21,7 +21,8 @@ same; the status is that of the first failure.
 pub const GET: &str = "\
 Three answers, never mixed up: the bytes with status 0; \"not held\" with status 11, the block was
 never stored; \"not known\" with status 12, part of the log is damaged and nobody can tell. The last
-two write nothing to standard output.
+two write nothing to standard output. With \"not known\" the log's first doubtful sector is told, and
+its byte in the file: restore it from a copy of the log, or store the block again.
   SCORE      40 hex digits
   --type T   root, dir, ptr1 to ptr7, data (the default), or the type's number
   --count N  the most bytes, 0 to 65535 (default 57344); a longer block is refused with 13
@@ -55,8 +56,9 @@ newer mark: an older one cannot tell what is lost. Copy the mark first, then the
 ";
 
 pub const REPORT: &str = "\
-Prints sectors, used, records, doubtful and the verdict: sound (status 0) or notknown (status 32).
-  --json      prints the same as one JSON object
+Prints sectors, used, records, doubtful and the verdict: sound (status 0) or notknown (status 32);
+then the first doubtful sector is told on standard error, with its byte in the file.
+  --json      prints the same as one JSON object, with first_doubtful: the sector, or null
   --map       draws the log: # sound, ? doubtful, . blank; a cell with any doubtful sector is ?, and
               the number before a row is that of its first sector
   --svg FILE  writes the map as a picture; overwrites FILE only if it is a picture. With - it goes to
@@ -67,10 +69,12 @@ Prints sectors, used, records, doubtful and the verdict: sound (status 0) or not
 
 pub const LIST: &str = "\
 Prints a line for each sound block, in the log's order: the sector where it starts, its type, its
-size in bytes and its score; and a line for each run of doubtful sectors: the first, and how many.
-The status is 0, or 32 if any sector is doubtful.
-  --json     prints JSON, an object on each line: sector, type, size and score of a block; sector and
-             count of a doubtful run
+size in bytes and its score; and a line for each run of doubtful sectors: the first, how many, and
+the byte of the file where they begin. The status is 0, or 32 if any sector is doubtful.
+A doubtful run can be restored from a copy of the log while no writer runs, with its sector and count:
+  dd if=COPY of=LOG bs=512 skip=SECTOR seek=SECTOR count=COUNT conv=notrunc,fsync
+  --json     prints JSON, an object on each line: sector, type, size and score of a block; sector,
+             count and byte of a doubtful run
   --adopt    take a log without a good mark as it is, and mark it
 ";
 
@@ -78,8 +82,9 @@ pub const READ: &str = "\
 Writes the bytes of the file that ENTRY stands for: 80 hex digits, or the name of a file with the
 40 bytes of an entry. Stops at the first offset that is refused and says which and why; what was
 written before it is right. The status is the refusal's number. A missing block is never zeros; its
-type and score are told, so that it can be fetched from a copy. At a terminal, progress is shown
-where the file goes elsewhere. Each leaf takes a scan of the log for each level of the tree.
+type and score are told, so that it can be fetched from a copy; where it is not known, the log's first
+doubtful sector too. At a terminal, progress is shown where the file goes elsewhere. Each
+leaf takes a scan of the log for each level of the tree.
   --adopt    take a log without a good mark as it is, and mark it
 ";
 
@@ -87,7 +92,8 @@ pub const WALK: &str = "\
 Visits every block below the root SCORE (40 hex digits) and prints the visits spent, and `done` if
 all could be read. Otherwise the first refusal is told and its number is the status; the type and
 score of that block are printed, and where in the tree it is, so that it can be fetched from a copy:
-entry 2/0, byte 1500 is byte 1500 of the file of entry 0 in the directory of entry 2.
+entry 2/0, byte 1500 is byte 1500 of the file of entry 0 in the directory of entry 2. Where the block
+is not known (12), the log's first doubtful sector is printed too, as first_doubtful.
 Each visit looks through the log up to its block, some 10 ns for each sector: a full log of small
 blocks takes a minute or two with 131,072 sectors, and about an hour and a half with 1,048,576. At a
 terminal the time gone by and the time expected are shown.

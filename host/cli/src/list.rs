@@ -4,7 +4,7 @@ use std::io;
 
 use crate::arguments::Arguments;
 use crate::blocks::{self, Block, Piece};
-use crate::format::kind_name;
+use crate::format::{kind_name, SECTOR};
 use crate::hex;
 use crate::reader;
 use crate::status::{Failure, DONE, VERDICT_NOT_KNOWN};
@@ -28,7 +28,7 @@ pub fn run(arguments: &Arguments, streams: &mut Streams) -> Result<u8, Failure> 
     })
 }
 
-/// Sector, type, size and score; of doubtful sectors their count.
+/// Sector, type, size and score; of doubtful sectors their count, and the byte where they begin.
 fn text(piece: &Piece) -> String {
     let Piece { sector, count, .. } = piece;
     match piece.block {
@@ -36,7 +36,10 @@ fn text(piece: &Piece) -> String {
             let (kind, score) = (kind_name(kind), hex::encode(&score));
             format!("{sector:>8}  {kind:8}  {size:>5}  {score}")
         }
-        None => format!("{sector:>8}  doubtful  {count:>5}  sectors"),
+        None => {
+            let byte = sector * SECTOR;
+            format!("{sector:>8}  doubtful  {count:>5}  sectors, from byte {byte} on")
+        }
     }
 }
 
@@ -48,6 +51,9 @@ fn json(piece: &Piece) -> String {
             let (kind, score) = (kind_name(kind), hex::encode(&score));
             format!(r#"{{"sector":{sector},"type":"{kind}","size":{size},"score":"{score}"}}"#)
         }
-        None => format!(r#"{{"sector":{sector},"count":{count}}}"#),
+        None => {
+            let byte = sector * SECTOR;
+            format!(r#"{{"sector":{sector},"count":{count},"byte":{byte}}}"#)
+        }
     }
 }

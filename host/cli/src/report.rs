@@ -7,6 +7,7 @@ use std::os::unix::fs::{FileTypeExt, MetadataExt};
 use std::path::Path;
 
 use crate::arguments::Arguments;
+use crate::blocks;
 use crate::escape;
 use crate::map::Map;
 use crate::mark;
@@ -15,6 +16,7 @@ use crate::status::{Failure, DONE, EXISTS, VERDICT_NOT_KNOWN};
 use crate::streams::Streams;
 use crate::svg;
 use crate::terminal;
+use crate::words;
 use boundary::report;
 
 /// The bytes that a report buffer needs.
@@ -50,6 +52,9 @@ pub fn run(arguments: &Arguments, streams: &mut Streams) -> Result<u8, Failure> 
     if wanted.map || wanted.picture.is_some() {
         let map = Map::of(&log).map_err(Failure::refused)?;
         draw(&map, path, report.verdict(), &wanted, streams)?;
+    }
+    if let Some(first) = report.first_doubtful.filter(|_| !wanted.json) {
+        streams.tell(&words::doubt(first, &path.to_string_lossy()));
     }
     Ok(report.status())
 }
@@ -119,6 +124,8 @@ fn cells(asked: Option<u64>, map: &Map, terminal: bool) -> usize {
 /// The proved report: lines of a name, an equals sign and a value, the verdict the last.
 struct Report {
     text: String,
+    /// What the lines do not say.
+    first_doubtful: Option<usize>,
 }
 
 impl Report {
@@ -126,7 +133,15 @@ impl Report {
         let mut buffer = [0; BUFFER];
         let length = report(log, &mut buffer).map_err(Failure::refused)?;
         let text = String::from_utf8_lossy(&buffer[..length]).into_owned();
-        Ok(Report { text })
+        let mut report = Report {
+            text,
+            first_doubtful: None,
+        };
+        if report.status() != DONE {
+            let pieces = blocks::pieces(log).map_err(Failure::refused)?;
+            report.first_doubtful = blocks::first_doubtful(&pieces);
+        }
+        Ok(report)
     }
 
     fn fields(&self) -> impl Iterator<Item = (&str, &str)> {
@@ -145,15 +160,18 @@ impl Report {
         }
     }
 
-    /// One object: numbers as they are, the verdict as a string.
+    /// One object: numbers as they are, the verdict as a string, and the first doubtful sector or null.
     fn json(&self) -> String {
         let value = |value: &str| match value.bytes().all(|byte| byte.is_ascii_digit()) {
             true => value.to_string(),
             false => format!("\"{value}\""),
         };
         let fields = self.fields();
+        let first = self.first_doubtful.map(|first| first.to_string());
+        let first = first.unwrap_or("null".to_string());
         let fields: Vec<_> = fields
             .map(|(name, found)| format!("\"{name}\":{}", value(found)))
+            .chain([format!("\"first_doubtful\":{first}")])
             .collect();
         format!("{{{}}}\n", fields.join(","))
     }

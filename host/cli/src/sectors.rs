@@ -175,26 +175,27 @@ mod tests {
         let mut client = Client::greet(&mut log).unwrap();
         let blocks = [vec![1; 500], vec![2; 50], vec![3; 1000]];
         let scores = [0, 1, 2].map(|i| client.write(&mut log, 13, &blocks[i]).unwrap());
-        for (bad, lost) in [(&[1][..], 0), (&[2], 1), (&[3, 5], 2)] {
+        for (bad, lost, first) in [(&[1][..], 0, 0), (&[2], 1, 2), (&[3, 5], 2, 3)] {
+            let not_known = Err(Refusal::NotKnown { sector: first });
             let mut loaded = load_with(&log, log.len(), bad);
             assert_eq!(loaded.unreadable, bad.len());
             for i in 0..3 {
                 let read = client.read(&mut loaded.bytes, 13, &scores[i], 60_000);
                 let expected = if i == lost {
-                    Err(Refusal::NotKnown)
+                    not_known
                 } else {
                     Ok(&blocks[i][..])
                 };
                 assert_eq!(read, expected);
             }
             let never = client.read(&mut loaded.bytes, 13, &[9; 20], 60_000);
-            assert_eq!(never, Err(Refusal::NotKnown));
+            assert_eq!(never, not_known);
         }
         let mut loaded = load_with(&log, log.len(), &[7]);
         let never = client.read(&mut loaded.bytes, 13, &[9; 20], 60_000);
         assert_eq!(
             never,
-            Err(Refusal::NotKnown),
+            Err(Refusal::NotKnown { sector: 6 }),
             "a blank sector could have been another"
         );
     }

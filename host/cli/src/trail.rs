@@ -65,9 +65,9 @@ pub fn follow(log: &[u8], score: &Score, allowance: u64) -> Option<Trail> {
     let mut walk = Walk {
         log,
         index: index(&pieces),
-        missing: match pieces.iter().any(|piece| piece.block.is_none()) {
-            true => Refusal::NotKnown,
-            false => Refusal::NotHeld,
+        missing: match blocks::first_doubtful(&pieces) {
+            Some(sector) => Refusal::NotKnown { sector },
+            None => Refusal::NotHeld,
         },
         zero: sha1(b""),
         allowance,

@@ -56,7 +56,7 @@ fn follow(log: &[u8], score: &Score, allowance: u64) -> Option<Trail> {
     }
 }
 
-/// Names the block that was refused, and where it is.
+/// Names the block that was refused, where it is, and where the doubt begins.
 fn refused(
     refusal: Refusal,
     visits: u64,
@@ -69,6 +69,9 @@ fn refused(
         let (kind, score) = (kind_name(*kind), hex::encode(score));
         answer += &format!("type={kind}\nscore={score}\n");
         at += &format!(", at the {kind} block {score} ({place})");
+    }
+    if let Some(first) = refusal.first_doubtful() {
+        answer += &format!("first_doubtful={first}\n");
     }
     streams.answer(answer.as_bytes())?;
     let block = stop.as_ref().map(|stop| (stop.kind, &stop.score));

@@ -76,8 +76,8 @@ const REFUSALS: [Words; 23] = [
         "not known",
         "part of the log is damaged, so this block may have been stored here or not. \
          DO NOT READ THIS AS ABSENT",
-        "Ask a copy of the log; storing the block again (`skywimple put`) heals it. \
-         `skywimple report LOG --map` shows the damage.",
+        "Ask a copy of the log, or restore those sectors from it while no writer runs; \
+         storing the block again (`skywimple put`) heals it.",
     ),
     words(
         "block longer than asked for",
@@ -162,15 +162,19 @@ pub fn refusal_in_tree(refusal: Refusal, block: Option<(u8, &Score)>) -> String 
         Refusal::NotHeld => {
             format!("If the score or entry given is right, a block below it is missing. {fetch}")
         }
-        Refusal::NotKnown => {
-            format!("{fetch} `skywimple report LOG --map` shows the damage.")
-        }
+        Refusal::NotKnown { .. } => fetch,
         Refusal::OverCount => {
             "The tree was written wrongly; store it again from its source.".to_string()
         }
         _ => return told(refusal, None),
     };
     told(refusal, Some(&advice))
+}
+
+/// Where a log's doubt begins, and what shows the rest of it.
+pub fn doubt(first: usize, log: &str) -> String {
+    let byte = first * SECTOR;
+    format!("the first doubtful sector is {first}, at byte {byte} of the log; `skywimple list {log}` shows all of them")
 }
 
 /// Refusal 14 of a log of so many sectors, with so many used, for a block that needs so many.
@@ -200,8 +204,11 @@ fn told(refusal: Refusal, advice: Option<&str>) -> String {
     match REFUSALS.get(usize::from(number).wrapping_sub(1)) {
         Some(w) => {
             let advice = advice.unwrap_or(w.advice);
-            let words = format!("{} ({number}): {}. {advice}", w.name, w.when);
-            words.replace("{limit}", &limit())
+            let mut words = format!("{} ({number}): {}. ", w.name, w.when);
+            if let Some(first) = refusal.first_doubtful() {
+                words += &format!("Where: {}. ", doubt(first, "LOG"));
+            }
+            (words + advice).replace("{limit}", &limit())
         }
         None => format!("refused ({number})"),
     }
@@ -214,8 +221,23 @@ mod tests {
     #[test]
     fn not_held_and_not_known_differ() {
         assert!(refusal(Refusal::NotHeld).starts_with("not held (11): "));
-        assert!(refusal(Refusal::NotKnown).starts_with("not known (12): "));
-        assert!(!refusal(Refusal::NotKnown).contains("not held"));
+        let not_known = refusal(Refusal::NotKnown { sector: 3 });
+        assert!(not_known.starts_with("not known (12): "));
+        assert!(!not_known.contains("not held"));
+    }
+
+    #[test]
+    fn where_the_doubt_is() {
+        let why = Refusal::NotKnown { sector: 1_048_575 };
+        let place = "Where: the first doubtful sector is 1048575, at byte 536870400 of the log; \
+                     `skywimple list LOG` shows all of them. ";
+        for words in [refusal(why), refusal_in_tree(why, None)] {
+            assert!(words.contains(place), "{words}");
+        }
+        for why in Refusal::ALL {
+            let words = refusal_in_tree(why, Some((13, &[7; 20])));
+            assert_eq!(words.contains("Where: "), why.number() == 12, "{words}");
+        }
     }
 
     #[test]
@@ -264,7 +286,8 @@ mod tests {
 
     #[test]
     fn a_block_to_fetch() {
-        let words = refusal_in_tree(Refusal::NotKnown, Some((3, &[0x0a; 20])));
+        let why = Refusal::NotKnown { sector: 0 };
+        let words = refusal_in_tree(why, Some((3, &[0x0a; 20])));
         let score = "0a".repeat(20);
         assert!(words.contains(&format!("get COPY {score} --type ptr1 > block")));
         assert!(words.contains("DO NOT READ THIS AS ABSENT"));

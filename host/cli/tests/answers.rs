@@ -20,6 +20,7 @@ fn bytes_not_held_and_not_known() {
     place.reads(&kept, b"kept");
     place.not_known(&lost);
     place.not_known(&never);
+    place.not_known_at(&never, 1);
     let words = place.get(&lost).err;
     assert!(words.contains("DO NOT READ THIS AS ABSENT"), "{words}");
 }
@@ -137,7 +138,7 @@ fn the_longest_log() {
     let last = place.put(b"last");
     place.reads(&last, b"last");
     place.reads(&first, b"first");
-    place.not_known(&score(b"never stored"));
+    place.not_known_at(&score(b"never stored"), 1);
     let full = place.feed(&["put", "log"], b"no room");
     let full = full.fails(14, "log full (14)");
     assert!(

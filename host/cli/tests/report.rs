@@ -27,7 +27,9 @@ fn sound_and_not_known() {
     assert_eq!(blank.out, BLANK.as_bytes());
     let answer = damaged().run(&["report", "log"]).with(32);
     assert_eq!(answer.out, DAMAGED.as_bytes());
-    assert_eq!(answer.err, "");
+    let told = "skywimple: the first doubtful sector is 2, at byte 1024 of the log; \
+                `skywimple list log` shows all of them\n";
+    assert_eq!(answer.err, told);
 }
 
 #[test]
@@ -190,7 +192,7 @@ fn a_list() {
     let answer = place.run(&["list", "log"]).with(32);
     let lines = [
         format!("       0  data        500  {}\n", scores[0]),
-        "       2  doubtful      3  sectors\n".to_string(),
+        "       2  doubtful      3  sectors, from byte 1024 on\n".to_string(),
         format!("       5  data         50  {}\n", scores[1]),
     ];
     assert_eq!(answer.text() + "\n", lines.concat());
@@ -201,7 +203,7 @@ fn a_list() {
             r#"{{"sector":0,"type":"data","size":500,"score":"{}"}}"#,
             scores[0]
         ),
-        r#"{"sector":2,"count":3}"#.to_string(),
+        r#"{"sector":2,"count":3,"byte":1024}"#.to_string(),
         format!(
             r#"{{"sector":5,"type":"data","size":50,"score":"{}"}}"#,
             scores[1]
@@ -235,7 +237,10 @@ fn a_list_of_all_kinds() {
     let text = place.run(&["list", "log", "--json"]).with(32).text();
     let runs: Vec<_> = text.lines().filter(|line| line.contains("count")).collect();
     let expected = [(0, 1), (2, 2), (5, 6)];
-    let expected = expected.map(|(at, count)| format!(r#"{{"sector":{at},"count":{count}}}"#));
+    let expected = expected.map(|(at, count)| {
+        let byte = at * SECTOR;
+        format!(r#"{{"sector":{at},"count":{count},"byte":{byte}}}"#)
+    });
     assert_eq!(runs, expected);
     let report = place.run(&["report", "log"]).with(32).text();
     assert!(report.contains("records=2\ndoubtful=9\n"), "{report}");
@@ -245,11 +250,13 @@ fn a_list_of_all_kinds() {
 fn a_report_as_json() {
     let json = |place: &Place| place.run(&["report", "log", "--json"]);
     let sound = json(&Place::with_log(2)).with(0);
-    let expected = r#"{"sectors":2,"used":0,"records":0,"doubtful":0,"verdict":"sound"}"#;
+    let expected = r#"{"sectors":2,"used":0,"records":0,"doubtful":0,"verdict":"sound","first_doubtful":null}"#;
     assert_eq!(sound.text(), expected);
     let place = damaged();
-    let expected = r#"{"sectors":10,"used":6,"records":2,"doubtful":3,"verdict":"notknown"}"#;
-    assert_eq!(json(&place).with(32).text(), expected);
+    let expected = r#"{"sectors":10,"used":6,"records":2,"doubtful":3,"verdict":"notknown","first_doubtful":2}"#;
+    let answer = json(&place).with(32);
+    assert_eq!(answer.text(), expected);
+    assert_eq!(answer.err, "");
     place
         .run(&["report", "log", "--json", "--map"])
         .fails(64, "give --json or --map");

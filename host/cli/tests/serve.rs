@@ -125,11 +125,11 @@ fn not_known_over_the_wire() {
     let answer = place.feed(&["serve", "log"], &sent.concat()).with(0);
     let replies = [
         HELLO_REPLY.to_vec(),
-        error_reply(1, 12),
-        error_reply(2, 12),
+        not_known_reply(1, 0),
+        not_known_reply(2, 0),
         write_reply(3, b"card"),
         message(13, 4, b"card"),
-        error_reply(5, 12),
+        not_known_reply(5, 0),
     ];
     assert_eq!(answer.out, replies.concat());
 }
@@ -229,7 +229,8 @@ fn what_was_damaged_meanwhile_and_has_no_room() {
         server.ask(&write_message(2, &blocks[0])),
         error_reply(2, 14)
     );
-    assert_eq!(server.ask(&read_message(3, &blocks[0])), error_reply(3, 12));
+    let reply = server.ask(&read_message(3, &blocks[0]));
+    assert_eq!(reply, not_known_reply(3, 0));
     server.end();
     place.not_known(&score(&blocks[0]));
 }

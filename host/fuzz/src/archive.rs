@@ -1,9 +1,10 @@
 //! What an archive under test has to offer.
 
 use second::tree::Run;
-use second::{Score, Session};
+use second::{Refusal, Score, Session};
 
-/// The archive's calls. Numbers are the description's refusals, 0 for none.
+/// The archive's calls. Numbers are the description's refusals, 0 for none; what looks up a block
+/// tells of the first doubtful sector besides, `serve` in its reply.
 pub trait Archive {
     /// One request: the number and the session afterwards.
     fn serve(
@@ -23,14 +24,25 @@ pub trait Archive {
     /// Pads the block at the buffer's front; gives the number.
     fn pad(&mut self, kind: u8, buffer: &mut [u8], block_len: usize, target: usize) -> u8;
 
-    /// Where a file's bytes at an offset are, or the number.
-    fn locate(&mut self, log: &[u8], page: &[u8], entry: &[u8], offset: u64) -> Result<Run, u8>;
+    /// Where a file's bytes at an offset are, or why not.
+    fn locate(
+        &mut self,
+        log: &[u8],
+        page: &[u8],
+        entry: &[u8],
+        offset: u64,
+    ) -> Result<Run, Refusal>;
 
     /// Fills a buffer with a file's bytes from an offset on: the number, and the bytes written.
-    fn fill(&mut self, log: &[u8], entry: &[u8], offset: u64, buffer: &mut [u8]) -> (u8, usize);
-
-    /// The number and the visits spent.
-    fn walk(&mut self, log: &[u8], score: &Score, allowance: u64) -> (u8, u64);
+    fn fill(
+        &mut self,
+        log: &[u8],
+        entry: &[u8],
+        offset: u64,
+        buffer: &mut [u8],
+    ) -> (Result<(), Refusal>, usize);
+    /// How it ended, and the visits spent.
+    fn walk(&mut self, log: &[u8], score: &Score, allowance: u64) -> (Result<(), Refusal>, u64);
 
     /// The wire type of a number of the enumeration, or the number 9.
     fn wire_type(&mut self, number: u64) -> Result<u8, u8>;
@@ -69,15 +81,26 @@ impl Archive for Second {
         second::zeros::pad(kind, buffer, block_len, target)
     }
 
-    fn locate(&mut self, log: &[u8], page: &[u8], entry: &[u8], offset: u64) -> Result<Run, u8> {
+    fn locate(
+        &mut self,
+        log: &[u8],
+        page: &[u8],
+        entry: &[u8],
+        offset: u64,
+    ) -> Result<Run, Refusal> {
         second::tree::locate(log, page, entry, offset)
     }
 
-    fn fill(&mut self, log: &[u8], entry: &[u8], offset: u64, buffer: &mut [u8]) -> (u8, usize) {
+    fn fill(
+        &mut self,
+        log: &[u8],
+        entry: &[u8],
+        offset: u64,
+        buffer: &mut [u8],
+    ) -> (Result<(), Refusal>, usize) {
         second::tree::fill(log, entry, offset, buffer)
     }
-
-    fn walk(&mut self, log: &[u8], score: &Score, allowance: u64) -> (u8, u64) {
+    fn walk(&mut self, log: &[u8], score: &Score, allowance: u64) -> (Result<(), Refusal>, u64) {
         second::walk::walk(log, score, allowance)
     }
 

@@ -137,7 +137,7 @@ pub fn limits(
         let right = second::walk::walk(&second, &ZERO_SCORE, 3);
         compare.call(
             "walk",
-            right.0,
+            number(&right.0),
             archive.walk(&tested, &ZERO_SCORE, 3),
             right,
         )?;

@@ -1,7 +1,7 @@
 //! Asking the archive under test and the second program alike, and comparing.
 
 use second::ledger::Prediction;
-use second::Session;
+use second::{Refusal, Session};
 
 use crate::archive::Archive;
 
@@ -164,11 +164,11 @@ pub fn difference(what: &str, tested: &[u8], right: &[u8]) -> String {
     }
 }
 
-/// The number of an answer that is a value or a number.
-pub fn number<T>(answer: &Result<T, u8>) -> u8 {
+/// The number of an answer that is a value or a refusal.
+pub fn number<T>(answer: &Result<T, impl Copy + Into<Refusal>>) -> u8 {
     match answer {
         Ok(_) => 0,
-        Err(number) => *number,
+        Err(refused) => (*refused).into().number,
     }
 }
 

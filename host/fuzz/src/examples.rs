@@ -4,7 +4,7 @@ use second::message::whole;
 use second::sector::SECTOR;
 use second::sha1::{sha1, ZERO_SCORE};
 use second::tree::{Place, Run};
-use second::Session;
+use second::{Refusal, Session};
 
 use crate::archive::{Archive, Second};
 use crate::under_test;
@@ -26,6 +26,11 @@ fn ask(archive: &mut dyn Archive, log: &mut [u8], message: &[u8]) -> (u8, Vec<u8
     assert!(reply[size..].iter().all(|&byte| byte == 0xaa));
     reply.truncate(size);
     (number, reply)
+}
+
+/// A refusal that tells of no sector.
+fn no<T>(number: u8) -> Result<T, Refusal> {
+    Err(number.into())
 }
 
 fn write(kind: u8, data: &[u8]) -> Vec<u8> {
@@ -96,6 +101,38 @@ fn bytes(digits: &str) -> Vec<u8> {
 
 fn hex(bytes: &[u8]) -> String {
     bytes.iter().map(|byte| format!("{byte:02x}")).collect()
+}
+
+/// The first doubtful sector, in the text of a reply, in reading a file and in a walk.
+#[test]
+fn refusal_12() {
+    on_both(|archive| {
+        let mut log = vec![0; 60 * SECTOR];
+        for block in 0..42 {
+            assert_eq!(ask(archive, &mut log, &write(13, &[block])).0, 0);
+        }
+        let sound = log.clone();
+        let asked = |archive: &mut dyn Archive, log: &mut [u8]| {
+            let file = entry(1, 9, &[1; 20]);
+            let not_known = archive.locate(log, &[0], &file, 0).unwrap_err();
+            assert_eq!(archive.walk(log, &[1; 20], 5), (Err(not_known), 1));
+            let (number, reply) = ask(archive, log, &read(13, b"never stored", 1));
+            assert_eq!((number, not_known.number), (12, 12));
+            (not_known.at.unwrap(), reply)
+        };
+        log[45 * SECTOR..46 * SECTOR].fill(1); // and so 42 to 44, which are blank, are doubtful too
+        let reply = b"\x00\x16\x01\x09\x00\x12why=12 at=0000002a".to_vec();
+        assert_eq!(asked(archive, &mut log), (42, reply));
+        log[31 * SECTOR + 100] ^= 1;
+        log[10 * SECTOR + 100] ^= 1;
+        let reply = b"\x00\x16\x01\x09\x00\x12why=12 at=0000000a".to_vec();
+        assert_eq!(asked(archive, &mut log), (10, reply));
+        log[10 * SECTOR + 100] ^= 1;
+        assert_eq!(asked(archive, &mut log).0, 31);
+        log.copy_from_slice(&sound);
+        let never = read(13, b"never stored", 1);
+        assert_eq!(ask(archive, &mut log, &never).0, 11);
+    });
 }
 
 #[test]
@@ -174,9 +211,9 @@ fn sizes_of_files() {
         };
         let fits = entry(5, 3072, &ZERO_SCORE);
         assert_eq!(archive.locate(&[], &page, &fits, 3071), zeros(1));
-        assert_eq!(archive.locate(&[], &page, &fits, 3072), Err(17));
+        assert_eq!(archive.locate(&[], &page, &fits, 3072), no(17));
         let over = entry(5, 3073, &ZERO_SCORE);
-        assert_eq!(archive.locate(&[], &page, &over, 0), Err(16));
+        assert_eq!(archive.locate(&[], &page, &over, 0), no(16));
     });
 }
 
@@ -200,8 +237,8 @@ fn second_then_second() {
         };
         let page = [0; 10];
         assert_eq!(archive.locate(&log, &page, &file, 4096), Ok(run));
-        assert_eq!(archive.locate(&log, &page, &file, 3072), Err(11));
-        assert_eq!(archive.locate(&log, &page, &file, 0), Err(11));
+        assert_eq!(archive.locate(&log, &page, &file, 3072), no(11));
+        assert_eq!(archive.locate(&log, &page, &file, 0), no(11));
     });
 }
 
@@ -249,7 +286,7 @@ fn pads_of_entries() {
         let page = [0; 10];
         let good = entry(1, 5, &ZERO_SCORE);
         assert!(archive.locate(&[], &page, &good, 0).is_ok());
-        assert_eq!(walk(archive, &good), (0, 3));
+        assert_eq!(walk(archive, &good), (Ok(()), 3));
         for at in 0..40 {
             for byte in [1, 128, 255] {
                 let mut entry = good.clone();
@@ -257,13 +294,13 @@ fn pads_of_entries() {
                 let pad = (9..14).contains(&at);
                 if pad || at < 4 {
                     let run = archive.locate(&[], &page, &entry, 0);
-                    assert_eq!(run.err(), pad.then_some(16), "byte {at}");
-                    let answer = if pad { (16, 2) } else { (0, 3) };
+                    assert_eq!(run.err(), pad.then_some(16.into()), "byte {at}");
+                    let answer = if pad { (no(16), 2) } else { (Ok(()), 3) };
                     assert_eq!(walk(archive, &entry), answer, "byte {at}");
                 }
                 entry[8] = 0;
-                assert_eq!(archive.locate(&[], &page, &entry, 0), Err(16));
-                assert_eq!(walk(archive, &entry), (0, 2), "inactive, byte {at}");
+                assert_eq!(archive.locate(&[], &page, &entry, 0), no(16));
+                assert_eq!(walk(archive, &entry), (Ok(()), 2), "inactive, byte {at}");
             }
         }
     });
@@ -321,14 +358,15 @@ fn runs_of_a_file() {
             (499, run(Place::Log, 704, 1)),
             (500, run(Place::Page, 0, 300)),
             (900, run(Place::Page, 0, 100)),
-            (1000, Err(17)),
+            (1000, no(17)),
         ] {
             assert_eq!(archive.locate(&log, &page, &file, offset), expected);
         }
-        assert_eq!(archive.locate(&log, &[], &file, 0), Err(19));
-        assert_eq!(archive.locate(&log, &page, &file[1..], 0), Err(16));
+        assert_eq!(archive.locate(&log, &[], &file, 0), no(19));
+        assert_eq!(archive.locate(&log, &page, &file[1..], 0), no(16));
         log[700] ^= 1;
-        assert_eq!(archive.locate(&log, &page, &file, 0), Err(12));
+        let not_known = Err(Refusal::not_known(0));
+        assert_eq!(archive.locate(&log, &page, &file, 0), not_known);
     });
 }
 
@@ -341,7 +379,7 @@ fn sizes_of_logs() {
             archive.serve(Session::Fresh, &HELLO, log, reply).0
         };
         assert_eq!(greet(archive, &mut log, &mut reply), 3);
-        assert_eq!(archive.walk(&log, &ZERO_SCORE, 9), (3, 0));
+        assert_eq!(archive.walk(&log, &ZERO_SCORE, 9), (no(3), 0));
         assert_eq!(archive.sound_at(&log, 0), Err(3));
         for sectors in [1_048_576, 131_073, 0] {
             log.truncate(sectors * SECTOR);
@@ -354,19 +392,19 @@ fn sizes_of_logs() {
 fn walks() {
     on_both(|archive| {
         let mut log = vec![0; 8 * SECTOR];
-        assert_eq!(archive.walk(&log, &ZERO_SCORE, 5), (16, 1));
-        assert_eq!(archive.walk(&log, &ZERO_SCORE, 0), (21, 0));
-        assert_eq!(archive.walk(&log, &[1; 20], 5), (11, 1));
-        assert_eq!(archive.walk(&log, &ZERO_SCORE, 1_000_001), (23, 0));
+        assert_eq!(archive.walk(&log, &ZERO_SCORE, 5), (no(16), 1));
+        assert_eq!(archive.walk(&log, &ZERO_SCORE, 0), (no(21), 0));
+        assert_eq!(archive.walk(&log, &[1; 20], 5), (no(11), 1));
+        assert_eq!(archive.walk(&log, &ZERO_SCORE, 1_000_001), (no(23), 0));
         let directory = entry(1, 0, &ZERO_SCORE);
         let mut root = vec![0, 2];
         root.resize(258, 0);
         root.extend(sha1(&directory));
         assert_eq!(ask(archive, &mut log, &write(2, &directory)).0, 0);
         assert_eq!(ask(archive, &mut log, &write(1, &root)).0, 0);
-        assert_eq!(archive.walk(&log, &sha1(&root), 5), (0, 3));
-        assert_eq!(archive.walk(&log, &sha1(&root), 2), (21, 2));
-        assert_eq!(archive.walk(&log[1..], &sha1(&root), 5), (3, 0));
+        assert_eq!(archive.walk(&log, &sha1(&root), 5), (Ok(()), 3));
+        assert_eq!(archive.walk(&log, &sha1(&root), 2), (no(21), 2));
+        assert_eq!(archive.walk(&log[1..], &sha1(&root), 5), (no(3), 0));
     });
 }
 

@@ -1,8 +1,10 @@
 //! The longest blocks in trees: a directory, a pointer block and a leaf.
 
 use second::log::write;
+use second::message::{whole, LEAST_REPLY};
 use second::sector::{sectors_for, SECTOR};
 use second::sha1::{sha1, Score, ZERO_SCORE};
+use second::Session;
 
 use crate::archive::Archive;
 use crate::compare::{hex, number, Compare, Trace};
@@ -68,7 +70,32 @@ pub fn run(
         let answer = archive.locate(&log, &page, &entry, offset);
         compare.call("locate", number(&right), answer, right)?;
     }
-    trace.note(|| format!("walk {}", hex(&root)));
-    let right = second::walk::walk(&log, &root, 100);
-    compare.call("walk", right.0, archive.walk(&log, &root, 100), right)
+    walk_and_read(archive, compare, random, trace, log, &root)
+}
+
+/// Walks from the root and reads a block that nobody stored, half the time after damage past sector
+/// 255: the first doubtful sector then needs more than two digits.
+fn walk_and_read(
+    archive: &mut dyn Archive,
+    compare: &mut Compare,
+    random: &mut Random,
+    trace: &mut Trace,
+    mut log: Vec<u8>,
+    root: &Score,
+) -> Result<(), String> {
+    if random.percent(50) {
+        let at = random.between(256 * SECTOR, log.len() - 1);
+        log[at] ^= random.mark();
+        trace.note(|| format!("byte {at} changed"));
+    }
+    trace.note(|| format!("walk {}", hex(root)));
+    let right = second::walk::walk(&log, root, 100);
+    let answer = archive.walk(&log, root, 100);
+    compare.call("walk", number(&right.0), answer, right)?;
+    let never = whole(12, 9, &[&random.score()[..], &[13, 0, 0, 9]].concat());
+    trace.note(|| format!("message of {}: {}", never.len(), hex(&never)));
+    let mut second = log.clone();
+    let logs = (&mut log[..], &mut second[..]);
+    compare.request(archive, Session::Ready, &never, LEAST_REPLY, logs, None)?;
+    Ok(())
 }

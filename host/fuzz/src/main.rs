@@ -18,6 +18,7 @@ mod messages;
 mod plain_log;
 mod progress;
 mod random;
+mod sham_doubt;
 mod sham_texts;
 mod sham_tools;
 mod sham_trees;

@@ -1,10 +1,10 @@
 //! The ordinary Rust log of the speed comparison as an archive under test: its reads and writes are
 //! tried, all else is the second program's.
 
-use plain::log::{read, store, Stored};
+use plain::log::{read, store, Refused, Stored};
 use second::message::{accept, read_reply, refusal, write_reply, Request};
 use second::tree::Run;
-use second::{Score, Session};
+use second::{Refusal, Score, Session};
 
 use crate::archive::{Archive, Second};
 
@@ -21,17 +21,21 @@ impl Archive for PlainLog {
         let answer = match accept(session, message, reply.len(), log.len()) {
             Ok(Request::Read { kind, score, count }) => {
                 let mut data = vec![0; count];
-                read(log, kind, &score, &mut data).map(|size| read_reply(message[3], &data[..size]))
+                match read(log, kind, &score, &mut data) {
+                    Ok(size) => Ok(read_reply(message[3], &data[..size])),
+                    Err(Refused::Number(number)) => Err(Refusal::from(number)),
+                    Err(Refused::NotKnown(sector)) => Err(Refusal::not_known(sector)),
+                }
             }
             Ok(Request::Write { kind, data }) => match store(log, kind, data) {
                 Stored::New(score) | Stored::Held(score) => Ok(write_reply(message[3], &score)),
-                Stored::Refused(number) => Err(number),
+                Stored::Refused(number) => Err(Refusal::from(number)),
             },
             _ => return Second.serve(session, message, log, reply),
         };
         let (number, text) = match answer {
             Ok(text) => (0, text),
-            Err(number) => (number, refusal(number, message[3])),
+            Err(refused) => (refused.number, refusal(&refused, message[3])),
         };
         reply[..text.len()].copy_from_slice(&text);
         (number, session)
@@ -49,15 +53,26 @@ impl Archive for PlainLog {
         Second.pad(kind, buffer, block_len, target)
     }
 
-    fn locate(&mut self, log: &[u8], page: &[u8], entry: &[u8], offset: u64) -> Result<Run, u8> {
+    fn locate(
+        &mut self,
+        log: &[u8],
+        page: &[u8],
+        entry: &[u8],
+        offset: u64,
+    ) -> Result<Run, Refusal> {
         Second.locate(log, page, entry, offset)
     }
 
-    fn fill(&mut self, log: &[u8], entry: &[u8], offset: u64, buffer: &mut [u8]) -> (u8, usize) {
+    fn fill(
+        &mut self,
+        log: &[u8],
+        entry: &[u8],
+        offset: u64,
+        buffer: &mut [u8],
+    ) -> (Result<(), Refusal>, usize) {
         Second.fill(log, entry, offset, buffer)
     }
-
-    fn walk(&mut self, log: &[u8], score: &Score, allowance: u64) -> (u8, u64) {
+    fn walk(&mut self, log: &[u8], score: &Score, allowance: u64) -> (Result<(), Refusal>, u64) {
         Second.walk(log, score, allowance)
     }
 

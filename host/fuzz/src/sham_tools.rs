@@ -13,7 +13,7 @@ use crate::archive::{Archive, Second};
 
 /// Puts a message's error reply in the place of its reply.
 pub fn refuse(refused: u8, message: &[u8], reply: &mut [u8]) {
-    let text = refusal(refused, message[3]);
+    let text = refusal(&refused.into(), message[3]);
     reply[..text.len()].copy_from_slice(&text);
 }
 

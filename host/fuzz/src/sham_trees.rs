@@ -3,17 +3,18 @@
 use second::log::Contents;
 use second::sha1::{Score, ZERO_SCORE};
 use second::tree::{active, entry, root, Entry, Place, Run, ENTRY, ROOT};
+use second::Refusal;
 
 use crate::shams::Broken;
 
 /// What becomes of the right answer to reading a file.
 pub fn locate(
-    answer: Result<Run, u8>,
+    answer: Result<Run, Refusal>,
     page: &[u8],
     bytes: &[u8],
     offset: u64,
     broken: Broken,
-) -> Result<Run, u8> {
+) -> Result<Run, Refusal> {
     let zeros = |entry: &Entry, most: usize| {
         Ok(Run {
             place: Place::Page,
@@ -22,7 +23,12 @@ pub fn locate(
         })
     };
     match (answer, broken) {
-        (Err(11 | 12), Broken::HoleReadAsZeros) => {
+        (
+            Err(Refusal {
+                number: 11 | 12, ..
+            }),
+            Broken::HoleReadAsZeros,
+        ) => {
             let entry = entry(bytes)?;
             let at = (offset % entry.dsize as u64) as usize;
             zeros(&entry, entry.dsize - at)
@@ -31,39 +37,51 @@ pub fn locate(
             let entry = entry(bytes)?;
             zeros(&entry, entry.dsize)
         }
-        (Err(19), Broken::LocateEntryBeforePage) => entry(bytes).and(Err(19)),
+        (Err(Refusal { number: 19, .. }), Broken::LocateEntryBeforePage) => {
+            entry(bytes)?;
+            answer
+        }
         _ => answer,
     }
 }
 
 /// What becomes of the right answer to filling a buffer.
 pub fn fill(
-    (number, count): (u8, usize),
+    (ended, count): (Result<(), Refusal>, usize),
     bytes: &[u8],
     offset: u64,
     buffer: &mut [u8],
     broken: Broken,
-) -> (u8, usize) {
-    match (entry(bytes), number, broken) {
-        (Ok(entry), 11 | 12, Broken::FillHoleAsZeros) => {
+) -> (Result<(), Refusal>, usize) {
+    match (
+        entry(bytes),
+        ended.map_err(|refusal| refusal.number),
+        broken,
+    ) {
+        (Ok(entry), Err(11 | 12), Broken::FillHoleAsZeros) => {
             let left = (entry.size - offset).min(buffer.len() as u64) as usize;
             buffer[count..left].fill(0);
-            (0, left)
+            (Ok(()), left)
         }
-        (Ok(entry), 0, Broken::FillStopsAtTheLeaf) => {
+        (Ok(entry), Ok(()), Broken::FillStopsAtTheLeaf) => {
             let left = entry.dsize - (offset % entry.dsize as u64) as usize;
-            (0, count.min(left))
+            (Ok(()), count.min(left))
         }
         (_, _, Broken::FillClearsTheRest) => {
             buffer[count..].fill(0);
-            (number, count)
+            (ended, count)
         }
-        _ => (number, count),
+        _ => (ended, count),
     }
 }
 
 /// Walks from a root score with one rule broken. Lengths and allowance must have been tested.
-pub fn walk(log: &[u8], score: &Score, allowance: u64, broken: Broken) -> (u8, u64) {
+pub fn walk(
+    log: &[u8],
+    score: &Score,
+    allowance: u64,
+    broken: Broken,
+) -> (Result<(), Refusal>, u64) {
     let mut walk = Walk {
         log,
         contents: Contents::of(log),
@@ -71,10 +89,8 @@ pub fn walk(log: &[u8], score: &Score, allowance: u64, broken: Broken) -> (u8, u
         spent: 0,
         broken,
     };
-    match walk.top_and_below(score) {
-        Ok(()) => (0, walk.spent),
-        Err(number) => (number, walk.spent),
-    }
+    let ended = walk.top_and_below(score);
+    (ended, walk.spent)
 }
 
 struct Walk<'a> {
@@ -86,7 +102,13 @@ struct Walk<'a> {
 }
 
 impl Walk<'_> {
-    fn visit(&mut self, kind: u8, score: &Score, count: usize, nest: u32) -> Result<Vec<u8>, u8> {
+    fn visit(
+        &mut self,
+        kind: u8,
+        score: &Score,
+        count: usize,
+        nest: u32,
+    ) -> Result<Vec<u8>, Refusal> {
         let deepest = match self.broken {
             Broken::WalkOneNestMore => 17,
             Broken::WalkOneNestLess => 15,
@@ -94,16 +116,16 @@ impl Walk<'_> {
         };
         let none_left = self.spent == self.allowance;
         if none_left && self.broken == Broken::WalkAllowanceBeforeNest {
-            return Err(21);
+            return Err(21.into());
         }
         if nest > deepest {
-            return Err(20);
+            return Err(20.into());
         }
         if self.broken == Broken::WalkZeroScoreNoVisit && *score == ZERO_SCORE {
             return Ok(Vec::new());
         }
         if none_left {
-            return Err(21);
+            return Err(21.into());
         }
         self.spent += 1;
         let count = if self.broken == Broken::WalkNoCountTest {
@@ -113,12 +135,14 @@ impl Walk<'_> {
         };
         match second::tree::find(&self.contents, kind, score, count) {
             Ok(block) => Ok(block.map_or(Vec::new(), |block| block.data(self.log))),
-            Err(11 | 12) if self.broken == Broken::WalkHoleAsZeros => Ok(Vec::new()),
-            Err(number) => Err(number),
+            Err(Refusal {
+                number: 11 | 12, ..
+            }) if self.broken == Broken::WalkHoleAsZeros => Ok(Vec::new()),
+            Err(refused) => Err(refused),
         }
     }
 
-    fn top_and_below(&mut self, score: &Score) -> Result<(), u8> {
+    fn top_and_below(&mut self, score: &Score) -> Result<(), Refusal> {
         let mut bytes = self.visit(1, score, ROOT, 1)?;
         bytes.resize(ROOT, 0);
         let top = root(&bytes)?;
@@ -126,7 +150,7 @@ impl Walk<'_> {
         self.entries(directory, 1)
     }
 
-    fn entries(&mut self, mut block: Vec<u8>, nest: u32) -> Result<(), u8> {
+    fn entries(&mut self, mut block: Vec<u8>, nest: u32) -> Result<(), Refusal> {
         if self.broken == Broken::WalkPartEntryLost {
             block.truncate(block.len() / ENTRY * ENTRY);
         }
@@ -139,7 +163,7 @@ impl Walk<'_> {
         for bytes in block.chunks(ENTRY) {
             if !active(bytes) {
                 if self.broken == Broken::WalkJudgesInactive && bytes[9..14] != [0; 5] {
-                    return Err(16);
+                    return Err(16.into());
                 }
                 continue;
             }
@@ -154,7 +178,13 @@ impl Walk<'_> {
         Ok(())
     }
 
-    fn below(&mut self, entry: &Entry, level: u32, score: &Score, nest: u32) -> Result<(), u8> {
+    fn below(
+        &mut self,
+        entry: &Entry,
+        level: u32,
+        score: &Score,
+        nest: u32,
+    ) -> Result<(), Refusal> {
         if level == 0 {
             let leaf = self.visit(entry.leaf(), score, entry.dsize, nest)?;
             return if entry.directory {
@@ -165,7 +195,7 @@ impl Walk<'_> {
         }
         let mut pointers = self.visit(2 + level as u8, score, entry.psize, nest)?;
         if !pointers.len().is_multiple_of(20) && self.broken != Broken::WalkNoMultipleTest {
-            return Err(18);
+            return Err(18.into());
         }
         if self.broken == Broken::WalkPadsPointers && pointers.len() < entry.psize / 20 * 20 {
             pointers.extend(ZERO_SCORE);

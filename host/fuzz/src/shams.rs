@@ -4,9 +4,10 @@ use second::log::{shaped_at, used, write, Contents};
 use second::message::{accept, read_reply, Request};
 use second::sector::{sectors_for, SECTOR};
 use second::tree::Run;
-use second::{Score, Session};
+use second::{Refusal, Score, Session};
 
 use crate::archive::{Archive, Second};
+use crate::sham_doubt;
 use crate::sham_texts::{no_overlong, no_surrogate, no_zero, not_cut_off, not_past_end};
 use crate::sham_tools::{
     lower_label, only_blank_doubts, records_and_doubtful, refit, refuse, reply_data, report_text,
@@ -82,6 +83,19 @@ broken! {
     FillHoleAsZeros,
     FillStopsAtTheLeaf,
     FillClearsTheRest,
+    DoubtAtLastSector,
+    DoubtAtLastOfFirstRun,
+    DoubtAtEndOfUsedPart,
+    DoubtSkipsBlankSectors,
+    DoubtCountedFromOne,
+    DoubtNotTold,
+    DoubtInDecimal,
+    DoubtInCapitals,
+    DoubtInFourDigits,
+    DoubtWithoutZeros,
+    NotHeldTellsOfSector,
+    LocateDropsDoubt,
+    WalkDropsDoubt,
 }
 
 /// The second program with a rule broken.
@@ -232,6 +246,11 @@ impl Archive for Sham {
             }
             _ => {}
         }
+        if number == 11 || number == 12 {
+            if let Some(text) = sham_doubt::reply(reply, log, self.broken) {
+                reply[..text.len()].copy_from_slice(&text);
+            }
+        }
         (number, after)
     }
 
@@ -289,24 +308,48 @@ impl Archive for Sham {
         Second.pad(kind, buffer, block_len, target)
     }
 
-    fn locate(&mut self, log: &[u8], page: &[u8], entry: &[u8], offset: u64) -> Result<Run, u8> {
+    fn locate(
+        &mut self,
+        log: &[u8],
+        page: &[u8],
+        entry: &[u8],
+        offset: u64,
+    ) -> Result<Run, Refusal> {
         let answer = match self.broken {
             Broken::EntryPadEndIgnored => Second.locate(log, page, &without(entry, 13), offset),
             _ => Second.locate(log, page, entry, offset),
         };
+        let answer = match self.broken {
+            Broken::LocateDropsDoubt => answer.map_err(|right| right.number.into()),
+            _ => answer.map_err(|right| sham_doubt::told(right, log, self.broken)),
+        };
         sham_trees::locate(answer, page, entry, offset, self.broken)
     }
 
-    fn fill(&mut self, log: &[u8], entry: &[u8], offset: u64, buffer: &mut [u8]) -> (u8, usize) {
+    fn fill(
+        &mut self,
+        log: &[u8],
+        entry: &[u8],
+        offset: u64,
+        buffer: &mut [u8],
+    ) -> (Result<(), Refusal>, usize) {
         let answer = Second.fill(log, entry, offset, buffer);
         sham_trees::fill(answer, entry, offset, buffer, self.broken)
     }
-
-    fn walk(&mut self, log: &[u8], score: &Score, allowance: u64) -> (u8, u64) {
+    fn walk(&mut self, log: &[u8], score: &Score, allowance: u64) -> (Result<(), Refusal>, u64) {
         match Second.walk(log, score, allowance) {
-            (0, visits) if self.broken == Broken::InventedVisits && visits > 3 => (0, visits - 1),
-            refused @ (3 | 23, _) => refused,
-            _ => sham_trees::walk(log, score, allowance, self.broken),
+            (Ok(()), visits) if self.broken == Broken::InventedVisits && visits > 3 => {
+                (Ok(()), visits - 1)
+            }
+            (Err(right), visits) if self.broken == Broken::WalkDropsDoubt => {
+                (Err(right.number.into()), visits)
+            }
+            refused @ (Err(Refusal { number: 3 | 23, .. }), _) => refused,
+            _ => {
+                let (ended, visits) = sham_trees::walk(log, score, allowance, self.broken);
+                let told = |right| sham_doubt::told(right, log, self.broken);
+                (ended.map_err(told), visits)
+            }
         }
     }
 

@@ -283,7 +283,7 @@ impl Forest {
         let mut second = tested.clone();
         let right = second::tree::fill(&self.log, &entry, offset, &mut second);
         let answer = archive.fill(&self.log, &entry, offset, &mut tested);
-        compare.call("fill", right.0, answer, right)?;
+        compare.call("fill", number(&right.0), answer, right)?;
         buffer("the filled buffer", &tested, &second)
     }
 
@@ -308,7 +308,7 @@ impl Forest {
             _ => 1_000_000,
         };
         let bounded = second::walk::walk(&self.log, &score, allowance.min(FEW_VISITS));
-        if bounded.0 == 21 && allowance <= 1_000_000 {
+        if number(&bounded.0) == 21 && allowance <= 1_000_000 {
             allowance = allowance.min(FEW_VISITS);
         }
         if random.percent(30) {
@@ -318,6 +318,6 @@ impl Forest {
         trace.note(|| format!("walk {} with allowance {allowance}", hex(&score)));
         let right = second::walk::walk(&self.log, &score, allowance);
         let answer = archive.walk(&self.log, &score, allowance);
-        compare.call("walk", right.0, answer, right)
+        compare.call("walk", number(&right.0), answer, right)
     }
 }

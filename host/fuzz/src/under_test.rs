@@ -1,9 +1,9 @@
 //! The archive under test: the proved library, by the crate `boundary`.
 
 use crate::archive::Archive;
-use boundary::{self as proved, Refusal};
+use boundary as proved;
 use second::tree::{Place, Run};
-use second::{Score, Session};
+use second::{Refusal, Score, Session};
 
 pub fn archive() -> Box<dyn Archive> {
     Box::new(Proved)
@@ -12,8 +12,16 @@ pub fn archive() -> Box<dyn Archive> {
 struct Proved;
 
 /// The number of a refusal, 0 for none.
-fn number(outcome: Result<(), Refusal>) -> u8 {
-    outcome.map_or_else(Refusal::number, |()| 0)
+fn number(outcome: Result<(), proved::Refusal>) -> u8 {
+    outcome.map_or_else(proved::Refusal::number, |()| 0)
+}
+
+/// A refusal with its sector.
+fn refused(refusal: proved::Refusal) -> Refusal {
+    Refusal {
+        number: refusal.number(),
+        at: refusal.first_doubtful(),
+    }
 }
 
 impl Archive for Proved {
@@ -39,19 +47,25 @@ impl Archive for Proved {
     }
 
     fn report(&mut self, log: &[u8], buffer: &mut [u8]) -> Result<usize, u8> {
-        proved::report(log, buffer).map_err(Refusal::number)
+        proved::report(log, buffer).map_err(proved::Refusal::number)
     }
 
     fn cut(&mut self, kind: u8, block: &[u8]) -> Result<usize, u8> {
-        proved::cut(kind, block).map_err(Refusal::number)
+        proved::cut(kind, block).map_err(proved::Refusal::number)
     }
 
     fn pad(&mut self, kind: u8, buffer: &mut [u8], block_len: usize, target: usize) -> u8 {
         number(proved::pad(kind, buffer, block_len, target))
     }
 
-    fn locate(&mut self, log: &[u8], page: &[u8], entry: &[u8], offset: u64) -> Result<Run, u8> {
-        let run = proved::locate(log, page, entry, offset).map_err(Refusal::number)?;
+    fn locate(
+        &mut self,
+        log: &[u8],
+        page: &[u8],
+        entry: &[u8],
+        offset: u64,
+    ) -> Result<Run, Refusal> {
+        let run = proved::locate(log, page, entry, offset).map_err(refused)?;
         Ok(match run {
             proved::Run::Log { at, length } => Run {
                 place: Place::Log,
@@ -66,22 +80,27 @@ impl Archive for Proved {
         })
     }
 
-    fn fill(&mut self, log: &[u8], entry: &[u8], offset: u64, buffer: &mut [u8]) -> (u8, usize) {
+    fn fill(
+        &mut self,
+        log: &[u8],
+        entry: &[u8],
+        offset: u64,
+        buffer: &mut [u8],
+    ) -> (Result<(), Refusal>, usize) {
         let filled = proved::fill(log, entry, offset, buffer);
-        (number(filled.outcome), filled.count)
+        (filled.outcome.map_err(refused), filled.count)
     }
-
-    fn walk(&mut self, log: &[u8], score: &Score, allowance: u64) -> (u8, u64) {
+    fn walk(&mut self, log: &[u8], score: &Score, allowance: u64) -> (Result<(), Refusal>, u64) {
         let walked = proved::walk(log, score, allowance);
-        (number(walked.outcome), walked.visits)
+        (walked.outcome.map_err(refused), walked.visits)
     }
 
     fn wire_type(&mut self, number: u64) -> Result<u8, u8> {
-        proved::block_type(number).map_err(Refusal::number)
+        proved::block_type(number).map_err(proved::Refusal::number)
     }
 
     fn sound_at(&mut self, log: &[u8], sector: usize) -> Result<usize, u8> {
-        proved::sound_at(log, sector).map_err(Refusal::number)
+        proved::sound_at(log, sector).map_err(proved::Refusal::number)
     }
 
     fn sha1(&mut self, bytes: &[u8]) -> Score {

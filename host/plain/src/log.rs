@@ -41,6 +41,15 @@ pub enum Stored {
     Refused(u8),
 }
 
+/// Why a block is not read.
+#[derive(Clone, Copy, Debug, PartialEq, Eq)]
+pub enum Refused {
+    /// The number of the refusal: 3, 9, 11 or 13.
+    Number(u8),
+    /// 12, with the first doubtful sector.
+    NotKnown(usize),
+}
+
 /// A sound block's place.
 struct Block {
     first: usize,
@@ -84,21 +93,24 @@ pub fn store(log: &mut [u8], kind: u8, data: &[u8]) -> Stored {
 
 /// Copies the data of a score and type to the front of out and gives its length. Refuses 3, 9,
 /// 11, 12 and, if out is too short, 13.
-pub fn read(log: &[u8], kind: u8, score: &Score, out: &mut [u8]) -> Result<usize, u8> {
+pub fn read(log: &[u8], kind: u8, score: &Score, out: &mut [u8]) -> Result<usize, Refused> {
     if !well_sized(log) {
-        return Err(3);
+        return Err(Refused::Number(3));
     }
     if !lawful(kind) {
-        return Err(9);
+        return Err(Refused::Number(9));
     }
     if *score == ZERO_SCORE {
         return Ok(0);
     }
     let mut data = Vec::new();
     if find(log, kind, score, &mut data).is_none() {
-        return Err(if doubtful(log, &mut data) { 12 } else { 11 });
+        return Err(match first_doubtful(log, &mut data) {
+            Some(sector) => Refused::NotKnown(sector),
+            None => Refused::Number(11),
+        });
     }
-    let out = out.get_mut(..data.len()).ok_or(13)?;
+    let out = out.get_mut(..data.len()).ok_or(Refused::Number(13))?;
     out.copy_from_slice(&data);
     Ok(data.len())
 }
@@ -124,17 +136,17 @@ fn find(log: &[u8], kind: u8, score: &Score, data: &mut Vec<u8>) -> Option<Block
         .find_map(|(first, _)| sound(log, first, data))
 }
 
-/// Whether a sector of the used part is in no sound block.
-fn doubtful(log: &[u8], data: &mut Vec<u8>) -> bool {
+/// The first sector of the used part that is in no sound block.
+fn first_doubtful(log: &[u8], data: &mut Vec<u8>) -> Option<usize> {
     let used = used(log);
     let mut at = 0;
     while at < used {
         match sound(log, at, data) {
             Some(block) => at = block.first + block.size.div_ceil(PAYLOAD),
-            None => return true,
+            None => return Some(at),
         }
     }
-    false
+    None
 }
 
 /// The sectors up to the last that isn't all zeros.

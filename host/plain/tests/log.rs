@@ -1,6 +1,6 @@
 //! The log beside the second program's: the same answers and the same bytes.
 
-use plain::log::{read, store, Stored};
+use plain::log::{read, store, Refused, Stored};
 use plain::random::Random;
 use plain::sha1::sha1;
 use second::message::whole;
@@ -56,7 +56,12 @@ fn same_as_second() {
                             assert_eq!(number, 0);
                             assert_eq!(out[..size], reply[4..]);
                         }
-                        Err(refused) => assert_eq!(number, refused),
+                        Err(Refused::Number(refused)) => assert_eq!(number, refused),
+                        Err(Refused::NotKnown(sector)) => {
+                            assert_eq!(number, 12);
+                            let text = format!("why=12 at={sector:08x}");
+                            assert_eq!(reply[6..], *text.as_bytes());
+                        }
                     }
                 }
             }

@@ -6,6 +6,7 @@ use crate::log::write;
 use crate::message::{
     accept, hello_reply, ping_reply, read_reply, refusal, sync_reply, write_reply, Request,
 };
+use crate::refusal::Refusal;
 use crate::sector::{sectors_for, SECTOR};
 use crate::sha1::{sha1, Score, ZERO_SCORE};
 use crate::Session;
@@ -96,11 +97,12 @@ impl Ledger {
         let before = self.session(origin);
         let rows = self.rows.len();
         let answer = accept(before, message, reply_len, log_len)
+            .map_err(Refusal::from)
             .and_then(|request| self.answer(before, request, message[3], log_len));
         let (number, reply, session) = match answer {
             Ok((reply, session)) => (0, reply, session),
-            Err(1) => (1, Vec::new(), before),
-            Err(number) => (number, refusal(number, message[3]), before),
+            Err(Refusal { number: 1, .. }) => (1, Vec::new(), before),
+            Err(refused) => (refused.number, refusal(&refused, message[3]), before),
         };
         self.sessions.push(session);
         Prediction {
@@ -117,7 +119,7 @@ impl Ledger {
         request: Request,
         tag: u8,
         log_len: usize,
-    ) -> Result<(Vec<u8>, Session), u8> {
+    ) -> Result<(Vec<u8>, Session), Refusal> {
         match request {
             Request::Hello => Ok((hello_reply(tag), Session::Ready)),
             Request::Ping => Ok((ping_reply(tag), session)),
@@ -127,10 +129,12 @@ impl Ledger {
                 Ok((read_reply(tag, &[]), session))
             }
             Request::Read { kind, score, count } => match self.first_intact(kind, &score) {
-                Some(row) if row.data.len() > count => Err(13),
+                Some(row) if row.data.len() > count => Err(13.into()),
                 Some(row) => Ok((read_reply(tag, &row.data), session)),
-                None if self.uncovered() => Err(12),
-                None => Err(11),
+                None => Err(match self.first_uncovered() {
+                    Some(first) => Refusal::not_known(first),
+                    None => 11.into(),
+                }),
             },
             Request::Write { kind, data } => {
                 let score = sha1(data);
@@ -139,11 +143,11 @@ impl Ledger {
                     return Ok((write_reply(tag, &score), session));
                 }
                 if row.is_some() || score == ZERO_SCORE {
-                    return Err(15);
+                    return Err(15.into());
                 }
                 let first = self.end();
                 if (log_len / SECTOR).saturating_sub(first) < sectors_for(data.len()) {
-                    return Err(14);
+                    return Err(14.into());
                 }
                 self.rows.push(Row {
                     kind,
@@ -173,9 +177,9 @@ impl Ledger {
         covered.max(changed)
     }
 
-    /// Whether a sector before the end is in no intact row.
-    fn uncovered(&self) -> bool {
-        (0..self.end()).any(|sector| {
+    /// The first sector before the end that is in no intact row.
+    fn first_uncovered(&self) -> Option<usize> {
+        (0..self.end()).find(|&sector| {
             !self
                 .rows
                 .iter()

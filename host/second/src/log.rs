@@ -1,6 +1,7 @@
 //! The log: sound blocks, the used part, doubtful sectors, look-up and storing.
 
 use crate::kind::lawful;
+use crate::refusal::Refusal;
 use crate::sector::{blank, encode, fits, label, sectors_for, Label, LABEL, PAYLOAD, SECTOR};
 use crate::sha1::{sha1, Score, ZERO_SCORE};
 
@@ -118,6 +119,8 @@ pub struct Contents {
     pub used: usize,
     /// How many sectors of the used part are in no sound block.
     pub doubtful: usize,
+    /// The first of those.
+    pub first_doubtful: Option<usize>,
 }
 
 /// What a look-up gives.
@@ -126,8 +129,8 @@ pub enum Lookup {
     /// The empty block, which is always held.
     Empty,
     Found(Block),
-    /// Refused: 11 or 12.
-    Missing(u8),
+    /// Refused: 11, or 12 with the first doubtful sector.
+    Missing(Refusal),
 }
 
 impl Contents {
@@ -146,6 +149,7 @@ impl Contents {
             blocks,
             used,
             doubtful: covered.iter().filter(|&&covered| !covered).count(),
+            first_doubtful: covered.iter().position(|&covered| !covered),
         }
     }
 
@@ -158,10 +162,10 @@ impl Contents {
             .blocks
             .iter()
             .find(|block| block.kind == kind && block.score == *score);
-        match found {
-            Some(block) => Lookup::Found(*block),
-            None if self.doubtful > 0 => Lookup::Missing(12),
-            None => Lookup::Missing(11),
+        match (found, self.first_doubtful) {
+            (Some(block), _) => Lookup::Found(*block),
+            (None, Some(first)) => Lookup::Missing(Refusal::not_known(first)),
+            (None, None) => Lookup::Missing(11.into()),
         }
     }
 }

@@ -2,6 +2,7 @@
 
 use crate::kind::lawful;
 use crate::log::{well_sized, MOST_DATA};
+use crate::refusal::Refusal;
 use crate::utf8::characters;
 use crate::Score;
 
@@ -166,12 +167,13 @@ pub fn whole(kind: u8, tag: u8, body: &[u8]) -> Vec<u8> {
 }
 
 /// The error reply of a refusal; none for 1 to 4.
-pub fn refusal(refused: u8, tag: u8) -> Vec<u8> {
-    if refused <= 4 {
+pub fn refusal(refused: &Refusal, tag: u8) -> Vec<u8> {
+    if refused.number <= 4 {
         return Vec::new();
     }
-    let mut body = vec![0, 6];
-    body.extend(format!("why={refused:02}").bytes());
+    let text = refused.text();
+    let mut body = (text.len() as u16).to_be_bytes().to_vec();
+    body.extend(text.bytes());
     whole(1, tag, &body)
 }
 

@@ -4,6 +4,7 @@ use crate::log::{write, Contents, Lookup};
 use crate::message::{
     accept, hello_reply, ping_reply, read_reply, refusal, sync_reply, write_reply, Request,
 };
+use crate::refusal::Refusal;
 use crate::sector::{sectors_for, SECTOR};
 use crate::sha1::{sha1, Score, ZERO_SCORE};
 use crate::Session;
@@ -12,23 +13,24 @@ use crate::Session;
 /// log. Gives the number and the session afterwards.
 pub fn serve(session: Session, message: &[u8], log: &mut [u8], reply: &mut [u8]) -> (u8, Session) {
     let answer = accept(session, message, reply.len(), log.len())
+        .map_err(Refusal::from)
         .and_then(|request| answer(session, request, message[3], log));
     let (number, text, session) = match answer {
         Ok((text, session)) => (0, text, session),
-        Err(1) => (1, Vec::new(), session),
-        Err(number) => (number, refusal(number, message[3]), session),
+        Err(Refusal { number: 1, .. }) => (1, Vec::new(), session),
+        Err(refused) => (refused.number, refusal(&refused, message[3]), session),
     };
     reply[..text.len()].copy_from_slice(&text);
     (number, session)
 }
 
-/// The reply and the session afterwards, or the number.
+/// The reply and the session afterwards, or why not.
 fn answer(
     session: Session,
     request: Request,
     tag: u8,
     log: &mut [u8],
-) -> Result<(Vec<u8>, Session), u8> {
+) -> Result<(Vec<u8>, Session), Refusal> {
     match request {
         Request::Hello => Ok((hello_reply(tag), Session::Ready)),
         Request::Ping => Ok((ping_reply(tag), session)),
@@ -46,12 +48,12 @@ fn answer(
 }
 
 /// The data of a score and type, at most count bytes.
-fn read(log: &[u8], kind: u8, score: &Score, count: usize) -> Result<Vec<u8>, u8> {
+fn read(log: &[u8], kind: u8, score: &Score, count: usize) -> Result<Vec<u8>, Refusal> {
     match Contents::of(log).lookup(kind, score) {
         Lookup::Empty => Ok(Vec::new()),
-        Lookup::Found(block) if block.size > count => Err(13),
+        Lookup::Found(block) if block.size > count => Err(13.into()),
         Lookup::Found(block) => Ok(block.data(log)),
-        Lookup::Missing(number) => Err(number),
+        Lookup::Missing(refused) => Err(refused),
     }
 }
 

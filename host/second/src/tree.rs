@@ -3,6 +3,7 @@
 use crate::kind::{DATA, DIRECTORY};
 use crate::log::{well_sized, Block, Contents, Lookup};
 use crate::message::number;
+use crate::refusal::Refusal;
 use crate::sector::{LABEL, PAYLOAD, SECTOR};
 use crate::sha1::{Score, ZERO_SCORE};
 
@@ -103,17 +104,17 @@ pub struct Run {
     pub len: usize,
 }
 
-/// Where a file's bytes at an offset are, or the number. The page is the blank page.
-pub fn locate(log: &[u8], page: &[u8], bytes: &[u8], offset: u64) -> Result<Run, u8> {
+/// Where a file's bytes at an offset are, or why not. The page is the blank page.
+pub fn locate(log: &[u8], page: &[u8], bytes: &[u8], offset: u64) -> Result<Run, Refusal> {
     if !well_sized(log.len()) {
-        return Err(3);
+        return Err(3.into());
     }
     if page.is_empty() || page.iter().any(|&byte| byte != 0) {
-        return Err(19);
+        return Err(19.into());
     }
     let entry = entry(bytes)?;
     if offset >= entry.size {
-        return Err(17);
+        return Err(17.into());
     }
 
     let leaf = leaf(log, &Contents::of(log), &entry, offset)?;
@@ -136,7 +137,12 @@ pub fn locate(log: &[u8], page: &[u8], bytes: &[u8], offset: u64) -> Result<Run,
 }
 
 /// The leaf in which an offset lies, none below a zero score. Refuses 11, 12, 13 and 18.
-fn leaf(log: &[u8], contents: &Contents, entry: &Entry, offset: u64) -> Result<Option<Block>, u8> {
+fn leaf(
+    log: &[u8],
+    contents: &Contents,
+    entry: &Entry,
+    offset: u64,
+) -> Result<Option<Block>, Refusal> {
     let mut score = entry.score;
     for level in (1..=entry.depth).rev() {
         let data = match find(contents, 2 + level as u8, &score, entry.psize)? {
@@ -144,7 +150,7 @@ fn leaf(log: &[u8], contents: &Contents, entry: &Entry, offset: u64) -> Result<O
             None => Vec::new(),
         };
         if !data.len().is_multiple_of(20) {
-            return Err(18);
+            return Err(18.into());
         }
         let start = 20 * entry.index(offset, level);
         score = ZERO_SCORE;
@@ -155,18 +161,23 @@ fn leaf(log: &[u8], contents: &Contents, entry: &Entry, offset: u64) -> Result<O
     find(contents, entry.leaf(), &score, entry.dsize)
 }
 
-/// Fills a buffer with a file's bytes from an offset on, byte by byte: the number, and how many
+/// Fills a buffer with a file's bytes from an offset on, byte by byte: how it ended, and how many
 /// bytes were written to its front.
-pub fn fill(log: &[u8], bytes: &[u8], offset: u64, buffer: &mut [u8]) -> (u8, usize) {
+pub fn fill(
+    log: &[u8],
+    bytes: &[u8],
+    offset: u64,
+    buffer: &mut [u8],
+) -> (Result<(), Refusal>, usize) {
     if !well_sized(log.len()) {
-        return (3, 0);
+        return (Err(3.into()), 0);
     }
     let entry = match entry(bytes) {
         Ok(entry) => entry,
-        Err(number) => return (number, 0),
+        Err(number) => return (Err(number.into()), 0),
     };
     if offset >= entry.size {
-        return (17, 0);
+        return (Err(17.into()), 0);
     }
 
     let contents = Contents::of(log);
@@ -175,17 +186,17 @@ pub fn fill(log: &[u8], bytes: &[u8], offset: u64, buffer: &mut [u8]) -> (u8, us
     for (count, byte) in buffer.iter_mut().enumerate() {
         let at = offset + count as u64;
         if at == entry.size {
-            return (0, count);
+            return (Ok(()), count);
         }
         if count == 0 || at.is_multiple_of(dsize) {
             data = match leaf(log, &contents, &entry, at) {
                 Ok(leaf) => leaf.map_or_else(Vec::new, |block| block.data(log)),
-                Err(number) => return (number, count),
+                Err(refusal) => return (Err(refusal), count),
             };
         }
         *byte = data.get((at % dsize) as usize).copied().unwrap_or(0);
     }
-    (0, buffer.len())
+    (Ok(()), buffer.len())
 }
 
 /// The block of a type and score, none for the zero score. Refuses 11, 12 and 13.
@@ -194,11 +205,11 @@ pub fn find(
     kind: u8,
     score: &Score,
     count: usize,
-) -> Result<Option<Block>, u8> {
+) -> Result<Option<Block>, Refusal> {
     match contents.lookup(kind, score) {
         Lookup::Empty => Ok(None),
-        Lookup::Found(block) if block.size > count => Err(13),
+        Lookup::Found(block) if block.size > count => Err(13.into()),
         Lookup::Found(block) => Ok(Some(block)),
-        Lookup::Missing(number) => Err(number),
+        Lookup::Missing(refused) => Err(refused),
     }
 }

@@ -2,6 +2,7 @@
 
 use crate::kind;
 use crate::log::{well_sized, Contents};
+use crate::refusal::Refusal;
 use crate::tree::{active, entry, find, root, Entry, ENTRY, ROOT};
 use crate::Score;
 
@@ -10,13 +11,13 @@ pub const MOST_VISITS: u64 = 1_000_000;
 /// The deepest nest of directories.
 pub const MOST_NESTED: u32 = 16;
 
-/// Walks from a root score. Gives the number, 0 for none, and the visits spent.
-pub fn walk(log: &[u8], score: &Score, allowance: u64) -> (u8, u64) {
+/// Walks from a root score. Gives how it ended, and the visits spent.
+pub fn walk(log: &[u8], score: &Score, allowance: u64) -> (Result<(), Refusal>, u64) {
     if !well_sized(log.len()) {
-        return (3, 0);
+        return (Err(3.into()), 0);
     }
     if allowance > MOST_VISITS {
-        return (23, 0);
+        return (Err(23.into()), 0);
     }
     let mut walk = Walk {
         log,
@@ -24,11 +25,8 @@ pub fn walk(log: &[u8], score: &Score, allowance: u64) -> (u8, u64) {
         allowance,
         spent: 0,
     };
-    let number = match walk.root_and_below(score) {
-        Ok(()) => 0,
-        Err(number) => number,
-    };
-    (number, walk.spent)
+    let ended = walk.root_and_below(score);
+    (ended, walk.spent)
 }
 
 struct Walk<'a> {
@@ -40,12 +38,18 @@ struct Walk<'a> {
 
 impl Walk<'_> {
     /// A visit: the data of a block.
-    fn visit(&mut self, kind: u8, score: &Score, count: usize, nest: u32) -> Result<Vec<u8>, u8> {
+    fn visit(
+        &mut self,
+        kind: u8,
+        score: &Score,
+        count: usize,
+        nest: u32,
+    ) -> Result<Vec<u8>, Refusal> {
         if nest > MOST_NESTED {
-            return Err(20);
+            return Err(20.into());
         }
         if self.spent == self.allowance {
-            return Err(21);
+            return Err(21.into());
         }
         self.spent += 1;
         Ok(match find(&self.contents, kind, score, count)? {
@@ -54,7 +58,7 @@ impl Walk<'_> {
         })
     }
 
-    fn root_and_below(&mut self, score: &Score) -> Result<(), u8> {
+    fn root_and_below(&mut self, score: &Score) -> Result<(), Refusal> {
         let mut bytes = self.visit(kind::ROOT, score, ROOT, 1)?;
         bytes.resize(ROOT, 0);
         let top = root(&bytes)?;
@@ -63,7 +67,7 @@ impl Walk<'_> {
     }
 
     /// The entries of a directory block that lies at this nest.
-    fn entries(&mut self, mut block: Vec<u8>, nest: u32) -> Result<(), u8> {
+    fn entries(&mut self, mut block: Vec<u8>, nest: u32) -> Result<(), Refusal> {
         block.resize(block.len().next_multiple_of(ENTRY), 0);
         for bytes in block.chunks(ENTRY) {
             if !active(bytes) {
@@ -77,7 +81,13 @@ impl Walk<'_> {
     }
 
     /// All that lies below a score of an entry's tree, the score's own block first.
-    fn below(&mut self, entry: &Entry, level: u32, score: &Score, nest: u32) -> Result<(), u8> {
+    fn below(
+        &mut self,
+        entry: &Entry,
+        level: u32,
+        score: &Score,
+        nest: u32,
+    ) -> Result<(), Refusal> {
         if level == 0 {
             let leaf = self.visit(entry.leaf(), score, entry.dsize, nest)?;
             return if entry.directory {
@@ -88,7 +98,7 @@ impl Walk<'_> {
         }
         let pointers = self.visit(2 + level as u8, score, entry.psize, nest)?;
         if !pointers.len().is_multiple_of(20) {
-            return Err(18);
+            return Err(18.into());
         }
         for bytes in pointers.chunks(20) {
             let mut score = [0; 20];

@@ -117,11 +117,10 @@ fn ledger_and_archive_agree_after_damage() {
     log[2 * SECTOR - 1] = 7;
     ledger.damage(&[1]);
     let message = read(13, b"two", 3);
-    assert_eq!(
-        ledger.request(origin, &message, 57_348, log.len()).number,
-        12
-    );
-    assert_eq!(ask(&mut log, &message).0, 12);
+    let expected = ledger.request(origin, &message, 57_348, log.len());
+    assert_eq!(expected.number, 12);
+    assert!(expected.reply.ends_with(b"why=12 at=00000001"));
+    assert_eq!(ask(&mut log, &message), (12, expected.reply));
 }
 
 #[test]

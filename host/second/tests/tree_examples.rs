@@ -114,7 +114,7 @@ impl Trees {
                 let place = format!(" from={name} start={}", run.start);
                 (0, place, buffer[run.start..run.start + run.len].to_vec())
             }
-            Err(number) => (number, String::new(), Vec::new()),
+            Err(refused) => (refused.number, String::new(), Vec::new()),
         };
         let len = bytes.len();
         let bytes = hex(&bytes);
@@ -138,7 +138,8 @@ impl Trees {
 
     /// The answer of a walk; its visits.
     fn walk_with(&mut self, root: &Score, allowance: u64) -> u64 {
-        let (number, visits) = walk(&self.log, root, allowance);
+        let (ended, visits) = walk(&self.log, root, allowance);
+        let number = ended.map_or_else(|refused| refused.number, |()| 0);
         writeln!(
             self.lines,
             "allowance={allowance} number={number} visits={visits}"

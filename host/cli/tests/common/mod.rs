@@ -191,6 +191,14 @@ impl Place {
         self.get(score).fails(11, "not held (11)");
     }
 
+    /// Fails unless a block is not known, the first doubtful sector being this one.
+    #[track_caller]
+    pub fn not_known_at(&self, score: &str, sector: usize) {
+        let byte = sector * SECTOR;
+        let place = format!("the first doubtful sector is {sector}, at byte {byte} of the log");
+        self.get(score).fails(12, &place);
+    }
+
     #[track_caller]
     pub fn not_known(&self, score: &str) {
         let answer = self.get(score).fails(12, "not known (12)");
@@ -300,9 +308,16 @@ pub fn read_message(tag: u8, data: &[u8]) -> Vec<u8> {
     message(12, tag, &[&score[..], &[13, 0, 0xff, 0xff]].concat())
 }
 
+/// The error reply of a refusal other than 12.
 pub fn error_reply(tag: u8, number: u8) -> Vec<u8> {
     let text = format!("why={number:02}");
     message(1, tag, &[&[0, 6], text.as_bytes()].concat())
+}
+
+/// That of 12, with the first doubtful sector.
+pub fn not_known_reply(tag: u8, sector: usize) -> Vec<u8> {
+    let text = format!("why=12 at={sector:08x}");
+    message(1, tag, &[&[0, 18], text.as_bytes()].concat())
 }
 
 pub fn goodbye() -> Vec<u8> {
