@@ -23,7 +23,7 @@ use Rattle.file.specs.declared.Located.the-variants as run
 use Rattle.file.specs.File.{pageAllowed, entryReadable, located}
 use Rattle.file.proofs.Tests.{stops-log, stops-entry, stops-offset}
 use Rattle.fill.specs.declared.Stop.the-variants.{Done, Refused}
-use Rattle.fill.specs.Fill.{Read, firstOf, byteAt, gathered, Outcome, written, fillOf, byte, refused}
+use Rattle.fill.specs.Fill.{Read, byte, refused, byteOf, byteAt, gathered, Outcome, filledWith, fillOf}
 use Rattle.fill.proofs.Tests.{zero-page, nothing}
 use Rattle.file_laws.specs.Path.{Answers}
 use Rattle.file_laws.specs.Bytes.{runBytes, fileByte, laid}
@@ -35,7 +35,7 @@ use Rattle.file_laws.proofs.Gathered.{Gathers, gathers}
 -- ---- the byte that is read
 
 -- the first byte of a run that has one
-first-of-run : (log page : Bytes) (x : Located) (b : ℕ) → pageAllowed page ≡ true → 1 ≤ length (runBytes log page x) → firstOf log x ≡ byte b
+first-of-run : (log page : Bytes) (x : Located) (b : ℕ) → pageAllowed page ≡ true → 1 ≤ length (runBytes log page x) → byteOf log x ≡ byte b
     → getD (runBytes log page x) 0 0 ≡ b
 first-of-run log page (run.Stored at n) b p h e =
     let z : getD log at 0 ≡ b = cc in
@@ -48,12 +48,12 @@ first-of-run log page (run.Zeros n) b p h e =
     getD-take n page 0 0 k ∙ zeros-getD page 0 (page-facts page p .1) ∙ z
 first-of-run log page (run.Refused w) b p h e = absurd (omega arith)
 
-read-answers : (log : Bytes) (x : Located) (b : ℕ) → firstOf log x ≡ byte b → whyNot x ≡ none
+read-answers : (log : Bytes) (x : Located) (b : ℕ) → byteOf log x ≡ byte b → whyNot x ≡ none
 read-answers log (run.Stored at n) b e = refl
 read-answers log (run.Zeros n) b e = refl
 read-answers log (run.Refused w) b e = let z : _≡_ {A = ℕ} 0 1 = cc in absurd (omega arith)
 
-read-refused : (log : Bytes) (x : Located) (w : Refusal) → firstOf log x ≡ refused w → whyNot x ≡ some w
+read-refused : (log : Bytes) (x : Located) (w : Refusal) → byteOf log x ≡ refused w → whyNot x ≡ some w
 read-refused log (run.Stored at n) w e = let z : _≡_ {A = ℕ} 0 1 = cc in absurd (omega arith)
 read-refused log (run.Zeros n) w e = let z : _≡_ {A = ℕ} 0 1 = cc in absurd (omega arith)
 read-refused log (run.Refused v) w e = let z : v ≡ w = cc in ap (λ (x : Refusal). some x) z
@@ -81,15 +81,15 @@ module _ (log entry : Bytes) where
 -- ---- the tests
 
 -- a test stopped it, or it goes down
-pub data Filling (log entry : Bytes) (offset : ℕ) (d : Bytes) (x : Outcome) : Type 0 where
-  stopped : (w : Refusal) → x ≡ nothing d w → ((page : Bytes) → pageAllowed page ≡ true → run.Refused w ≡ located log page entry offset) → Filling log entry offset d x
-  down : offset < (entryOf entry) .size → x ≡ written d (gathered (byteAt log entry) (min (length d) ((entryOf entry) .size - offset)) offset) → Filling log entry offset d x
+pub data Course (log entry : Bytes) (offset : ℕ) (d : Bytes) (x : Outcome) : Type 0 where
+  stopped : (w : Refusal) → x ≡ nothing d w → ((page : Bytes) → pageAllowed page ≡ true → run.Refused w ≡ located log page entry offset) → Course log entry offset d x
+  down : offset < (entryOf entry) .size → x ≡ filledWith d (gathered (byteAt log entry) (min (length d) ((entryOf entry) .size - offset)) offset) → Course log entry offset d x
 
-pub filling : (log entry : Bytes) (offset : ℕ) (d : Bytes) → Filling log entry offset d (fillOf log entry offset d)
+pub course : (log entry : Bytes) (offset : ℕ) (d : Bytes) → Course log entry offset d (fillOf log entry offset d)
 unfolding fillOf
-filling log entry offset d = go (logAllowed (length log)) (entryReadable entry) (ltb offset ((entryOf entry) .size)) refl refl refl
+course log entry offset d = go (logAllowed (length log)) (entryReadable entry) (ltb offset ((entryOf entry) .size)) refl refl refl
   where
-    go : (a r t : Bool) → logAllowed (length log) ≡ a → entryReadable entry ≡ r → ltb offset ((entryOf entry) .size) ≡ t → Filling log entry offset d (fillOf log entry offset d)
+    go : (a r t : Bool) → logAllowed (length log) ≡ a → entryReadable entry ≡ r → ltb offset ((entryOf entry) .size) ≡ t → Course log entry offset d (fillOf log entry offset d)
     go false r t p q u = stopped why.LogLength (rw p refl) (λ page h. stops-log log page entry offset false (sym p) refl)
     go true false t p q u = stopped why.Entry (rw (p, q) refl) (λ page h. stops-entry log page entry offset true (sym p) refl true (sym h) refl false (sym q) refl)
     go true true false p q u =
@@ -124,7 +124,7 @@ module _ (log entry : Bytes) (offset : ℕ) (d : Bytes) where
       × ((i : ℕ) → i < r .filled .count → fileByte log entry (offset + i) ≡ some (getD (r .buffer) i 0))
       × (drop (r .filled .count) (r .buffer) ≡ drop (r .filled .count) d)
 
-  files : Filling log entry offset d (fillOf log entry offset d) → Files (fillOf log entry offset d)
+  files : Course log entry offset d (fillOf log entry offset d) → Files (fillOf log entry offset d)
   unfolding n x G
   files (stopped w e h) = rw e (omega arith, omega arith, λ i g. absurd (omega arith), refl)
   files (down inside e) =
@@ -139,14 +139,14 @@ module _ (log entry : Bytes) (offset : ℕ) (d : Bytes) where
 
 pub fill-files : FillIsTheFiles
 unfolding n
-fill-files log entry offset d = files log entry offset d (filling log entry offset d)
+fill-files log entry offset d = files log entry offset d (course log entry offset d)
 
 -- ---- the refusal
 
 pub fill-refusal : FillRefusal
-fill-refusal log page entry offset d w p = go (fillOf log entry offset d) (filling log entry offset d)
+fill-refusal log page entry offset d w p = go (fillOf log entry offset d) (course log entry offset d)
   where
-    go : (r : Outcome) → Filling log entry offset d r → r .filled .stop ≡ Refused w → located log page entry (offset + r .filled .count) ≡ run.Refused w
+    go : (r : Outcome) → Course log entry offset d r → r .filled .stop ≡ Refused w → located log page entry (offset + r .filled .count) ≡ run.Refused w
     go r (stopped v e h) q =
         let c : v ≡ w = let y : Refused v ≡ Refused w = ap (λ (o : Outcome). o .filled .stop) (sym e) ∙ q in cc in
         let z : offset + r .filled .count ≡ offset = ap (λ (o : Outcome). offset + o .filled .count) e ∙ add-zero offset in

@@ -18,14 +18,14 @@ use Rattle.file.specs.declared.Located.the-variants as run
 use Rattle.file.specs.File.{pageAllowed, located}
 use Rattle.fill.specs.declared.Stop.{Stop}
 use Rattle.fill.specs.declared.Stop.the-variants.{Done, Refused}
-use Rattle.fill.specs.Fill.{byteAt, gathered, Outcome, written, fillOf}
+use Rattle.fill.specs.Fill.{byteAt, gathered, Outcome, filledWith, fillOf}
 use Rattle.file_laws.specs.Path.{Answers}
 use Rattle.file_laws.specs.Bytes.{runBytes, fileByte, laid}
 use Rattle.file_laws.specs.Fill.{FillIsTheRuns, FillWhole}
 use Rattle.file_laws.proofs.Runs.{through}
 use Rattle.file_laws.proofs.Laid.{run-bytes}
 use Rattle.file_laws.proofs.Gathered.{gathers}
-use Rattle.file_laws.proofs.Filled.{byte-answers, byte-refused, Filling, stopped, down, filling, fill-files}
+use Rattle.file_laws.proofs.Filled.{byte-answers, byte-refused, Course, stopped, down, course, fill-files}
 
 -- ---- runs laid end to end, as far as every offset reads
 
@@ -79,7 +79,7 @@ record Done-at (log page entry : Bytes) (offset : ℕ) (d : Bytes) (count : ℕ)
   inside : offset < (entryOf entry) .size
   answers : (o : ℕ) → offset ≤ o → o < offset + count → Answers (located log page entry o)
 
-done-at : (log page entry : Bytes) (offset : ℕ) (d : Bytes) → pageAllowed page ≡ true → (r : Outcome) → Filling log entry offset d r → r .filled .stop ≡ Done
+done-at : (log page entry : Bytes) (offset : ℕ) (d : Bytes) → pageAllowed page ≡ true → (r : Outcome) → Course log entry offset d r → r .filled .stop ≡ Done
     → Done-at log page entry offset d (r .filled .count)
 done-at log page entry offset d p r (stopped w e h) q =
     let y : Refused w ≡ Done = ap (λ (o : Outcome). o .filled .stop) (sym e) ∙ q in
@@ -104,11 +104,11 @@ unfolding size
 fill-runs log page entry offset d p q =
     let r = fillOf log entry offset d in
     let c = r .filled .count in
-    let D = done-at log page entry offset d p r (filling log entry offset d) q in
+    let D = done-at log page entry offset d p r (course log entry offset d) q in
     let F = fill-files log entry offset d in
     let L = laid-front log page entry c c offset (omega arith) (omega (arith, F .1, D .inside)) (D .answers) in
     let b = laid c log page entry offset in
-    let long : c ≤ length (r .buffer) = buffer-long log entry offset d (filling log entry offset d) in
+    let long : c ≤ length (r .buffer) = buffer-long log entry offset d (course log entry offset d) in
     let left : length (take c (r .buffer)) ≡ c = length-take-le c (r .buffer) long in
     let right : length (take c b) ≡ c = length-take-le c b (L .0) in (
       D .full,
@@ -117,7 +117,7 @@ fill-runs log page entry offset d p q =
           getD-take c (r .buffer) i 0 g ∙ some-same _ _ (sym (F .2 i g) ∙ L .1 i g) ∙ sym (getD-take c b i 0 g)),
     )
   where
-    buffer-long : (log entry : Bytes) (offset : ℕ) (d : Bytes) → Filling log entry offset d (fillOf log entry offset d)
+    buffer-long : (log entry : Bytes) (offset : ℕ) (d : Bytes) → Course log entry offset d (fillOf log entry offset d)
         → fillOf log entry offset d .filled .count ≤ length (fillOf log entry offset d .buffer)
     buffer-long log entry offset d (stopped w e h) = rw e (omega arith)
     buffer-long log entry offset d (down inside e) =
@@ -131,7 +131,7 @@ refused-none : (x : Located) (w : Refusal) → x ≡ run.Refused w → Answers x
 refused-none x w e a = rw e at a
 
 whole-count : (log page entry d : Bytes) → ((o : ℕ) → o < (entryOf entry) .size → Answers (located log page entry o)) → (entryOf entry) .size ≤ length d
-    → (r : Outcome) → Filling log entry 0 d r → (r .filled .count ≡ (entryOf entry) .size) × (0 < (entryOf entry) .size → r .filled .stop ≡ Done)
+    → (r : Outcome) → Course log entry 0 d r → (r .filled .count ≡ (entryOf entry) .size) × (0 < (entryOf entry) .size → r .filled .stop ≡ Done)
 whole-count log page entry d a h r (stopped w e f) = go (ltb 0 ((entryOf entry) .size)) refl
   where
     go : (t : Bool) → ltb 0 ((entryOf entry) .size) ≡ t → (r .filled .count ≡ (entryOf entry) .size) × (0 < (entryOf entry) .size → r .filled .stop ≡ Done)
@@ -160,7 +160,7 @@ whole-count log page entry d a h r (down pos e) = go (gathered (byteAt log entry
 pub fill-whole : FillWhole
 fill-whole log page entry d a h =
     let r = fillOf log entry 0 d in
-    let W = whole-count log page entry d a h r (filling log entry 0 d) in
+    let W = whole-count log page entry d a h r (course log entry 0 d) in
     let F = fill-files log entry 0 d in (
       W .0,
       λ i g. let z : i ≡ 0 + i = omega arith in ap (fileByte log entry) z ∙ F .2 i (omega (arith, W .0)),

@@ -14,7 +14,7 @@ use Rattle.sector.specs.Sector.{filled}
 use Rattle.block.proofs.Payloads.{filled-getD}
 use Rattle.tree.proofs.Filled.{length-filled}
 use Rattle.fill.specs.declared.Stop.the-variants.{Done, Refused}
-use Rattle.fill.specs.Fill.{Read, Gathered, infront, gathered, Outcome, outcome, written, byte, refused}
+use Rattle.fill.specs.Fill.{Read, byte, refused, Gathered, infront, gathered, Outcome, outcome, filledWith}
 
 -- known bytes in front
 abbrev pub behind : Bytes → Gathered → Gathered
@@ -56,19 +56,19 @@ onward-behind d at p g h =
     let n : at + length p + length (g .bytes) ≡ at + length (p ++ g .bytes) = omega (arith, length-append p (g .bytes)) in
     λ i. outcome (record { count = n i; stop = g .stop }) (put-put d at p (g .bytes) h i)
 
-pub onward-front : (d : Bytes) (g : Gathered) → onward d 0 g ≡ written d g
+pub onward-front : (d : Bytes) (g : Gathered) → onward d 0 g ≡ filledWith d g
 onward-front d g = λ i. outcome (record { count = zero-add (length (g .bytes)) i; stop = g .stop }) (put d 0 (g .bytes))
 
 -- what is left to gather behind `done` bytes, with the buffer as it is, makes what the whole makes
 abbrev pub Rest : (ℕ → Read) → ℕ → ℕ → Bytes → Bytes → ℕ → Type 0
-Rest read count offset d₀ d done = onward d done (gathered read (count - done) (offset + done)) ≡ written d₀ (gathered read count offset)
+Rest read count offset d₀ d done = onward d done (gathered read (count - done) (offset + done)) ≡ filledWith d₀ (gathered read count offset)
 
 module _ (read : ℕ → Read) (count offset : ℕ) (d₀ : Bytes) where
   pub rest-all : Rest read count offset d₀ d₀ 0
   rest-all = ap₂ (λ (n o : ℕ). onward d₀ 0 (gathered read n o)) (sub-zero count) (add-zero offset) ∙ onward-front d₀ (gathered read count offset)
 
   module _ (d : Bytes) (done : ℕ) (rest : Rest read count offset d₀ d done) where
-    pub rest-none : count ≤ done → outcome (record { count = done; stop = Done }) d ≡ written d₀ (gathered read count offset)
+    pub rest-none : count ≤ done → outcome (record { count = done; stop = Done }) d ≡ filledWith d₀ (gathered read count offset)
     unfolding gathered
     rest-none h =
         let z : count - done ≡ 0 = omega arith in
@@ -76,7 +76,7 @@ module _ (read : ℕ → Read) (count offset : ℕ) (d₀ : Bytes) where
         ∙ ap (λ (n : ℕ). onward d done (gathered read n (offset + done))) (sym z) ∙ rest
 
     pub rest-refused : (w : Refusal) → done < count → read (offset + done) ≡ refused w
-        → outcome (record { count = done; stop = Refused w }) d ≡ written d₀ (gathered read count offset)
+        → outcome (record { count = done; stop = Refused w }) d ≡ filledWith d₀ (gathered read count offset)
     rest-refused w h e =
         (λ i. outcome (record { count = sym (add-zero done) i; stop = Refused w }) (sym (put-nothing d done) i))
         ∙ ap (onward d done) (sym (gathered-refused read (count - done) (offset + done) w (omega arith) e)) ∙ rest

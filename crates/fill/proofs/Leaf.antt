@@ -21,7 +21,7 @@ use Rattle.file.specs.File.{leafRun, under}
 use Rattle.file.specs.Fetch.{runIn}
 use Rattle.file.proofs.Places.{byte-place}
 use Rattle.file.proofs.Steps.{leaf-in, leaf-past}
-use Rattle.fill.specs.Fill.{Read, firstOf, byteBelow, byte, refused}
+use Rattle.fill.specs.Fill.{Read, byte, refused, byteOf, byteBelow}
 
 sum-front : (x r j o : ℕ) → x + r ≡ o → o + j ≡ x + (r + j)
 sum-front x r j o e = omega arith
@@ -37,27 +37,27 @@ same-leaf w o j pos h =
 
 -- the first byte of a leaf's run is the leaf's byte there, and zero past its end
 first-byte : (log : Bytes) (e : Entry) (o n size : ℕ) → n + partsOf size ≤ sectors (length log)
-    → firstOf log (leafRun 1 e o n size) ≡ byte (getD (bytesAt log n size) (o % e .dsize) 0)
+    → byteOf log (leafRun 1 e o n size) ≡ byte (getD (bytesAt log n size) (o % e .dsize) 0)
 first-byte log e o n size h = go (ltb (o % e .dsize) size) refl
   where
-    go : (t : Bool) → ltb (o % e .dsize) size ≡ t → firstOf log (leafRun 1 e o n size) ≡ byte (getD (bytesAt log n size) (o % e .dsize) 0)
+    go : (t : Bool) → ltb (o % e .dsize) size ≡ t → byteOf log (leafRun 1 e o n size) ≡ byte (getD (bytesAt log n size) (o % e .dsize) 0)
     go true q =
         let lt = ltb-true (o % e .dsize) size q in
-        ap (firstOf log) (sym (leaf-in 1 e o n size lt)) ∙ ap byte (sym (byte-place log n size h (o % e .dsize) lt))
+        ap (byteOf log) (sym (leaf-in 1 e o n size lt)) ∙ ap byte (sym (byte-place log n size h (o % e .dsize) lt))
     go false q =
         let ge = ltb-false (o % e .dsize) size q in
         let past : length (bytesAt log n size) ≤ o % e .dsize = omega (arith, length-bytes log n size) in
-        ap (firstOf log) (sym (leaf-past 1 e o n size ge)) ∙ ap byte (sym (List·getD-eq-default (bytesAt log n size) 0 past))
+        ap (byteOf log) (sym (leaf-past 1 e o n size ge)) ∙ ap byte (sym (List·getD-eq-default (bytesAt log n size) 0 past))
 
 module _ (log : Bytes) (e : Entry) (top : Bytes) (offset : ℕ) (l : Look)
     (found : (page o : ℕ) → o / e .dsize ≡ offset / e .dsize → runIn page e o l ≡ under log page e o (e .depth) top) where
   pub leaf-refused : (w : Refusal) → l ≡ look.Refused w → byteBelow log e top offset ≡ refused w
-  leaf-refused w z = ap (firstOf log) (sym (found 1 offset refl) ∙ ap (runIn 1 e offset) z)
+  leaf-refused w z = ap (byteOf log) (sym (found 1 offset refl) ∙ ap (runIn 1 e offset) z)
 
   pub leaf-bytes : (first : SectorNumber) (size : ℕ) → l ≡ look.Found first size → first .0 + partsOf size ≤ sectors (length log) → 0 < e .dsize
       → (j : ℕ) → offset % e .dsize + j < e .dsize → byteBelow log e top (offset + j) ≡ byte (getD (bytesAt log (first .0) size) (offset % e .dsize + j) 0)
   leaf-bytes first size z room pos j h =
       let s = same-leaf (e .dsize) offset j pos h in
-      ap (firstOf log) (sym (found 1 (offset + j) (s .0)) ∙ ap (runIn 1 e (offset + j)) z)
+      ap (byteOf log) (sym (found 1 (offset + j) (s .0)) ∙ ap (runIn 1 e (offset + j)) z)
       ∙ first-byte log e (offset + j) (first .0) size room
       ∙ ap (λ (x : ℕ). byte (getD (bytesAt log (first .0) size) x 0)) (s .1)

@@ -16,7 +16,7 @@ use Rattle.file.specs.File.{pageAllowed, entryReadable}
 use Rattle.file.specs.Fetch.{Open}
 use Rattle.file.proofs.Tests.{goes-down}
 use Rattle.fill.specs.declared.Stop.the-variants.{Refused}
-use Rattle.fill.specs.Fill.{firstOf, byteAt, byteBelow, gathered, Outcome, outcome, written, fillOf}
+use Rattle.fill.specs.Fill.{byteOf, byteAt, byteBelow, gathered, Outcome, outcome, filledWith, fillOf}
 use Rattle.fill.proofs.Gather.{gathered-same}
 
 -- further on in the file
@@ -57,13 +57,13 @@ module _ (log b : Bytes) (offset : ℕ) (d : Bytes) (a : Bool) (ea : a ≡ logAl
 
       -- at every offset of the file the tests let through
       below : (o : ℕ) → o < e .size → byteBelow log e (scoreOf b) o ≡ byteAt log b o
-      below o h = ap (firstOf log) (goes-down log (0 ∷ []) b o a ea ta true (sym zero-page) refl r er tr e ee h)
+      below o h = ap (byteOf log) (goes-down log (0 ∷ []) b o a ea ta true (sym zero-page) refl r er tr e ee h)
 
       pub fill-goes-down : offset < e .size
-          → written d (gathered (byteBelow log e (scoreOf b)) (min (length d) (e .size - offset)) offset) ≡ fillOf log b offset d
+          → filledWith d (gathered (byteBelow log e (scoreOf b)) (min (length d) (e .size - offset)) offset) ≡ fillOf log b offset d
       unfolding fillOf
       fill-goes-down h =
           let n = min (length d) (e .size - offset) in
           let s : offset + n ≤ e .size = omega arith in
-          ap (written d) (gathered-same (byteBelow log e (scoreOf b)) (byteAt log b) n offset (λ j p q. below j (omega arith)))
+          ap (filledWith d) (gathered-same (byteBelow log e (scoreOf b)) (byteAt log b) n offset (λ j p q. below j (omega arith)))
           ∙ sym (rw (sym ea ∙ ta, sym er ∙ tr, ← ee, lt-ltb offset (e .size) h) refl)

@@ -21,7 +21,7 @@ use Rattle.tree.proofs.Filled.{length-filled}
 use Rattle.file.specs.File.{under}
 use Rattle.file.specs.Fetch.{endOf, runIn}
 use Rattle.fill.specs.declared.Stop.{Stop}
-use Rattle.fill.specs.Fill.{Read, stopOf, byteBelow, gathered, outcome, written, byte}
+use Rattle.fill.specs.Fill.{Read, byte, stopOf, byteBelow, gathered, outcome, filledWith}
 use Rattle.fill.proofs.Gather.{Rest, rest-refused, rest-leaf}
 use Rattle.fill.proofs.Leaf.{leaf-refused, leaf-bytes}
 
@@ -49,7 +49,7 @@ module _ (log : Bytes) (e : Entry) (top : Bytes) (offset count : ℕ) (d₀ d : 
     (held : Filling (byteBelow log e top) count offset d₀ d done) (lt : done < count) (l : Look) (ends : endOf l ≤ sectors (length log))
     (found : (page o : ℕ) → o / e .dsize ≡ (offset + done) / e .dsize → runIn page e o l ≡ under log page e o (e .depth) top) where
   pub leaf-missing : (w : Refusal) → l ≡ look.Refused w → (s : Stop) → s ≡ stopOf l
-      → outcome (record { count = done; stop = s }) d ≡ written d₀ (gathered (byteBelow log e top) count offset)
+      → outcome (record { count = done; stop = s }) d ≡ filledWith d₀ (gathered (byteBelow log e top) count offset)
   leaf-missing w z s es =
       ap (λ (x : Stop). outcome (record { count = done; stop = x }) d) (es ∙ ap stopOf z)
       ∙ rest-refused (byteBelow log e top) count offset d₀ d done (held .2) w lt (leaf-refused log e top (offset + done) l found w z)

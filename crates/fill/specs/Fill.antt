@@ -36,18 +36,18 @@ pub data Read : Type 0 where
   refused : Refusal → Read
 
 -- the first byte of a run
-abbrev pub firstOf : Bytes → Located → Read
-firstOf log (run.Stored at n) = byte (getD log at 0)
-firstOf log (run.Zeros n) = byte 0
-firstOf log (run.Refused w) = refused w
+abbrev pub byteOf : Bytes → Located → Read
+byteOf log (run.Stored at n) = byte (getD log at 0)
+byteOf log (run.Zeros n) = byte 0
+byteOf log (run.Refused w) = refused w
 
 -- byte o of the file of an entry: that of the run there. The page of one zero passes its test, and no byte depends on it
 abbrev pub byteAt : Bytes → Bytes → ℕ → Read
-byteAt log entry o = firstOf log (located log (0 ∷ []) entry o)
+byteAt log entry o = byteOf log (located log (0 ∷ []) entry o)
 
 -- the same below a score at the top level
 abbrev pub byteBelow : Bytes → Entry → Bytes → ℕ → Read
-byteBelow log e top o = firstOf log (under log 1 e o (e .depth) top)
+byteBelow log e top o = byteOf log (under log 1 e o (e .depth) top)
 
 -- bytes up to the first refusal, and that refusal
 pub record Gathered : Type 0 where
@@ -73,8 +73,8 @@ abbrev pub outcome : Filled → Bytes → Outcome
 outcome f d = record { filled = f; buffer = d }
 
 -- bytes gathered, written to the front of the buffer; "the rest stays"
-abbrev pub written : Bytes → Gathered → Outcome
-written d g = outcome (record { count = length (g .bytes); stop = g .stop }) (put d 0 (g .bytes))
+abbrev pub filledWith : Bytes → Gathered → Outcome
+filledWith d g = outcome (record { count = length (g .bytes); stop = g .stop }) (put d 0 (g .bytes))
 
 -- a test, which refuses, the buffer as it was lent, or lets through
 abbrev pub test : Bool → Refusal → Bytes → Outcome → Outcome
@@ -86,4 +86,4 @@ fillOf log entry offset d =
     test (logAllowed (length log)) why.LogLength d
     (test (entryReadable entry) why.Entry d
     (test (ltb offset ((entryOf entry) .size)) why.Offset d
-    (written d (gathered (byteAt log entry) (min (length d) ((entryOf entry) .size - offset)) offset))))
+    (filledWith d (gathered (byteAt log entry) (min (length d) ((entryOf entry) .size - offset)) offset))))

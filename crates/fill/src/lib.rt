@@ -8,7 +8,7 @@ ghost use mathlib.Core.Path.{_≡_};
 ghost use Prim.Native.Nat.{_-_, _≤_, min};
 ghost use lib.ListN.{length};
 ghost use Rattle.file.specs.Fetch.{Open};
-ghost use Rattle.fill.specs.Fill.{stopNumber, stopOf, outcome, written, byteBelow, gathered, fillOf};
+ghost use Rattle.fill.specs.Fill.{stopNumber, stopOf, outcome, filledWith, byteBelow, gathered, fillOf};
 
 // How filling a buffer ended: the buffer or the file is full, or the refusal at the first offset that has one.
 pub enum Stop {
@@ -55,7 +55,7 @@ fn lesser(a: usize, b: u64) -> usize
 // Fills d from an offset on, up to its end or the file's, below the score at the top level.
 fn fill_leaves(log: &[u8], e: Entry, top: &[u8], offset: u64, d: &mut [u8]) -> Filled
     requires { ⌜ Open (length (now log)) e offset × (length (now top) ≡ 20) ⌝ }
-    ensures { λ r. ⌜ outcome r (now (d .exit)) ≡ written (now (d .entry)) (gathered (byteBelow (now (log .entry)) e (now (top .entry))) (min (length (now (d .entry))) (e .size - offset)) offset) ⌝ }
+    ensures { λ r. ⌜ outcome r (now (d .exit)) ≡ filledWith (now (d .entry)) (gathered (byteBelow (now (log .entry)) e (now (top .entry))) (min (length (now (d .entry))) (e .size - offset)) offset) ⌝ }
 {
     let none = [0u8; 0];
     let end = SectorNumber(log.len() / SECTOR);

@@ -4,7 +4,7 @@ use Prim.Native.Nat.{ℕ, _+_, _-_, _≤_, _<_, min}
 use native.Mathlib.Nat.{mod-lt}
 use native.Mathlib.Omega.{arith}
 use lib.ListN.{length}
-use Rattle.fill.specs.Fill.{byteBelow, gathered, written}
+use Rattle.fill.specs.Fill.{byteBelow, gathered, filledWith}
 use Rattle.fill.proofs.Gather.{rest-all, rest-none}
 use Rattle.fill.proofs.Tests.{open-on}
 use Rattle.fill.proofs.Turn.{Filling, leaf-missing, leaf-some, leaf-ends, leaf-within, leaf-room, length-part, leaf-written}
@@ -67,7 +67,7 @@ returns c =
     let full : (lesser .result) ≤ length (a .d .now) = omega (arith, (lesser .ensures)) in
     leaf-missing (a .log .now) (a .e) (a .top .now) (a .offset) (lesser .result) (a .d .now) (l .d) (l .done) (p .0 .dsize-from) full (l .inv) (loop-test .taken)
     (descend .result) (descend .ensures .0) (descend .ensures .1) _ (enum-told .given .1) _ (stop-of .ensures)
-    ∙ ap (λ (n : ℕ). written (a .d .now) (gathered (byteBelow (a .log .now) (a .e) (a .top .now)) n (a .offset))) (lesser .ensures)
+    ∙ ap (λ (n : ℕ). filledWith (a .d .now) (gathered (byteBelow (a .log .now) (a .e) (a .top .now)) n (a .offset))) (lesser .ensures)
 
 rem-k : tie.Need-rem-k Inv-loop μ-loop
 rem-k c = search needs
@@ -194,7 +194,7 @@ returns-2 c =
     let l = c .before .loop in
     let loop-test = c .loop-test in
     rest-none (byteBelow (a .log .now) (a .e) (a .top .now)) (lesser .result) (a .offset) (a .d .now) (l .d) (l .done) (l .inv .2) (omega (arith, (loop-test .left)))
-    ∙ ap (λ (n : ℕ). written (a .d .now) (gathered (byteBelow (a .log .now) (a .e) (a .top .now)) n (a .offset))) (lesser .ensures)
+    ∙ ap (λ (n : ℕ). filledWith (a .d .now) (gathered (byteBelow (a .log .now) (a .e) (a .top .now)) n (a .offset))) (lesser .ensures)
 
 pub fill-leaves-spec : {M : Type 1} → statement M
 fill-leaves-spec =
