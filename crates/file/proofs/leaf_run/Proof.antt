@@ -15,7 +15,11 @@ zero-run-requires : tie.Need-zero-run-requires
 zero-run-requires c κs = search needs
 
 returns : tie.Need-returns
-returns c = (c .zero-run .ensures) ∙ leaf-past (c .before .before .args .page) (c .before .before .args .e) (c .before .before .args .offset) (c .before .before .args .first .0) (c .before .before .args .size) (c .before .if1 .taken)
+returns c =
+    let a = c .before .before .args in
+    let if1 = c .before .if1 in
+    let zero-run = c .zero-run in
+    (zero-run .ensures) ∙ leaf-past (a .page) (a .e) (a .offset) (a .first .0) (a .size) (if1 .taken)
 
 place-in-requires : tie.Need-place-in-requires
 place-in-requires c κs = omega (arith, mod-lt (c .before .args .offset) (c .before .pre .0))
@@ -33,7 +37,12 @@ least-requires : tie.Need-least-requires
 least-requires c κs = search needs
 
 returns-2 : tie.Need-returns-2
-returns-2 c = ap₂ Stored (c .before .before .place-in .ensures) (c .least .ensures) ∙ leaf-in (c .before .before .before .before .args .page) (c .before .before .before .before .args .e) (c .before .before .before .before .args .offset) (c .before .before .before .before .args .first .0) (c .before .before .before .before .args .size) (c .before .before .before .if1 .left)
+returns-2 c =
+    let a = c .before .before .before .before .args in
+    let if1 = c .before .before .before .if1 in
+    let place-in = c .before .before .place-in in
+    let least = c .least in
+    ap₂ Stored (place-in .ensures) (least .ensures) ∙ leaf-in (a .page) (a .e) (a .offset) (a .first .0) (a .size) (if1 .left)
 
 pub leaf-run-spec : {M : Type 1} → statement M
 leaf-run-spec = tie.close (tie.spec rem-k zero-run-requires returns place-in-requires sub-least sub-least-2 sub-least-3 least-requires returns-2)

@@ -36,7 +36,10 @@ returns-3 c =
     let if1 = c .before .before .before .before .if1 in
     let is-page = c .before .before .before .is-page in
     let if2 = c .before .before .if2 in
-    stops-entry (a .log .now) (a .page .now) (a .entry .now) (a .offset) _ (is-allowed .ensures) (not-false _ (if1 .left)) _ (is-page .ensures) (not-false _ (if2 .left)) _ (c .before .is-readable .ensures) (not-true _ (c .if3 .taken))
+    let is-readable = c .before .is-readable in
+    let if3 = c .if3 in
+    stops-entry (a .log .now) (a .page .now) (a .entry .now) (a .offset) _ (is-allowed .ensures) (not-false _ (if1 .left)) _ (is-page .ensures) (not-false _ (if2 .left)) _
+    (is-readable .ensures) (not-true _ (if3 .taken))
 
 entry-at-requires : tie.Need-entry-at-requires
 entry-at-requires c κs =
@@ -53,7 +56,10 @@ returns-4 c =
     let is-readable = c .before .before .before .before .is-readable in
     let if3 = c .before .before .before .if3 in
     let entry-at = c .before .before .entry-at in
-    let l = readable-length (a .entry .now) _ (is-readable .ensures) (not-false _ (if3 .left)) in stops-offset (a .log .now) (a .page .now) (a .entry .now) (a .offset) _ (is-allowed .ensures) (not-false _ (if1 .left)) _ (is-page .ensures) (not-false _ (if2 .left)) _ (is-readable .ensures) (not-false _ (if3 .left)) _ (entry-whole (a .entry .now) _ l (entry-at .ensures)) (c .if4 .taken)
+    let if4 = c .if4 in
+    let l = readable-length (a .entry .now) _ (is-readable .ensures) (not-false _ (if3 .left)) in
+    stops-offset (a .log .now) (a .page .now) (a .entry .now) (a .offset) _ (is-allowed .ensures) (not-false _ (if1 .left)) _ (is-page .ensures) (not-false _ (if2 .left)) _
+    (is-readable .ensures) (not-false _ (if3 .left)) _ (entry-whole (a .entry .now) _ l (entry-at .ensures)) (if4 .taken)
 
 sub-descend : tie.Need-sub-descend
 sub-descend c = search needs
@@ -76,8 +82,12 @@ descend-requires c κs =
     let is-readable = c .before .before .before .before .before .is-readable in
     let if3 = c .before .before .before .before .if3 in
     let entry-at = c .before .before .before .entry-at in
+    let if4 = c .before .if4 in
     let l = readable-length (a .entry .now) _ (is-readable .ensures) (not-false _ (if3 .left)) in
-    (opened _ (a .entry .now) _ (a .offset) _ _ (is-allowed .ensures) (not-false _ (if1 .left)) (is-readable .ensures) (not-false _ (if3 .left)) (entry-whole (a .entry .now) _ l (entry-at .ensures)) (c .before .if4 .left), simp (length-take, length-drop) (omega (arith, l)))
+    let whole = entry-whole (a .entry .now) _ l (entry-at .ensures) in (
+      opened _ (a .entry .now) _ (a .offset) _ _ (is-allowed .ensures) (not-false _ (if1 .left)) (is-readable .ensures) (not-false _ (if3 .left)) whole (if4 .left),
+      simp (length-take, length-drop) (omega (arith, l)),
+    )
 
 run-in-requires : tie.Need-run-in-requires
 run-in-requires c κs =
@@ -88,9 +98,11 @@ run-in-requires c κs =
     let if3 = c .before .before .before .before .before .if3 in
     let entry-at = c .before .before .before .before .entry-at in
     let if4 = c .before .before .if4 in
+    let descend = c .descend in
     let l = readable-length (a .entry .now) _ (is-readable .ensures) (not-false _ (if3 .left)) in
-    let o = opened _ (a .entry .now) _ (a .offset) _ _ (is-allowed .ensures) (not-false _ (if1 .left)) (is-readable .ensures) (not-false _ (if3 .left)) (entry-whole (a .entry .now) _ l (entry-at .ensures)) (if4 .left) in
-    (omega (arith, c .descend .ensures .0, o .log), o .dsize-from, o .dsize-to, o .inside)
+    let o = opened _ (a .entry .now) _ (a .offset) _ _ (is-allowed .ensures) (not-false _ (if1 .left)) (is-readable .ensures) (not-false _ (if3 .left))
+    (entry-whole (a .entry .now) _ l (entry-at .ensures)) (if4 .left) in
+    (omega (arith, descend .ensures .0, o .log), o .dsize-from, o .dsize-to, o .inside)
 
 returns-5 : tie.Need-returns-5
 returns-5 c =
@@ -103,8 +115,13 @@ returns-5 c =
     let if3 = c .before .before .before .before .before .before .if3 in
     let entry-at = c .before .before .before .before .before .entry-at in
     let if4 = c .before .before .before .if4 in
+    let descend = c .before .descend in
+    let run-in = c .run-in in
     let l = readable-length (a .entry .now) _ (is-readable .ensures) (not-false _ (if3 .left)) in
-    c .run-in .ensures ∙ c .before .descend .ensures .1 (length (a .page .now)) (a .offset) refl ∙ goes-down (a .log .now) (a .page .now) (a .entry .now) (a .offset) _ (is-allowed .ensures) (not-false _ (if1 .left)) _ (is-page .ensures) (not-false _ (if2 .left)) _ (is-readable .ensures) (not-false _ (if3 .left)) _ (entry-whole (a .entry .now) _ l (entry-at .ensures)) (if4 .left)
+    run-in .ensures
+    ∙ descend .ensures .1 (length (a .page .now)) (a .offset) refl
+    ∙ goes-down (a .log .now) (a .page .now) (a .entry .now) (a .offset) _ (is-allowed .ensures) (not-false _ (if1 .left)) _ (is-page .ensures) (not-false _ (if2 .left)) _
+    (is-readable .ensures) (not-false _ (if3 .left)) _ (entry-whole (a .entry .now) _ l (entry-at .ensures)) (if4 .left)
 
 pub locate-spec : {M : Type 1} → statement M
 locate-spec =

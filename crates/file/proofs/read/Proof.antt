@@ -15,7 +15,11 @@ enum-known-run : tie.Need-enum-known-run
 enum-known-run c = search needs
 
 add-end : tie.Need-add-end
-add-end c = omega (arith, stored-in (c .before .before .before .before .before .before .before .args .log .now) (c .before .before .before .before .before .before .before .args .page .now) (c .before .before .before .before .before .before .before .args .entry .now) (c .before .before .before .before .before .before .before .args .offset) _ (c .before .before .before .locate .ensures) _ _ (c .before .run .given .1))
+add-end c =
+    let a = c .before .before .before .before .before .before .before .args in
+    let locate = c .before .before .before .locate in
+    let run = c .before .run in
+    omega (arith, stored-in (a .log .now) (a .page .now) (a .entry .now) (a .offset) _ (locate .ensures) _ _ (run .given .1))
 
 sub-result : tie.Need-sub-result
 sub-result c = search needs
@@ -24,7 +28,11 @@ part-result-start : tie.Need-part-result-start
 part-result-start c = search needs
 
 part-result-end : tie.Need-part-result-end
-part-result-end c = omega (arith, stored-in (c .before .before .before .before .before .before .before .args .log .now) (c .before .before .before .before .before .before .before .args .page .now) (c .before .before .before .before .before .before .before .args .entry .now) (c .before .before .before .before .before .before .before .args .offset) _ (c .before .before .before .locate .ensures) _ _ (c .before .run .given .1))
+part-result-end c =
+    let a = c .before .before .before .before .before .before .before .args in
+    let locate = c .before .before .before .locate in
+    let run = c .before .run in
+    omega (arith, stored-in (a .log .now) (a .page .now) (a .entry .now) (a .offset) _ (locate .ensures) _ _ (run .given .1))
 
 returns : tie.Need-returns
 returns c = rw (← (c .before .before .before .before .locate .ensures), (c .before .before .run .given .1)) (record { bytes = rw (add-sub-cancel-left _ _); block = refl; place = refl })
@@ -33,7 +41,11 @@ enum-known-run-2 : tie.Need-enum-known-run-2
 enum-known-run-2 c = search needs
 
 slice-aggregate-result : tie.Need-slice-aggregate-result
-slice-aggregate-result c = simp length-take (omega (arith, zeros-in (c .before .before .before .before .before .before .before .before .args .log .now) (c .before .before .before .before .before .before .before .before .args .page .now) (c .before .before .before .before .before .before .before .before .args .entry .now) (c .before .before .before .before .before .before .before .before .args .offset) _ (c .before .before .before .before .locate .ensures) _ (c .before .before .run2 .given .1)))
+slice-aggregate-result c =
+    let a = c .before .before .before .before .before .before .before .before .args in
+    let locate = c .before .before .before .before .locate in
+    let run2 = c .before .before .run2 in
+    simp length-take (omega (arith, zeros-in (a .log .now) (a .page .now) (a .entry .now) (a .offset) _ (locate .ensures) _ (run2 .given .1)))
 
 returns-2 : tie.Need-returns-2
 returns-2 c = rw (← (c .before .before .before .before .locate .ensures), (c .before .before .run2 .given .1)) (record { bytes = refl; block = refl; place = sym (zero-add _) })
