@@ -381,28 +381,29 @@ fn a_file_into_a_buffer() {
         let file = entry(1, 1000, &sha1(&data));
         let fill = |archive: &mut dyn Archive, log: &[u8], entry: &[u8], offset, size| {
             let mut buffer = vec![0xaa; size];
-            let (number, count) = archive.fill(log, entry, offset, &mut buffer);
+            let (ended, count) = archive.fill(log, entry, offset, &mut buffer);
             assert!(buffer[count..].iter().all(|&byte| byte == 0xaa));
             buffer.truncate(count);
-            (number, buffer)
+            (ended, buffer)
         };
         let leaf = [&data[..], &[0; 524]].concat();
         for (offset, size) in [(0, 1000), (0, 1001), (399, 7), (499, 2), (999, 9), (3, 0)] {
             let right = &leaf[offset..(offset + size).min(1000)];
             let filled = fill(archive, &log, &file, offset as u64, size);
-            assert_eq!(filled, (0, right.to_vec()));
+            assert_eq!(filled, (Ok(()), right.to_vec()));
         }
-        assert_eq!(fill(archive, &log, &file, 1000, 9), (17, vec![]));
-        assert_eq!(fill(archive, &log, &file[1..], 0, 9), (16, vec![]));
-        assert_eq!(fill(archive, &log[1..], &file, 0, 9), (3, vec![]));
+        assert_eq!(fill(archive, &log, &file, 1000, 9), (no(17), vec![]));
+        assert_eq!(fill(archive, &log, &file[1..], 0, 9), (no(16), vec![]));
+        assert_eq!(fill(archive, &log[1..], &file, 0, 9), (no(3), vec![]));
 
         let pointers = [sha1(&data), [1; 20]].concat();
         assert_eq!(ask(archive, &mut log, &write(3, &pointers)).0, 0);
         let mut holed = entry(1, 1600, &sha1(&pointers));
         holed[8] |= 1 << 2;
-        assert_eq!(fill(archive, &log, &holed, 0, 2000), (11, leaf));
+        assert_eq!(fill(archive, &log, &holed, 0, 2000), (no(11), leaf));
         log[700] ^= 1;
-        assert_eq!(fill(archive, &log, &file, 0, 9), (12, vec![]));
+        let not_known = Err(Refusal::not_known(0));
+        assert_eq!(fill(archive, &log, &file, 0, 9), (not_known, vec![]));
     });
 }
 
