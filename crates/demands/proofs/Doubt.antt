@@ -5,8 +5,8 @@ use mathlib.Core.List.{List, [], _∷_, List·Memᴰ, List·Memᴰ·head, List·
 use mathlib.Core.Logic.{_⊎_, inl, inr}
 use Prim.Native.Nat.{ℕ, zero, suc, _+_, _≤_, _<_}
 use native.Mathlib.Omega.{arith}
-use lib.Dec.{eqb}
-use borrow.Author.Tests.{eqb-true, eqb-false}
+use lib.Dec.{eqb, ltb}
+use borrow.Author.Tests.{eqb-true, eqb-false, ltb-true, ltb-false}
 use Rattle.ground.proofs.Cases.{or-false, or-right}
 use Rattle.buffer.specs.Bytes.{zeros}
 use Rattle.sector.specs.Sector.{blank}
@@ -78,7 +78,7 @@ pub doubt-is-there : claims.DoubtIsThere
 doubt-is-there h u =
     let i = some-uncovered rows last u in
     let p = first-found rows last 0 (i .0) (omega arith) (omega (arith, i .1)) (i .2) in
-    (omega (arith, p .0, i .1), p .1, go (coveredBy (L .rows) n) (has n (L .changed)) refl refl (p .1))
+    (omega (arith, p .0, i .1), p .1, (λ k e. earliest k e (ltb k last) refl), go (coveredBy (L .rows) n) (has n (L .changed)) refl refl (p .1))
   where
     L : Ledger archive
     L = ledgerOf h
@@ -91,6 +91,12 @@ doubt-is-there h u =
 
     n : ℕ
     n = firstUncovered rows last 0
+
+    earliest : (k : ℕ) → coveredBy rows k ≡ false → (b : Bool) → ltb k last ≡ b → n ≤ k
+    earliest k e true q = first-found rows last 0 k (omega arith) (omega (arith, ltb-true k last q)) e .0
+    earliest k e false q =
+        let i = some-uncovered rows last u in
+        omega (arith, ltb-false k last q, i .1, first-found rows last 0 (i .0) (omega arith) (omega (arith, i .1)) (i .2) .0)
 
     Lost : Type 0
     Lost = (r : Row) × List·Memᴰ r (L .rows) × (hit archive (L .changed) r ≡ true) × (covers archive r n ≡ true)

@@ -20,4 +20,5 @@ pub mod Histories
 pub mod Hurt
 pub mod Corollaries
 pub mod Doubt
+pub mod Twelve
 pub mod Witness

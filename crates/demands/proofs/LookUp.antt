@@ -29,7 +29,7 @@ unfolding look.firstOf firstRow
 first-same t s [] = refl
 first-same t s (r ∷ rows) = ap (λ (o : Option Row). cond (eqb (r .kind) t && same (r .score) s) (some r) o) (first-same t s rows)
 
-in-same : (rows : List Row) (n : ℕ) → look.inBlock rows n ≡ coveredBy rows n
+pub in-same : (rows : List Row) (n : ℕ) → look.inBlock rows n ≡ coveredBy rows n
 unfolding look.inBlock coveredBy
 in-same [] n = refl
 in-same (r ∷ rows) n = ap (λ (b : Bool). within (r .first) (parts r) n || b) (in-same rows n)
@@ -46,7 +46,7 @@ outside-none rows (suc k) = go (look.inBlock rows k) (coveredBy rows k) (in-same
     go true false e h = cc
     go false true e h = cc
 
-outside-first : (rows : List Row) (k n : ℕ) → look.firstOutside rows k n ≡ firstUncovered rows k n
+pub outside-first : (rows : List Row) (k n : ℕ) → look.firstOutside rows k n ≡ firstUncovered rows k n
 unfolding look.firstOutside firstUncovered
 outside-first rows zero n = refl
 outside-first rows (suc k) n = ap₂ (λ (b : Bool) (i : ℕ). cond b i n) (in-same rows n) (outside-first rows k (suc n))

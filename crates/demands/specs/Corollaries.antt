@@ -138,14 +138,20 @@ NeverStoredNotKnown = (h : History) (t count : ℕ) (s m buffer : Bytes) (k : �
     → held (cleanLog h) t s ≡ none → NoneStored t s (atDamage h) (h .later) → Reads m buffer (logOf h) t count s
     → step Greeted m (logOf h) buffer ≡ refused (notKnown h) (tagOf m) Greeted (logOf h) buffer
 
--- "Say where the doubt is": while a sector is uncovered, the one told lies before the end and in no intact row. It is one of a row that lost a sector, though
--- not always the lost one; or no row has it: then it is changed, or blank, with something behind it
+-- "Say where the doubt is": while a sector is uncovered, the one told lies before the end and in no intact row, and is the first such. It is one of a row that
+-- lost a sector, though not always the lost one; or no row has it: then it is changed, or blank, with something behind it
 abbrev pub DoubtIsThere : Type 0
 DoubtIsThere = (h : History) → let L = ledgerOf h in let n = firstUncovered (intact archive L) (end archive L) 0 in
     anyUncovered (intact archive L) (end archive L) ≡ true
-    → (n < end archive L) × (coveredBy (intact archive L) n ≡ false)
+    → (n < end archive L) × (coveredBy (intact archive L) n ≡ false) × ((i : ℕ) → coveredBy (intact archive L) i ≡ false → n ≤ i)
     × (((r : Row) × List·Memᴰ r (L .rows) × (hit archive (L .changed) r ≡ true) × (covers archive r n ≡ true))
     ⊎ ((coveredBy (L .rows) n ≡ false) × ((has n (L .changed) ≡ true) ⊎ (zeros (at (logOf h) n) ≡ true))))
+
+-- 12 is answered only while a sector is uncovered, and tells the first of them
+abbrev pub TwelveTells : Type 0
+TwelveTells = (h : History) (s : Session) (m buffer : Bytes) → step s m (logOf h) buffer .number ≡ 12
+    → (anyUncovered (intact archive (ledgerOf h)) (end archive (ledgerOf h)) ≡ true)
+    × (step s m (logOf h) buffer ≡ refused (notKnown h) (tagOf m) s (logOf h) buffer)
 
 -- ---- there is something to speak of
 

@@ -1,4 +1,4 @@
--- A buffer filled to the end has the runs laid end to end; where every offset reads, the whole file.
+-- A filled buffer has the runs laid end to end; where every offset reads, the whole file.
 use mathlib.Core.Path.{_≡_, refl, sym, ap, _∙_}
 use mathlib.Core.Bool.{Bool, true, false}
 use mathlib.Core.List.{_++_}
@@ -71,59 +71,65 @@ module _ (log page entry : Bytes) where
           let rest = f (n - length b) (offset + length b) (omega (arith, R .0)) (omega (arith, R .1)) (λ o g l. a o (omega arith) (omega (arith, g, l))) in
           rw (lt-ltb offset size inside) (front-more n offset b (laid k log page entry (offset + length b)) (R .2) rest)
 
--- ---- filled to the end
+-- ---- what is filled
 
--- where filling is done every offset that it filled reads
-record Done-at (log page entry : Bytes) (offset : ℕ) (d : Bytes) (count : ℕ) : Type 0 where
-  full : count ≡ min (length d) ((entryOf entry) .size - offset)
-  inside : offset < (entryOf entry) .size
-  answers : (o : ℕ) → offset ≤ o → o < offset + count → Answers (located log page entry o)
+-- every offset that was filled reads
+filled-answers : (log page entry : Bytes) (offset : ℕ) (d : Bytes) → pageAllowed page ≡ true → (r : Outcome) → Course log entry offset d r
+    → (o : ℕ) → offset ≤ o → o < offset + r .filled .count → Answers (located log page entry o)
+filled-answers log page entry offset d p r (stopped w e h) o g l = absurd (omega (arith, ap (λ (x : Outcome). x .filled .count) e))
+filled-answers log page entry offset d p r (down inside e) o g l =
+    let G = gathers (byteAt log entry) (min (length d) ((entryOf entry) .size - offset)) offset in
+    let c = ap (λ (x : Outcome). x .filled .count) e in
+    let z : offset + (o - offset) ≡ o = omega arith in
+    byte-answers log entry page p o _ (ap (byteAt log entry) (sym z) ∙ G .each (o - offset) (omega (arith, c)))
 
-done-at : (log page entry : Bytes) (offset : ℕ) (d : Bytes) → pageAllowed page ≡ true → (r : Outcome) → Course log entry offset d r → r .filled .stop ≡ Done
-    → Done-at log page entry offset d (r .filled .count)
-done-at log page entry offset d p r (stopped w e h) q =
+-- done is full
+done-full : (log entry : Bytes) (offset : ℕ) (d : Bytes) (r : Outcome) → Course log entry offset d r → r .filled .stop ≡ Done
+    → r .filled .count ≡ min (length d) ((entryOf entry) .size - offset)
+done-full log entry offset d r (stopped w e h) q =
     let y : Refused w ≡ Done = ap (λ (o : Outcome). o .filled .stop) (sym e) ∙ q in
     let z : _≡_ {A = ℕ} 0 1 = cc in absurd (omega arith)
-done-at log page entry offset d p r (down inside e) q =
-    let n = min (length d) ((entryOf entry) .size - offset) in
-    let G = gathers (byteAt log entry) n offset in
-    let c = ap (λ (o : Outcome). o .filled .count) e in
-    record {
-      full = c ∙ G .done (ap (λ (o : Outcome). o .filled .stop) (sym e) ∙ q);
-      inside = inside;
-      answers = λ o g l.
-          let z : offset + (o - offset) ≡ o = omega arith in
-          byte-answers log entry page p o _ (ap (byteAt log entry) (sym z) ∙ G .each (o - offset) (omega (arith, c)));
-    }
+done-full log entry offset d r (down inside e) q =
+    ap (λ (o : Outcome). o .filled .count) e
+    ∙ gathers (byteAt log entry) (min (length d) ((entryOf entry) .size - offset)) offset .done (ap (λ (o : Outcome). o .filled .stop) (sym e) ∙ q)
+
+buffer-long : (log entry : Bytes) (offset : ℕ) (d : Bytes) → Course log entry offset d (fillOf log entry offset d)
+    → fillOf log entry offset d .filled .count ≤ length (fillOf log entry offset d .buffer)
+buffer-long log entry offset d (stopped w e h) = rw e (omega arith)
+buffer-long log entry offset d (down inside e) =
+    let x = gathered (byteAt log entry) (min (length d) ((entryOf entry) .size - offset)) offset .bytes in
+    let few = gathers (byteAt log entry) (min (length d) ((entryOf entry) .size - offset)) offset .few in
+    rw e (omega (arith, few, length-put d 0 x (omega (arith, few))))
 
 some-same : (a b : ℕ) → _≡_ {A = Option ℕ} (some a) (some b) → a ≡ b
 some-same a b e = cc
 
 pub fill-runs : FillIsTheRuns
 unfolding size
-fill-runs log page entry offset d p q =
-    let r = fillOf log entry offset d in
-    let c = r .filled .count in
-    let D = done-at log page entry offset d p r (course log entry offset d) q in
-    let F = fill-files log entry offset d in
-    let L = laid-front log page entry c c offset (omega arith) (omega (arith, F .1, D .inside)) (D .answers) in
-    let b = laid c log page entry offset in
-    let long : c ≤ length (r .buffer) = buffer-long log entry offset d (course log entry offset d) in
-    let left : length (take c (r .buffer)) ≡ c = length-take-le c (r .buffer) long in
-    let right : length (take c b) ≡ c = length-take-le c b (L .0) in (
-      D .full,
-      ext-getD 0 (take c (r .buffer)) (take c b) (left ∙ sym right)
-          (λ i h. let g : i < c = omega arith in
-          getD-take c (r .buffer) i 0 g ∙ some-same _ _ (sym (F .2 i g) ∙ L .1 i g) ∙ sym (getD-take c b i 0 g)),
-    )
+fill-runs log page entry offset d p = (go (ltb offset ((entryOf entry) .size)) refl, done-full log entry offset d (fillOf log entry offset d) (course log entry offset d))
   where
-    buffer-long : (log entry : Bytes) (offset : ℕ) (d : Bytes) → Course log entry offset d (fillOf log entry offset d)
-        → fillOf log entry offset d .filled .count ≤ length (fillOf log entry offset d .buffer)
-    buffer-long log entry offset d (stopped w e h) = rw e (omega arith)
-    buffer-long log entry offset d (down inside e) =
-        let x = gathered (byteAt log entry) (min (length d) ((entryOf entry) .size - offset)) offset .bytes in
-        let few = gathers (byteAt log entry) (min (length d) ((entryOf entry) .size - offset)) offset .few in
-        rw e (omega (arith, few, length-put d 0 x (omega (arith, few))))
+    r : Outcome
+    r = fillOf log entry offset d
+
+    c : ℕ
+    c = r .filled .count
+
+    b : Bytes
+    b = laid c log page entry offset
+
+    go : (t : Bool) → ltb offset ((entryOf entry) .size) ≡ t → take c (r .buffer) ≡ take c b
+    go false q =
+        let z : c ≡ 0 = omega (arith, fill-files log entry offset d .1, ltb-false offset ((entryOf entry) .size) q) in
+        ap (λ (k : ℕ). take k (r .buffer)) z ∙ sym (ap (λ (k : ℕ). take k b) z)
+    go true q =
+        let F = fill-files log entry offset d in
+        let inside = ltb-true offset ((entryOf entry) .size) q in
+        let L = laid-front log page entry c c offset (omega arith) (omega (arith, F .1)) (filled-answers log page entry offset d p r (course log entry offset d)) in
+        let left : length (take c (r .buffer)) ≡ c = length-take-le c (r .buffer) (buffer-long log entry offset d (course log entry offset d)) in
+        let right : length (take c b) ≡ c = length-take-le c b (L .0) in
+        ext-getD 0 (take c (r .buffer)) (take c b) (left ∙ sym right)
+        (λ i h. let g : i < c = omega arith in
+        getD-take c (r .buffer) i 0 g ∙ some-same _ _ (sym (F .2 i g) ∙ L .1 i g) ∙ sym (getD-take c b i 0 g))
 
 -- ---- the whole file
 

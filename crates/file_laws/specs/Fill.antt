@@ -23,13 +23,12 @@ FillIsTheFiles = (log entry : Bytes) (offset : ℕ) (d : Bytes)
     × ((i : ℕ) → i < r .filled .count → fileByte log entry (offset + i) ≡ some (getD (r .buffer) i 0))
     × (drop (r .filled .count) (r .buffer) ≡ drop (r .filled .count) d)
 
--- filled to the end, of the buffer or of the file, it has the runs laid end to end, whatever page of zeros these are read with
+-- what is filled are the runs laid end to end, whatever page of zeros these are read with; where nothing is refused, up to the end of the buffer or of the file
 abbrev pub FillIsTheRuns : Type 0
 FillIsTheRuns = (log page entry : Bytes) (offset : ℕ) (d : Bytes) → pageAllowed page ≡ true
     → let r = fillOf log entry offset d in
-    r .filled .stop ≡ Done
-    → (r .filled .count ≡ min (length d) ((entryOf entry) .size - offset))
-    × (take (r .filled .count) (r .buffer) ≡ take (r .filled .count) (laid (r .filled .count) log page entry offset))
+    (take (r .filled .count) (r .buffer) ≡ take (r .filled .count) (laid (r .filled .count) log page entry offset))
+    × (r .filled .stop ≡ Done → r .filled .count ≡ min (length d) ((entryOf entry) .size - offset))
 
 -- where every offset reads, a buffer of at least the file's size gets the file's `size` bytes
 abbrev pub FillWhole : Type 0

@@ -1,6 +1,7 @@
 -- What a caller reads back: each claim of specs/Unpacked.antt.
 use mathlib.Core.Path.{_≡_, refl, ap, _∙_}
 use mathlib.Core.Bool.{Bool, true, false, cond, not}
+use mathlib.Core.List.{[], _∷_}
 use mathlib.Core.Option.{Option, none, some}
 use Prim.Native.Nat.{ℕ, _+_, _*_, _/_, _%_, _≤_, _<_}
 use native.Mathlib.Omega.{arith}
@@ -33,6 +34,8 @@ use Rattle.archive.specs.declared.Session.the-variants.{Fresh, Greeted, Closed 
 use Rattle.fill.specs.declared.Stop.{Stop}
 use Rattle.fill.specs.declared.Stop.the-variants as to
 use Rattle.fill.specs.Fill.{stopNumber, fillOf}
+use Rattle.fill.proofs.Tests.{zero-page}
+use Rattle.file_laws.proofs.Filled.{fill-refusal}
 use Rattle.visit.specs.declared.End.{End}
 use Rattle.visit.specs.declared.End.the-variants.{Done, Refused}
 use Rattle.walk.specs.Walk.{walkOf}
@@ -40,7 +43,7 @@ use Rattle.visit.specs.Visit.{endNumber}
 use Rattle.results.specs.Serve.{sessionOf, sessionNumber}
 use Rattle.results.specs.Survey.{soundResult}
 use Rattle.results.specs.Blocks.{typeResult}
-use Rattle.results.specs.Tree.{endSector}
+use Rattle.results.specs.Tree.{runOf, endSector}
 use Rattle.results.specs.Unpacked as claims
 use Rattle.results.specs.Unpacked.{numberIn, answerIn, wireNumber, typeIn}
 use Rattle.results.proofs.Numbers.{number-bounds}
@@ -140,6 +143,10 @@ run-unpacks = nothing-lost
 stop-few : (s : Stop) → stopNumber s < 256
 stop-few to.Done = omega arith
 stop-few (to.Refused w) = few w
+
+pub fill-refusal-unpacks : claims.FillRefusalUnpacks
+fill-refusal-unpacks log b offset d w q =
+    nothing-lost log (0 ∷ []) b (offset + fillOf log b offset d .filled .count) ∙ ap runOf (fill-refusal log (0 ∷ []) b offset d w zero-page q)
 
 pub fill-unpacks : claims.FillUnpacks
 fill-unpacks log b offset d = let f = fillOf log b offset d .filled in beside (stopNumber (f .stop)) (f .count) (stop-few (f .stop))

@@ -1,10 +1,11 @@
 -- Nothing is lost in packing: what a caller reads back from the one number that each call answers with is what the call's definition says.
 use mathlib.Core.Path.{_≡_}
-use mathlib.Core.Bool.{cond}
+use mathlib.Core.Bool.{false, cond}
+use mathlib.Core.List.{[], _∷_}
 use Prim.Native.Nat.{ℕ, _+_, _/_, _%_, _≤_, _<_}
 use lib.ListN.{length}
 use Rattle.buffer.specs.Bytes.{Bytes}
-use Rattle.refusal.specs.Number.{numberOf}
+use Rattle.refusal.specs.Number.{numberOf, toldSector}
 use Rattle.refusal.specs.declared.Refusal.{Refusal}
 use Rattle.refusal.specs.declared.Refusal.the-variants.{LogLength}
 use Rattle.kind.specs.Kind.{wireType}
@@ -21,13 +22,14 @@ use Rattle.reader.specs.Reader.{sizeOf}
 use Rattle.archive.specs.Step.{step}
 use Rattle.archive.specs.declared.Session.{Session}
 use Rattle.file.specs.File.{located}
+use Rattle.fill.specs.declared.Stop.the-variants as stop
 use Rattle.fill.specs.Fill.{stopNumber, fillOf}
 use Rattle.walk.specs.Walk.{walkOf}
 use Rattle.results.specs.Serve.{sessionOf, sessionNumber, servedOf}
 use Rattle.visit.specs.Visit.{endNumber}
 use Rattle.results.specs.Blocks.{typeResult, cutResult}
 use Rattle.results.specs.Survey.{reportNumber, textLength, soundResult}
-use Rattle.results.specs.Tree.{packed, unpacked, runOf, filledNumber, walkResult, endSector}
+use Rattle.results.specs.Tree.{packed, unpacked, run, runOf, filledNumber, walkResult, endSector}
 
 -- in the lowest 8 bits the number of the refusal, 0 for none; above them the answer
 abbrev pub numberIn : ℕ → ℕ
@@ -52,6 +54,12 @@ RunUnpacks = (log page b : Bytes) (offset : ℕ) → unpacked (packed (located l
 abbrev pub FillUnpacks : Type 0
 FillUnpacks = (log b : Bytes) (offset : ℕ) (d : Bytes)
     → let f = fillOf log b offset d .filled in (numberIn (filledNumber f) ≡ stopNumber (f .stop)) × (answerIn (filledNumber f) ≡ f .count)
+
+-- a refusal that ends filling: locating the first offset behind the bytes has its number too, and the sector that it tells of
+abbrev pub FillRefusalUnpacks : Type 0
+FillRefusalUnpacks = (log b : Bytes) (offset : ℕ) (d : Bytes) (w : Refusal)
+    → let f = fillOf log b offset d .filled in
+    f .stop ≡ stop.Refused w → unpacked (packed (located log (0 ∷ []) b (offset + f .count))) ≡ run (numberOf w) false (toldSector w) 0
 
 -- a walk: the number, the visits, and the sector that it tells of
 abbrev pub visitsIn : ℕ → ℕ
