@@ -1,8 +1,9 @@
 /* The functions of target/staticlib/libboundary.a, which `rt staticlib boundary` writes.
    crates/boundary/src has their contracts. A slice is a pointer to its bytes, not null, and their
    count. Slices of one call do not overlap, unless both are only read. "Number" is the number of a
-   refusal, 1 to 23, or 0 for none. 12 ("not known") comes with the log's first doubtful sector, which
-   is the 512 bytes from 512 times its number on. No call has a precondition besides. */
+   refusal, 1 to 23, or 0 for none. 12 ("not known") comes with the log's first doubtful sector (of
+   skywimple_fill, see there), which is the 512 bytes from 512 times its number on. No call has a
+   precondition besides. */
 #ifndef SKYWIMPLE_H
 #define SKYWIMPLE_H
 

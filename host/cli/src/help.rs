@@ -22,7 +22,7 @@ pub const GET: &str = "\
 Three answers, never mixed up: the bytes with status 0; \"not held\" with status 11, the block was
 never stored; \"not known\" with status 12, part of the log is damaged and nobody can tell. The last
 two write nothing to standard output. With \"not known\" the log's first doubtful sector is told, and
-its byte in the file: restore it from a copy of the log, or store the block again.
+its byte in the file: restore the doubtful sectors from a copy (see list), or store the block again.
   SCORE      40 hex digits
   --type T   root, dir, ptr1 to ptr7, data (the default), or the type's number
   --count N  the most bytes, 0 to 65535 (default 57344); a longer block is refused with 13
