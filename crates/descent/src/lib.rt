@@ -6,7 +6,7 @@ use sector_number::SectorNumber;
 use visit::End;
 use visit::Walked;
 ghost use mathlib.Core.Path.{_≡_};
-ghost use Prim.Native.Nat.{ℕ, _+_, _%_, _≤_, _<_, _^_};
+ghost use Prim.Native.Nat.{ℕ, _+_, _%_, _≤_, _<_};
 ghost use lib.ListN.{length};
 ghost use Rattle.block.specs.Block.{partsOf};
 ghost use Rattle.block.specs.Log.{sectors};
@@ -33,7 +33,7 @@ pub fn visit_directory(
     nest: usize,
     left: usize,
 ) -> Walked
-    requires { ⌜ (sectors (length (now log)) ≤ 16 ^ 8) × (first .0 + partsOf size ≤ sectors (length (now log))) × (size ≤ 57344) × (nest ≤ 16) ⌝ }
+    requires { ⌜ (first .0 + partsOf size ≤ sectors (length (now log))) × (size ≤ 57344) × (nest ≤ 16) ⌝ }
     ensures within { λ r. ⌜ r .visits ≤ left ⌝ }
     ensures exact { λ r. ⌜ ((f : ℕ) → left + left + 2 ≤ f → r ≡ visitDirectory f (now (log .entry)) nest (bytesAt (now (log .entry)) (first .0) size) left) ⌝ }
 {
@@ -67,7 +67,7 @@ fn visit_listed(
     nest: usize,
     left: usize,
 ) -> Walked
-    requires { ⌜ (sectors (length (now log)) ≤ 16 ^ 8) × (first .0 + partsOf size ≤ sectors (length (now log))) × (size ≤ 57344) × (nest ≤ 16) × (i < entriesOf size) ⌝ }
+    requires { ⌜ (first .0 + partsOf size ≤ sectors (length (now log))) × (size ≤ 57344) × (nest ≤ 16) × (i < entriesOf size) ⌝ }
     ensures within { λ r. ⌜ r .visits ≤ left ⌝ }
     ensures exact { λ r. ⌜ ((f : ℕ) → left + left + 1 ≤ f → r ≡ visitListed f (now (log .entry)) nest (entryIn (bytesAt (now (log .entry)) (first .0) size) i) left) ⌝ }
 {
@@ -90,7 +90,7 @@ fn visit_listed(
 
 // Visits a block of an entry at a level, and what is below it: a pointer block's scores, or the entries of a directory.
 fn visit_entry(log: &[u8], e: Entry, score: &[u8], level: usize, nest: usize, left: usize) -> Walked
-    requires { ⌜ (sectors (length (now log)) ≤ 16 ^ 8) × (length (now score) ≡ 20) × (level ≤ 7) ⌝ }
+    requires { ⌜ (length (now score) ≡ 20) × (level ≤ 7) ⌝ }
     ensures within { λ r. ⌜ r .visits ≤ left ⌝ }
     ensures exact { λ r. ⌜ ((f : ℕ) → left + left + 1 ≤ f → r ≡ visitEntry f (now (log .entry)) e level nest (now (score .entry)) left) ⌝ }
 {
@@ -124,7 +124,7 @@ fn visit_scores(
     nest: usize,
     left: usize,
 ) -> Walked
-    requires { ⌜ (sectors (length (now log)) ≤ 16 ^ 8) × (first .0 + partsOf size ≤ sectors (length (now log))) × (size ≤ 57344) × (size % 20 ≡ 0) × (level ≤ 7) ⌝ }
+    requires { ⌜ (first .0 + partsOf size ≤ sectors (length (now log))) × (size ≤ 57344) × (size % 20 ≡ 0) × (level ≤ 7) ⌝ }
     ensures within { λ r. ⌜ r .visits ≤ left ⌝ }
     ensures exact { λ r. ⌜ ((f : ℕ) → left + left + 1 ≤ f → r ≡ visitScores f (now (log .entry)) e level nest (bytesAt (now (log .entry)) (first .0) size) left) ⌝ }
 {

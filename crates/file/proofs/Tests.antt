@@ -1,7 +1,7 @@
 -- The tests before the tree, one after the other, and what they show.
 use mathlib.Core.Path.{_≡_, refl, sym, ap, _∙_}
 use mathlib.Core.Bool.{Bool, true, false, _&&_}
-use Prim.Native.Nat.{ℕ, _/_, _≤_, _<_}
+use Prim.Native.Nat.{ℕ, _≤_, _<_}
 use native.Mathlib.Omega.{arith}
 use lib.Dec.{leb, ltb, eqb}
 use borrow.Author.Tests.{lt-ltb, le-ltb, eq-eqb, ne-eqb, leb-true, eqb-true}
@@ -11,8 +11,7 @@ use Rattle.ground.proofs.Cases.{and-true}
 use Rattle.buffer.specs.Bytes.{Bytes, zeros}
 use Rattle.refusal.specs.declared.Refusal.{Refusal}
 use Rattle.refusal.specs.declared.Refusal.the-variants as why
-use Rattle.log.specs.LookUp.{mostSectors, logAllowed}
-use Rattle.lookup.proofs.Laws.{allowed-sectors}
+use Rattle.log.specs.LookUp.{logAllowed}
 use Rattle.entry.specs.declared.Entry.{Entry}
 use Rattle.entry.specs.Entry.{entryOf, wellFormed, scoreOf}
 use Rattle.file.specs.declared.Located.{Located}
@@ -61,14 +60,13 @@ depth-few : (b : Bytes) → (entryOf b) .depth < 8
 unfolding entryOf
 depth-few b = omega arith
 
-bounds : (m : ℕ) (e : Entry) (offset : ℕ) → wellFormed e ≡ true → e .depth < 8 → m / 512 ≤ mostSectors → offset < e .size → Open m e offset
+bounds : (e : Entry) (offset : ℕ) → wellFormed e ≡ true → e .depth < 8 → offset < e .size → Open e offset
 unfolding wellFormed
-bounds m e offset w d a o =
+bounds e offset w d o =
     let p = and-true (leb 40 (e .psize) && leb (e .psize) 57344) _ w in
     let ps = and-true (leb 40 (e .psize)) _ (p .0) in
     let ds = and-true (leb 1 (e .dsize)) _ ((and-true (leb 1 (e .dsize) && leb (e .dsize) 57344) _ (p .1)) .0) in
     record {
-      log = omega arith;
       psize-from = leb-true 40 (e .psize) (ps .0);
       psize-to = leb-true (e .psize) 57344 (ps .1);
       dsize-from = leb-true 1 (e .dsize) (ds .0);
@@ -77,10 +75,8 @@ bounds m e offset w d a o =
       inside = o;
     }
 
-pub opened : (m : ℕ) (b : Bytes) (e : Entry) (offset : ℕ) (a r : Bool) → a ≡ logAllowed m → a ≡ true → r ≡ entryReadable b → r ≡ true
-    → e ≡ entryOf b → offset < e .size → Open m e offset
-opened m b e offset a r p q u v h o =
-    rw h (bounds m (entryOf b) offset (formed b (sym u ∙ v)) (depth-few b) (allowed-sectors m a p q) (rw h at o))
+pub opened : (b : Bytes) (e : Entry) (offset : ℕ) (r : Bool) → r ≡ entryReadable b → r ≡ true → e ≡ entryOf b → offset < e .size → Open e offset
+opened b e offset r u v h o = rw h (bounds (entryOf b) offset (formed b (sym u ∙ v)) (depth-few b) (rw h at o))
 
 -- ---- all four
 

@@ -1,7 +1,6 @@
 -- What the steps below the tests stand on: the run in the leaf that look-up finds, and what the tests have shown.
-use Prim.Native.Nat.{ℕ, _+_, _^_, _≤_, _<_}
+use Prim.Native.Nat.{ℕ, _+_, _≤_, _<_}
 use Rattle.block.specs.Block.{partsOf}
-use Rattle.block.specs.Log.{sectors}
 use Rattle.entry.specs.declared.Entry.{Entry}
 use Rattle.log.specs.declared.Look.{Look}
 use Rattle.log.specs.declared.Look.the-variants as look
@@ -19,9 +18,8 @@ abbrev pub runIn : ℕ → Entry → ℕ → Look → Located
 runIn page e offset (look.Found first size) = leafRun page e offset (first .0) size
 runIn page e offset (look.Refused w) = Refused w
 
--- a log of m bytes, an entry and an offset that the tests let through
-pub record Open (m : ℕ) (e : Entry) (offset : ℕ) : Type 0 where
-  pub log : sectors m ≤ 16 ^ 8
+-- an entry and an offset that the tests let through
+pub record Open (e : Entry) (offset : ℕ) : Type 0 where
   pub psize-from : 40 ≤ e .psize
   pub psize-to : e .psize ≤ 57344
   pub dsize-from : 1 ≤ e .dsize

@@ -9,6 +9,7 @@ use sector_number::SectorNumber;
 ghost use mathlib.Core.Path.{_≡_};
 ghost use Prim.Native.Nat.{ℕ, _+_, _*_, _/_, _%_, _^_, _≤_, _<_, min};
 ghost use lib.ListN.{length};
+ghost use Rattle.block.specs.Block.{partsOf};
 ghost use Rattle.block.specs.Log.{sectors};
 ghost use Rattle.file.specs.File.{zeroRun, placeIn, leafRun, under, pageAllowed, entryReadable, located, answerOf};
 ghost use Rattle.file.specs.Run.{runOf};
@@ -37,7 +38,7 @@ fn digit(n: u64, p: u64, d: usize) -> u64
 
 // Where byte k of the block that starts at a sector lies in the log.
 fn place_in(first: SectorNumber, k: usize) -> usize
-    requires { ⌜ first .0 + k ≤ 2 ^ 48 ⌝ }
+    requires { ⌜ placeIn (first .0) k < 2 ^ 64 ⌝ }
     ensures { λ r. ⌜ r ≡ placeIn (first .0) k ⌝ }
 {
     SECTOR * (first.0 + k / PAYLOAD) + (LABEL + k % PAYLOAD)
@@ -56,7 +57,7 @@ fn zero_run(page: usize, e: Entry, offset: u64) -> Located
 
 // The run in the leaf of `size` bytes that starts at a sector: stored, up to the end of payload, block or file; past the block's end zeros.
 fn leaf_run(page: usize, e: Entry, offset: u64, first: SectorNumber, size: usize) -> Located
-    requires { ⌜ (0 < e .dsize) × (e .dsize ≤ 57344) × (offset < e .size) × (first .0 ≤ 2 ^ 40) ⌝ }
+    requires { ⌜ (0 < e .dsize) × (offset < e .size) × (512 * (first .0 + partsOf size) < 2 ^ 64) ⌝ }
     ensures { λ r. ⌜ r ≡ leafRun page e offset (first .0) size ⌝ }
 {
     let k = (offset % e.dsize as u64) as usize;
@@ -72,7 +73,7 @@ fn leaf_run(page: usize, e: Entry, offset: u64, first: SectorNumber, size: usize
 // The leaf in which an offset lies, from the score at the top level down; below a zero score it is the empty block. A block that is
 // missing is refused: the look-up's refusal is handed on. So it is for every offset of that leaf.
 pub fn descend(log: &[u8], e: Entry, offset: u64, top: &[u8]) -> Look
-    requires { ⌜ Open (length (now log)) e offset × (length (now top) ≡ 20) ⌝ }
+    requires { ⌜ Open e offset × (length (now top) ≡ 20) ⌝ }
     ensures room { λ r. ⌜ endOf r ≤ sectors (length (now (log .entry))) ⌝ }
     ensures run { λ r. ⌜ ((page o : ℕ) → o / e .dsize ≡ offset / e .dsize → runIn page e o r ≡ under (now (log .entry)) page e o (e .depth) (now (top .entry))) ⌝ }
 {
@@ -106,7 +107,7 @@ pub fn descend(log: &[u8], e: Entry, offset: u64, top: &[u8]) -> Look
 
 // The run in the leaf that was found, or why there is none.
 fn run_in(look: Look, page: usize, e: Entry, offset: u64) -> Located
-    requires { ⌜ (endOf look ≤ 2 ^ 40) × (0 < e .dsize) × (e .dsize ≤ 57344) × (offset < e .size) ⌝ }
+    requires { ⌜ (0 < e .dsize) × (offset < e .size) × (512 * endOf look < 2 ^ 64) ⌝ }
     ensures { λ r. ⌜ r ≡ runIn page e offset look ⌝ }
 {
     match look {

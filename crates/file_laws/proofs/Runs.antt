@@ -36,7 +36,7 @@ least-below a b c = (omega arith, omega arith, omega arith)
 
 pub record Through (log page entry : Bytes) (offset : ℕ) : Type 0 where
   pub zeros : pageAllowed page ≡ true
-  pub bounds : Open (length log) (entryOf entry) offset
+  pub bounds : Open (entryOf entry) offset
   pub is : under log (length page) (entryOf entry) offset ((entryOf entry) .depth) (scoreOf entry) ≡ located log page entry offset
 
 pub through : (log page entry : Bytes) (offset : ℕ) → Answers (located log page entry offset) → Through log page entry offset
@@ -51,7 +51,7 @@ through log page entry offset a =
     let o = ltb-true offset ((entryOf entry) .size) (tested (ltb offset ((entryOf entry) .size)) _ why.Offset d) in
     record {
       zeros = p;
-      bounds = opened (length log) entry (entryOf entry) offset true true (sym l) refl (sym r) refl refl o;
+      bounds = opened entry (entryOf entry) offset true (sym r) refl refl o;
       is = goes-down log page entry offset true (sym l) refl true (sym p) refl true (sym r) refl (entryOf entry) refl o;
     }
 

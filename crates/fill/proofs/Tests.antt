@@ -20,9 +20,8 @@ use Rattle.fill.specs.Fill.{byteOf, byteAt, byteBelow, gathered, Outcome
 use Rattle.fill.proofs.Gather.{gathered-same}
 
 -- further on in the file
-pub open-on : (m : ℕ) (e : Entry) (offset o : ℕ) → Open m e offset → o < e .size → Open m e o
-open-on m e offset o p h = record {
-  log = p .log;
+pub open-on : (e : Entry) (offset o : ℕ) → Open e offset → o < e .size → Open e o
+open-on e offset o p h = record {
   psize-from = p .psize-from;
   psize-to = p .psize-to;
   dsize-from = p .dsize-from;

@@ -54,7 +54,7 @@ fn lesser(a: usize, b: u64) -> usize
 
 // Fills d from an offset on, up to its end or the file's, below the score at the top level.
 fn fill_leaves(log: &[u8], e: Entry, top: &[u8], offset: u64, d: &mut [u8]) -> Filled
-    requires { ⌜ Open (length (now log)) e offset × (length (now top) ≡ 20) ⌝ }
+    requires { ⌜ Open e offset × (length (now top) ≡ 20) ⌝ }
     ensures { λ r. ⌜ outcome r (now (d .exit)) ≡ filledWith (now (d .entry)) (gathered (byteBelow (now (log .entry)) e (now (top .entry))) (min (length (now (d .entry))) (e .size - offset)) offset) ⌝ }
 {
     let none = [0u8; 0];

@@ -63,7 +63,7 @@ located-small log page b offset =
     (λ p. cond-ind Small (pageAllowed page) _ _
     (λ _. cond-ind Small (entryReadable b) _ _
     (λ q. cond-ind Small (ltb offset ((entryOf b) .size)) _ _
-    (λ o. let w = opened (length log) b (entryOf b) offset _ _ refl p refl q refl (ltb-true offset ((entryOf b) .size) o) in
+    (λ o. let w = opened b (entryOf b) offset _ refl q refl (ltb-true offset ((entryOf b) .size) o) in
     under-small log (length page) (entryOf b) offset (allowed-sectors (length log) _ refl p) (w .dsize-to) ((entryOf b) .depth) (scoreOf b))
     (λ _. omega arith))
     (λ _. omega arith))

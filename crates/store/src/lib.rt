@@ -6,7 +6,7 @@ use refusal::Refusal;
 use sector::SECTOR;
 use sector_number::SectorNumber;
 ghost use mathlib.Core.Path.{_≡_};
-ghost use Prim.Native.Nat.{_+_, _≤_, _^_};
+ghost use Prim.Native.Nat.{_+_, _≤_};
 ghost use lib.ListN.{length};
 ghost use Rattle.sha1.specs.Sha1.{sha1Of};
 ghost use Rattle.block.specs.Block.{partsOf};
@@ -47,7 +47,7 @@ fn compare(log: &[u8], first: SectorNumber, size: usize, data: &[u8]) -> Stored
 
 // Stores a block of a type.
 pub fn store(log: &mut [u8], kind: u8, data: &[u8]) -> Receipt
-    requires { ⌜ (sectors (length (now log)) ≤ 16 ^ 8) × (length (now «data») ≤ 57344) ⌝ }
+    requires { ⌜ length (now «data») ≤ 57344 ⌝ }
     ensures { λ r. ⌜ afterStore r (now (log .exit)) ≡ storeOf (now (log .entry)) kind (now («data» .entry)) ⌝ }
 {
     let score = sha1::sha1(data);

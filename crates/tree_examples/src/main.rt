@@ -41,9 +41,6 @@ fn begin(log: &mut [u8], name: &[u8]) {
 
 // Stores a block; its score.
 fn put(log: &mut [u8], kind: u8, data: &[u8]) -> [u8; 20] {
-    if 65024 < log.len() {
-        return kind::zero_score();
-    }
     if 57344 < data.len() {
         return kind::zero_score();
     }

@@ -75,7 +75,7 @@ pub fn root_bytes(log: &[u8], first: SectorNumber, size: usize) -> [u8; 300]
 
 // A visit: refusal 20, then 21, then one is spent, then the look-up and its count.
 pub fn visit(log: &[u8], nest: usize, left: usize, kind: u8, count: usize, score: &[u8]) -> Met
-    requires { ⌜ (sectors (length (now log)) ≤ 16 ^ 8) × (length (now score) ≡ 20) ⌝ }
+    requires { ⌜ length (now score) ≡ 20 ⌝ }
     ensures { λ r. ⌜ r ≡ metOf (now (log .entry)) nest left kind count (now (score .entry)) ⌝ }
 {
     if 16 < nest {
@@ -106,7 +106,7 @@ pub fn visit_level(
     nest: usize,
     left: usize,
 ) -> Met
-    requires { ⌜ (sectors (length (now log)) ≤ 16 ^ 8) × (length (now score) ≡ 20) × (level ≤ 7) ⌝ }
+    requires { ⌜ (length (now score) ≡ 20) × (level ≤ 7) ⌝ }
     ensures { λ r. ⌜ r ≡ metOf (now (log .entry)) nest left (typeAt e level) (countAt e level) (now (score .entry)) ⌝ }
 {
     visit(

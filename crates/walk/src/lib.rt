@@ -5,9 +5,8 @@ use refusal::Refusal;
 use visit::End;
 use visit::Walked;
 ghost use mathlib.Core.Path.{_≡_};
-ghost use Prim.Native.Nat.{_≤_, _^_};
+ghost use Prim.Native.Nat.{_≤_};
 ghost use lib.ListN.{length};
-ghost use Rattle.block.specs.Log.{sectors};
 ghost use Rattle.visit.specs.Visit.{endNumber};
 ghost use Rattle.walk.specs.Walk.{walkTop, walkRoot, walkOf};
 
@@ -23,7 +22,7 @@ pub fn number(end: End) -> u8
 
 // Visits a root's directory block, and what is below it.
 fn walk_top(log: &[u8], score: &[u8], left: usize) -> Walked
-    requires { ⌜ (sectors (length (now log)) ≤ 16 ^ 8) × (length (now score) ≡ 20) ⌝ }
+    requires { ⌜ length (now score) ≡ 20 ⌝ }
     ensures within { λ r. ⌜ r .visits ≤ left ⌝ }
     ensures exact { λ r. ⌜ r ≡ walkTop (now (log .entry)) (now (score .entry)) left ⌝ }
 {
@@ -37,7 +36,7 @@ fn walk_top(log: &[u8], score: &[u8], left: usize) -> Walked
 
 // Visits a root, and what is below it. The score of the root before it isn't followed.
 fn walk_root(log: &[u8], score: &[u8], left: usize) -> Walked
-    requires { ⌜ (sectors (length (now log)) ≤ 16 ^ 8) × (length (now score) ≡ 20) ⌝ }
+    requires { ⌜ length (now score) ≡ 20 ⌝ }
     ensures { λ r. ⌜ r ≡ walkRoot (now (log .entry)) (now (score .entry)) left ⌝ }
 {
     let m = visit::visit(log, 0, left, 1, 300, score);

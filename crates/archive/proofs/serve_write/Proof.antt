@@ -1,12 +1,11 @@
 -- `archive::serve_write` meets its contract: a case for each return.
-use mathlib.Core.Path.{refl, ap, _∙_}
+use mathlib.Core.Path.{ap, _∙_}
 use lib.ListN.{length, length-drop}
 use Rattle.log.specs.Store.{store}
 use Rattle.archive.proofs.Laws.{part-rest, write-kind, write-long, write-stored}
 use native.Mathlib.Omega.{arith}
 use borrow.Author.Tests.{not-true, not-false}
 use Rattle.message.proofs.Requests.{write-length, write-data}
-use Rattle.lookup.proofs.Laws.{allowed-sectors}
 use borrow.Author.Needs.{needs}
 use Rattle.archive.proofs.serve_write.Statement.{statement}
 use Rattle.archive.proofs.serve_write.Tie as tie
@@ -50,7 +49,7 @@ part-store-end c = search needs
 store-requires : tie.Need-store-requires
 store-requires c κs =
     let m = (c .before .before .before .before .before .before .before .before .before .args .message .now) in
-    (omega (arith, allowed-sectors _ _ refl (c .before .before .before .before .before .before .before .before .before .pre .1)), omega (arith, ap length (part-rest m 8), length-drop 8 m, (c .before .before .if2 .left)))
+    omega (arith, ap length (part-rest m 8), length-drop 8 m, (c .before .before .if2 .left))
 
 answer-store-requires : tie.Need-answer-store-requires
 answer-store-requires c κs = search needs

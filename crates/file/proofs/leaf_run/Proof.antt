@@ -1,6 +1,6 @@
 -- `file::leaf_run` meets its contract: stored bytes, or zeros past the end of the block.
 use mathlib.Core.Path.{ap₂, _∙_}
-use native.Mathlib.Nat.{mod-lt}
+use Rattle.tree.proofs.Pieces.{part-of}
 use native.Mathlib.Omega.{arith}
 use Rattle.file.specs.declared.Located.the-variants.{Stored}
 use Rattle.file.proofs.Steps.{leaf-past, leaf-in}
@@ -22,7 +22,7 @@ returns c =
     (zero-run .ensures) ∙ leaf-past (a .page) (a .e) (a .offset) (a .first .0) (a .size) (if1 .taken)
 
 place-in-requires : tie.Need-place-in-requires
-place-in-requires c κs = omega (arith, mod-lt (c .before .args .offset) (c .before .pre .0))
+place-in-requires c κs = omega (arith, part-of (c .before .args .size) _ (c .if1 .left))
 
 sub-least : tie.Need-sub-least
 sub-least c = search needs

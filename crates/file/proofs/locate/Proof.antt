@@ -77,32 +77,29 @@ part-descend-end c =
 descend-requires : tie.Need-descend-requires
 descend-requires c κs =
     let a = c .before .before .before .before .before .before .before .before .before .before .before .before .before .args in
-    let is-allowed = c .before .before .before .before .before .before .before .before .before .is-allowed in
-    let if1 = c .before .before .before .before .before .before .before .before .if1 in
     let is-readable = c .before .before .before .before .before .is-readable in
     let if3 = c .before .before .before .before .if3 in
     let entry-at = c .before .before .before .entry-at in
     let if4 = c .before .if4 in
     let l = readable-length (a .entry .now) _ (is-readable .ensures) (not-false _ (if3 .left)) in
     let whole = entry-whole (a .entry .now) _ l (entry-at .ensures) in (
-      opened _ (a .entry .now) _ (a .offset) _ _ (is-allowed .ensures) (not-false _ (if1 .left)) (is-readable .ensures) (not-false _ (if3 .left)) whole (if4 .left),
+      opened (a .entry .now) _ (a .offset) _ (is-readable .ensures) (not-false _ (if3 .left)) whole (if4 .left),
       simp (length-take, length-drop) (omega (arith, l)),
     )
 
 run-in-requires : tie.Need-run-in-requires
 run-in-requires c κs =
-    let a = c .before .before .before .before .before .before .before .before .before .before .before .before .before .before .args in
-    let is-allowed = c .before .before .before .before .before .before .before .before .before .before .is-allowed in
-    let if1 = c .before .before .before .before .before .before .before .before .before .if1 in
+    let start = c .before .before .before .before .before .before .before .before .before .before .before .before .before .before in
+    let a = start .args in
     let is-readable = c .before .before .before .before .before .before .is-readable in
     let if3 = c .before .before .before .before .before .if3 in
     let entry-at = c .before .before .before .before .entry-at in
     let if4 = c .before .before .if4 in
     let descend = c .descend in
     let l = readable-length (a .entry .now) _ (is-readable .ensures) (not-false _ (if3 .left)) in
-    let o = opened _ (a .entry .now) _ (a .offset) _ _ (is-allowed .ensures) (not-false _ (if1 .left)) (is-readable .ensures) (not-false _ (if3 .left))
+    let o = opened (a .entry .now) _ (a .offset) _ (is-readable .ensures) (not-false _ (if3 .left))
     (entry-whole (a .entry .now) _ l (entry-at .ensures)) (if4 .left) in
-    (omega (arith, descend .ensures .0, o .log), o .dsize-from, o .dsize-to, o .inside)
+    (o .dsize-from, o .inside, omega (arith, descend .ensures .0, start .good .0 .0))
 
 returns-5 : tie.Need-returns-5
 returns-5 c =

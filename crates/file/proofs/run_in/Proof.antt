@@ -13,7 +13,7 @@ enum-known-look c = search needs
 leaf-run-requires : tie.Need-leaf-run-requires
 leaf-run-requires c κs =
     let p = c .before .before .before .pre in
-    (p .1, p .2, p .3, omega (arith, p .0, ap endOf (c .before .look .given .1)))
+    (p .0, p .1, omega (arith, p .2, ap endOf (c .before .look .given .1)))
 
 enum-known-look-2 : tie.Need-enum-known-look-2
 enum-known-look-2 c = search needs

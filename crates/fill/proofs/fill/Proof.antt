@@ -67,15 +67,13 @@ part-fill-leaves-end c =
 fill-leaves-requires : tie.Need-fill-leaves-requires
 fill-leaves-requires c κs =
     let a = c .before .before .before .before .before .before .before .before .before .before .before .before .args in
-    let is-allowed = c .before .before .before .before .before .before .before .before .is-allowed in
-    let if1 = c .before .before .before .before .before .before .before .if1 in
     let is-readable = c .before .before .before .before .before .before .is-readable in
     let if2 = c .before .before .before .before .before .if2 in
     let entry-at = c .before .before .before .before .entry-at in
     let if3 = c .before .before .if3 in
     let l = readable-length (a .entry .now) _ (is-readable .ensures) (not-false _ (if2 .left)) in
     let whole = entry-whole (a .entry .now) _ l (entry-at .ensures) in (
-      opened _ (a .entry .now) _ (a .offset) _ _ (is-allowed .ensures) (not-false _ (if1 .left)) (is-readable .ensures) (not-false _ (if2 .left)) whole (if3 .left),
+      opened (a .entry .now) _ (a .offset) _ (is-readable .ensures) (not-false _ (if2 .left)) whole (if3 .left),
       simp (length-take, length-drop) (omega (arith, l)),
     )
 

@@ -40,7 +40,7 @@ descend-requires c κs =
     let lesser = c .before .before .lesser in
     let loop-test = c .loop-test in
     let short : (lesser .result) ≤ a .e .size - a .offset = omega (arith, (lesser .ensures)) in
-    (open-on _ (a .e) (a .offset) _ (p .0) (omega (arith, (loop-test .taken), short)), p .1)
+    (open-on (a .e) (a .offset) _ (p .0) (omega (arith, (loop-test .taken), short)), p .1)
 
 enum-known-look : tie.Need-enum-known-look Inv-loop μ-loop
 enum-known-look c = search needs

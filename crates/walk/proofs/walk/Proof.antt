@@ -1,9 +1,6 @@
 -- `walk::walk` meets its contract: tests 3 and 23, then the root.
-use native.Mathlib.Omega.{arith}
-use lib.ListN.{length}
 use borrow.Author.Needs.{needs}
 use borrow.Author.Tests.{not-true, not-false}
-use Rattle.lookup.proofs.Laws.{allowed-sectors}
 use Rattle.walk.proofs.FromRoot.{log-not-allowed, allowance-too-large, tests-passed}
 use Rattle.walk.proofs.walk.Statement.{statement}
 use Rattle.walk.proofs.walk.Tie as tie
@@ -24,11 +21,6 @@ refused-by-allowance c =
     let a = start t .args in
     allowance-too-large (a .log .now) (a .score .now) (a .allowance) _ (t .is-allowed .ensures) (not-false _ (c .before .if1 .left)) (c .if2 .taken)
 
-walk-root-requires : tie.Need-walk-root-requires
-walk-root-requires c κs =
-    let t = c .before .before .before in
-    (omega (arith, allowed-sectors (length (start t .args .log .now)) _ (t .is-allowed .ensures) (not-false _ (c .before .before .if1 .left))), search needs)
-
 from-root : tie.Need-returns-3
 from-root c =
     let i = c .before .before .before in
@@ -43,5 +35,5 @@ walk-spec =
     (λ c κs. search needs)  -- is-allowed-requires
     refused-by-log
     refused-by-allowance
-    walk-root-requires
+    (λ c κs. search needs)  -- walk-root-requires
     from-root)

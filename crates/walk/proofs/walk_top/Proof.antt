@@ -26,7 +26,7 @@ some-left : tie.Need-sub-visit-directory
 some-left c = omega (arith, found (c .before) .some-left)
 
 visit-directory-requires : tie.Need-visit-directory-requires
-visit-directory-requires c κs = let k = found (c .before) in (search needs, k .in-log, k .not-many, k .not-deep)
+visit-directory-requires c κs = let k = found (c .before) in (k .in-log, k .not-many, k .not-deep)
 
 below : tie.Need-returns-2
 below c = rw (c .one-more .ensures) (top-found (found (c .before .before .before)) _ (c .before .visit-directory .ensures))

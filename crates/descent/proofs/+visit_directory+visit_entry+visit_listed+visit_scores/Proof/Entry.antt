@@ -34,7 +34,7 @@ module _ (t : ℕ) where
   visit-directory-requires c κs =
       let k = c .before .before .before .before in
       let b = block-known (met (k .before .before)) (k .look .given .1) in
-      (omega (arith, b .some-left), (search needs, b .in-log, b .not-many, b .not-deep))
+      (omega (arith, b .some-left), (b .in-log, b .not-many, b .not-deep))
 
   one-more-requires : lts.Need-one-more-requires (entry-calls t) (entry-at-measure t) Post
   one-more-requires c κs =
@@ -58,7 +58,7 @@ module _ (t : ℕ) where
   visit-scores-requires c κs =
       let k = c .before .before .before in
       let b = block-known (met (k .before .before)) (k .look .given .1) in
-      (omega (arith, b .some-left), (search needs, b .in-log, b .not-many, c .if3 .left, omega arith))
+      (omega (arith, b .some-left), (b .in-log, b .not-many, c .if3 .left, omega arith))
 
   one-more-requires-2 : lts.Need-one-more-requires-2 (entry-calls t) (entry-at-measure t) Post
   one-more-requires-2 c κs =

@@ -19,7 +19,7 @@ module _ (t : ℕ) where
   here : (c : lts.After-entry-at (listed-calls t) (listed-at t) Post)
       → let a = start (c .before .before) .args in
       EntryRead (bytesAt (a .log .now) (a .first .0) (a .size)) (a .i) (c .before .before .entry-bytes .result) (c .entry-at .result)
-  here c = entry-read _ _ _ _ (start (c .before .before) .pre .1 .4) (c .before .before .entry-bytes .ensures) (c .entry-at .ensures)
+  here c = entry-read _ _ _ _ (start (c .before .before) .pre .1 .3) (c .before .before .entry-bytes .ensures) (c .entry-at .ensures)
 
   skipped : lts.Need-returns (listed-calls t) (listed-at t) Post
   skipped c = (omega arith, λ f l. inactive-is-skipped (here (c .before .before)) (not-true _ (c .if1 .taken)) f _ _ _)
@@ -32,7 +32,7 @@ module _ (t : ℕ) where
   visit-entry-requires : lts.Need-visit-entry-requires (listed-calls t) (listed-at t) Post
   visit-entry-requires c κs =
       let r = here (c .before .before .before .before .before .before .before) in
-      (omega arith, (search needs, score-of-20 r, depth-at-most-7 r))
+      (omega arith, (score-of-20 r, depth-at-most-7 r))
 
   visited : lts.Need-returns-3 (listed-calls t) (listed-at t) Post
   visited c =

@@ -28,7 +28,7 @@ module _ (t : ℕ) where
   visit-entry-requires : lts.Need-visit-entry-requires (scores-calls t) (scores-at t) Post Inv μ
   visit-entry-requires c κs =
       let f = start (c .before .before .before) in
-      (omega arith, (search needs, score-of-20 _ (f .args .first .0) (f .args .size) _ (c .before .score-bytes .ensures) (f .pre .1 .3), search needs))
+      (omega arith, (score-of-20 _ (f .args .first .0) (f .args .size) _ (c .before .score-bytes .ensures) (f .pre .1 .2), search needs))
 
   refused : lts.Need-returns (scores-calls t) (scores-at t) Post Inv μ
   refused c =
