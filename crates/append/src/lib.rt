@@ -7,6 +7,7 @@ ghost use mathlib.Core.Path.{_≡_};
 ghost use Prim.Native.Nat.{_+_, _*_, _≤_, _<_, min};
 ghost use lib.ListN.{length};
 ghost use Rattle.buffer.specs.Bytes.{put};
+ghost use Rattle.kind.specs.Kind.{longest};
 ghost use Rattle.block.specs.Block.{partsOf, image, images, written};
 ghost use Rattle.block.specs.Log.{sectors};
 ghost use Rattle.append.specs.Append.{rowOf};
@@ -20,7 +21,7 @@ fn smaller(a: usize, b: usize) -> usize
 
 // Writes sector k of a block to its place in a part of the log that starts where the block does; the rest of the part stays.
 fn write_part(part: &mut [u8], first: SectorNumber, kind: u8, score: &[u8], data: &[u8], k: usize)
-    requires { ⌜ (length (now «data») ≤ 57344) × (length (now score) ≡ 20) × (512 * partsOf (length (now «data»)) ≤ length (now part)) × (k < partsOf (length (now «data»))) ⌝ }
+    requires { ⌜ (length (now «data») ≤ longest) × (length (now score) ≡ 20) × (512 * partsOf (length (now «data»)) ≤ length (now part)) × (k < partsOf (length (now «data»))) ⌝ }
     ensures { λ _. ⌜ now (part .exit) ≡ put (now (part .entry)) (512 * k) (image (rowOf kind (now (score .entry)) (now («data» .entry)) (first .0)) k) ⌝ }
 {
     let next = k + 1;
@@ -42,7 +43,7 @@ fn write_part(part: &mut [u8], first: SectorNumber, kind: u8, score: &[u8], data
 
 // Writes the sectors of a block to the front of a part of the log; the rest of the part stays.
 fn write_parts(part: &mut [u8], first: SectorNumber, kind: u8, score: &[u8], data: &[u8])
-    requires { ⌜ (length (now «data») ≤ 57344) × (length (now score) ≡ 20) × (512 * partsOf (length (now «data»)) ≤ length (now part)) ⌝ }
+    requires { ⌜ (length (now «data») ≤ longest) × (length (now score) ≡ 20) × (512 * partsOf (length (now «data»)) ≤ length (now part)) ⌝ }
     ensures { λ _. ⌜ now (part .exit) ≡ put (now (part .entry)) 0 (images (rowOf kind (now (score .entry)) (now («data» .entry)) (first .0)) (partsOf (length (now («data» .entry)))) 0) ⌝ }
 {
     let count = block::parts_of(data.len());
@@ -55,7 +56,7 @@ fn write_parts(part: &mut [u8], first: SectorNumber, kind: u8, score: &[u8], dat
 
 // Writes a block to the log from sector `first` on: that part of the log is lent on, and no other byte changes.
 pub fn append_block(log: &mut [u8], first: SectorNumber, kind: u8, score: &[u8], data: &[u8])
-    requires { ⌜ (length (now «data») ≤ 57344) × (length (now score) ≡ 20) × (first .0 + partsOf (length (now «data»)) ≤ sectors (length (now log))) ⌝ }
+    requires { ⌜ (length (now «data») ≤ longest) × (length (now score) ≡ 20) × (first .0 + partsOf (length (now «data»)) ≤ sectors (length (now log))) ⌝ }
     ensures { λ _. ⌜ now (log .exit) ≡ written (now (log .entry)) (rowOf kind (now (score .entry)) (now («data» .entry)) (first .0)) ⌝ }
 {
     let at = first.0 * SECTOR;

@@ -1,5 +1,5 @@
 -- The cases of a request, one for each return of the code.
-use mathlib.Core.Path.{_≡_, refl, sym, ap, _∙_}
+use mathlib.Core.Path.{_≡_, refl, sym, ap, ap₂, _∙_}
 use mathlib.Core.Bool.{Bool, true, false}
 use mathlib.Core.List.{[], _∷_, _++_, append-nil}
 use mathlib.Core.Logic.{inl, inr, ⊎-elim}
@@ -11,7 +11,7 @@ use types.Run.{OneOf}
 use denote.Enum.Declared.{tagOf as variant}
 use borrow.Author.Tests.{lt-ltb, le-ltb}
 use lib.ListN.{length, take, drop, length-drop, drop-of-length-le}
-use lib.Seq.{take-length, drop-drop}
+use lib.Seq.{drop-drop}
 use Rattle.buffer.specs.Bytes.{Bytes, same, put}
 use Rattle.refusal.specs.declared.Refusal.{Refusal}
 use Rattle.refusal.specs.declared.Refusal.the-variants.{Frame, Buffer, LogLength, Hello as BadHello, BlockType, DataLength}
@@ -28,12 +28,13 @@ use Rattle.log.specs.Store.{AfterStore, afterStore, store}
 use Rattle.log.proofs.Stored.{the-type}
 use Rattle.reader.specs.Reader.{bytesAt}
 use Rattle.reader.proofs.Pieces.{length-bytes}
-use Rattle.message.specs.Message.{framed, tagOf, versionOf, requestOf}
+use Rattle.message.specs.Message.{framed, tagOf, versionOf, scoreOf, dataOf, requestOf}
 use Rattle.message.specs.Reply.{reply, answered, helloReply, readReply, writeReply}
 use Rattle.message.specs.declared.Request.{Request}
 use Rattle.message.specs.declared.Request.the-variants.{Hello}
 use Rattle.buffer.proofs.Put.{put-none}
 use Rattle.message.proofs.Replies.{head, head-body}
+use Rattle.message.proofs.Requests.{part-rest}
 use Rattle.archive.specs.declared.Session.{Session}
 use Rattle.archive.specs.declared.Session.the-variants.{Fresh, Greeted}
 use Rattle.archive.specs.Step.{Outcome, whole, silent, refused, granted, replyRoom, version, read, written, write, fresh, greeted, inSession, step}
@@ -47,10 +48,6 @@ outcome n k s log x y p q = λ i. record { number = p i; session = s; log = log;
 -- a head and nothing after it
 pub bodiless : (buffer x : Bytes) (kind tag : ℕ) → x ≡ put buffer 0 (head kind tag 0) → x ≡ answered buffer (reply kind tag [])
 bodiless buffer x kind tag e = e ∙ sym (put-none (put buffer 0 (head kind tag 0)) 4) ∙ head-body buffer kind tag []
-
--- what lies from k on, as a part up to the end
-pub part-rest : (b : Bytes) (k : ℕ) → take (length b - k) (drop k b) ≡ drop k b
-part-rest b k = rw (← length-drop k b) (take-length (drop k b))
 
 -- bytes written to the front of what lies from k on
 put-after : (b s : Bytes) (k : ℕ) → take k b ++ (put (take (length b - k) (drop k b)) 0 s ++ drop (length b - k) (drop k b)) ≡ put b k s
@@ -161,10 +158,21 @@ module _ (s : Session) (m log buffer : Bytes) (b : Bool) (e : b ≡ framed m) wh
       unfolding step
       step-in p t o d z = rw (sym e ∙ q, le-ltb (length buffer) replyRoom h, sym g ∙ p) (z ∙ ap (λ (x : Session). inSession x m log buffer) (sym d))
 
--- ---- by what a message asks
+-- ---- by what a message asks and its fields, as they were taken from it
 
-pub fresh-as : (m log buffer : Bytes) (q p : Request) (o : Outcome) → q ≡ requestOf m → q ≡ p → o ≡ fresh p (tagOf m) m log buffer → o ≡ fresh (requestOf m) (tagOf m) m log buffer
-fresh-as m log buffer q p o e d h = h ∙ ap (λ (x : Request). fresh x (tagOf m) m log buffer) (sym d ∙ e)
+module _ (m log buffer : Bytes) (q p : Request) (tag : ℕ) (o : Outcome) (e : q ≡ requestOf m) (d : q ≡ p) (t : tag ≡ tagOf m) where
+  pub fresh-as : o ≡ fresh p tag m log buffer → o ≡ fresh (requestOf m) (tagOf m) m log buffer
+  fresh-as h = h ∙ ap₂ (λ (x : Request) (y : ℕ). fresh x y m log buffer) (sym d ∙ e) t
 
-pub greeted-as : (m log buffer : Bytes) (q p : Request) (o : Outcome) → q ≡ requestOf m → q ≡ p → o ≡ greeted p (tagOf m) m log buffer → o ≡ greeted (requestOf m) (tagOf m) m log buffer
-greeted-as m log buffer q p o e d h = h ∙ ap (λ (x : Request). greeted x (tagOf m) m log buffer) (sym d ∙ e)
+  pub greeted-as : o ≡ greeted p tag m log buffer → o ≡ greeted (requestOf m) (tagOf m) m log buffer
+  greeted-as h = h ∙ ap₂ (λ (x : Request) (y : ℕ). greeted x y m log buffer) (sym d ∙ e) t
+
+module _ (m log buffer : Bytes) (tag : ℕ) (o : Outcome) (t : tag ≡ tagOf m) where
+  pub hello-as : o ≡ fresh Hello tag m log buffer → o ≡ fresh Hello (tagOf m) m log buffer
+  hello-as h = h ∙ ap (λ (x : ℕ). fresh Hello x m log buffer) t
+
+  pub read-as : (kind count : ℕ) (score : Bytes) → score ≡ scoreOf m → o ≡ read kind count tag score log buffer → o ≡ read kind count (tagOf m) (scoreOf m) log buffer
+  read-as kind count score s h = h ∙ ap₂ (λ (x : ℕ) (y : Bytes). read kind count x y log buffer) t s
+
+  pub write-as : (kind : ℕ) (d : Bytes) → d ≡ dataOf m → o ≡ write kind tag d log buffer → o ≡ write kind (tagOf m) (dataOf m) log buffer
+  write-as kind d s h = h ∙ ap₂ (λ (x : ℕ) (y : Bytes). write kind x y log buffer) t s

@@ -13,6 +13,7 @@ ghost use mathlib.Core.List.{[]};
 ghost use Prim.Native.Nat.{_+_, _≤_};
 ghost use lib.ListN.{length};
 ghost use Rattle.buffer.specs.Bytes.{Bytes};
+ghost use Rattle.kind.specs.Kind.{longest};
 ghost use Rattle.log.specs.LookUp.{logAllowed};
 ghost use Rattle.block.specs.Block.{partsOf};
 ghost use Rattle.block.specs.Log.{sectors};
@@ -22,7 +23,10 @@ ghost use Rattle.message.specs.Reply.{readReply};
 ghost use Rattle.message.specs.Reply.{reply as replyOf};
 ghost use Rattle.message.specs.declared.Request.the-variants.{Hello, Read, Write};
 ghost use Rattle.archive.specs.declared.Session.the-variants.{Greeted, Closed as Shut};
-ghost use Rattle.archive.specs.Step.{whole, silent, refused, granted, read, written, write, fresh, greeted, step};
+ghost use Rattle.archive.specs.Step.{replyRoom, whole, silent, refused, granted, read, written, write, fresh, greeted, step};
+
+// The least length of a reply buffer.
+pub const REPLY_ROOM: usize = 57348;
 
 // A session: open with no hello yet, greeted, or closed.
 pub enum Session {
@@ -49,7 +53,7 @@ fn refuse_silently(why: Refusal, session: Session) -> Answer
 
 // A refusal with its error reply.
 fn refuse(why: Refusal, tag: u8, session: Session, reply: &mut [u8]) -> Answer
-    requires { ⌜ 57348 ≤ length (now reply) ⌝ }
+    requires { ⌜ replyRoom ≤ length (now reply) ⌝ }
     ensures { λ r. ⌜ ((log : Bytes) → whole r log (now (reply .exit)) ≡ refused why tag session log (now (reply .entry))) ⌝ }
 {
     message::write_error(reply, tag, why);
@@ -61,7 +65,7 @@ fn refuse(why: Refusal, tag: u8, session: Session, reply: &mut [u8]) -> Answer
 
 // A reply that has no body, in a greeted session.
 fn acknowledge(kind: u8, tag: u8, reply: &mut [u8]) -> Answer
-    requires { ⌜ 57348 ≤ length (now reply) ⌝ }
+    requires { ⌜ replyRoom ≤ length (now reply) ⌝ }
     ensures { λ r. ⌜ ((log : Bytes) → whole r log (now (reply .exit)) ≡ granted (replyOf kind tag []) Greeted log (now (reply .entry))) ⌝ }
 {
     message::write_head(reply, kind, tag, 0);
@@ -83,15 +87,14 @@ fn close() -> Answer
 
 // A hello in a fresh session.
 fn greet(message: &[u8], reply: &mut [u8]) -> Answer
-    requires { ⌜ (4 ≤ length (now message)) × (57348 ≤ length (now reply)) ⌝ }
+    requires { ⌜ (4 ≤ length (now message)) × (replyRoom ≤ length (now reply)) ⌝ }
     ensures { λ r. ⌜ ((log : Bytes) → whole r log (now (reply .exit)) ≡ fresh Hello (tagOf (now (message .entry))) (now (message .entry)) log (now (reply .entry))) ⌝ }
 {
-    let tag = message[3];
+    let tag = message::tag_of(message);
     if !message::is_version(message) {
         return refuse(Refusal::Hello, tag, Session::Fresh, reply);
     }
-    let body = [0u8; 4];
-    message::write_reply(reply, 5, tag, &body);
+    message::write_hello(reply, tag);
     Answer {
         number: 0,
         session: Session::Greeted,
@@ -100,10 +103,10 @@ fn greet(message: &[u8], reply: &mut [u8]) -> Answer
 
 // A request in a fresh session.
 fn serve_fresh(message: &[u8], reply: &mut [u8]) -> Answer
-    requires { ⌜ (4 ≤ length (now message)) × (57348 ≤ length (now reply)) ⌝ }
+    requires { ⌜ (4 ≤ length (now message)) × (replyRoom ≤ length (now reply)) ⌝ }
     ensures { λ r. ⌜ ((log : Bytes) → whole r log (now (reply .exit)) ≡ fresh (requestOf (now (message .entry))) (tagOf (now (message .entry))) (now (message .entry)) log (now (reply .entry))) ⌝ }
 {
-    let tag = message[3];
+    let tag = message::tag_of(message);
     let request = message::parse(message);
     match request {
         Request::Unknown => refuse(Refusal::MessageType, tag, Session::Fresh, reply),
@@ -119,13 +122,13 @@ fn serve_fresh(message: &[u8], reply: &mut [u8]) -> Answer
 
 // The reply to a read of the block at a place.
 fn answer_read(log: &[u8], first: SectorNumber, size: usize, tag: u8, reply: &mut [u8]) -> Answer
-    requires { ⌜ (first .0 + partsOf size ≤ sectors (length (now log))) × (size ≤ 57344) × (57348 ≤ length (now reply)) ⌝ }
+    requires { ⌜ (first .0 + partsOf size ≤ sectors (length (now log))) × (size ≤ longest) × (replyRoom ≤ length (now reply)) ⌝ }
     ensures { λ r. ⌜ whole r (now (log .entry)) (now (reply .exit)) ≡ granted (readReply tag (bytesAt (now (log .entry)) (first .0) size)) Greeted (now (log .entry)) (now (reply .entry)) ⌝ }
 {
-    message::write_head(reply, 13, tag, size);
+    message::write_head(reply, message::READ_REPLY, tag, size);
     let none = [0u8; 0];
     let end = SectorNumber(log.len() / SECTOR);
-    reader::copy_out(log, end, &none, first, size, &mut reply[4..]);
+    reader::copy_out(log, end, &none, first, size, &mut reply[message::HEAD..]);
     Answer {
         number: 0,
         session: Session::Greeted,
@@ -134,15 +137,15 @@ fn answer_read(log: &[u8], first: SectorNumber, size: usize, tag: u8, reply: &mu
 
 // A read: test 9, the look-up, test 13.
 fn serve_read(message: &[u8], log: &[u8], reply: &mut [u8], kind: u8, count: usize) -> Answer
-    requires { ⌜ (requestOf (now message) ≡ Read kind count) × (logAllowed (length (now log)) ≡ true) × (57348 ≤ length (now reply)) ⌝ }
+    requires { ⌜ (requestOf (now message) ≡ Read kind count) × (logAllowed (length (now log)) ≡ true) × (replyRoom ≤ length (now reply)) ⌝ }
     ensures { λ r. ⌜ whole r (now (log .entry)) (now (reply .exit)) ≡ read kind count (tagOf (now (message .entry))) (scoreOf (now (message .entry))) (now (log .entry)) (now (reply .entry)) ⌝ }
 {
-    let tag = message[3];
+    let tag = message::tag_of(message);
     if !kind::is_lawful(kind) {
         return refuse(Refusal::BlockType, tag, Session::Greeted, reply);
     }
     let none = [0u8; 0];
-    let look = lookup::fetch(log, &none, kind, &message[4..24], count);
+    let look = lookup::fetch(log, &none, kind, message::score_of(message), count);
     match look {
         Look::Found { first, size } => answer_read(log, first, size, tag, reply),
         Look::Refused(why) => refuse(why, tag, Session::Greeted, reply),
@@ -151,7 +154,7 @@ fn serve_read(message: &[u8], log: &[u8], reply: &mut [u8], kind: u8, count: usi
 
 // The reply to a write, by what the store did.
 fn answer_store(receipt: Receipt, tag: u8, reply: &mut [u8]) -> Answer
-    requires { ⌜ 57348 ≤ length (now reply) ⌝ }
+    requires { ⌜ replyRoom ≤ length (now reply) ⌝ }
     ensures { λ r. ⌜ ((log : Bytes) → whole r log (now (reply .exit)) ≡ written (receipt .stored) tag (receipt .score) log (now (reply .entry))) ⌝ }
 {
     let score = receipt.score;
@@ -159,7 +162,7 @@ fn answer_store(receipt: Receipt, tag: u8, reply: &mut [u8]) -> Answer
     if let Stored::Refused(why) = stored {
         return refuse(why, tag, Session::Greeted, reply);
     }
-    message::write_reply(reply, 15, tag, &score);
+    message::write_reply(reply, message::WRITE_REPLY, tag, &score);
     Answer {
         number: 0,
         session: Session::Greeted,
@@ -168,34 +171,35 @@ fn answer_store(receipt: Receipt, tag: u8, reply: &mut [u8]) -> Answer
 
 // A write: tests 9 and 10, then the store.
 fn serve_write(message: &[u8], log: &mut [u8], reply: &mut [u8], kind: u8) -> Answer
-    requires { ⌜ (requestOf (now message) ≡ Write kind) × (logAllowed (length (now log)) ≡ true) × (57348 ≤ length (now reply)) ⌝ }
+    requires { ⌜ (requestOf (now message) ≡ Write kind) × (logAllowed (length (now log)) ≡ true) × (replyRoom ≤ length (now reply)) ⌝ }
     ensures { λ r. ⌜ whole r (now (log .exit)) (now (reply .exit)) ≡ write kind (tagOf (now (message .entry))) (dataOf (now (message .entry))) (now (log .entry)) (now (reply .entry)) ⌝ }
 {
-    let tag = message[3];
+    let tag = message::tag_of(message);
     if !kind::is_lawful(kind) {
         return refuse(Refusal::BlockType, tag, Session::Greeted, reply);
     }
-    if LONGEST < message.len() - 8 {
+    let data = message::data_of(message);
+    if LONGEST < data.len() {
         return refuse(Refusal::DataLength, tag, Session::Greeted, reply);
     }
-    let receipt = store::store(log, kind, &message[8..]);
+    let receipt = store::store(log, kind, data);
     answer_store(receipt, tag, reply)
 }
 
 // A request in a greeted session.
 fn serve_greeted(message: &[u8], log: &mut [u8], reply: &mut [u8]) -> Answer
-    requires { ⌜ (4 ≤ length (now message)) × (logAllowed (length (now log)) ≡ true) × (57348 ≤ length (now reply)) ⌝ }
+    requires { ⌜ (4 ≤ length (now message)) × (logAllowed (length (now log)) ≡ true) × (replyRoom ≤ length (now reply)) ⌝ }
     ensures { λ r. ⌜ whole r (now (log .exit)) (now (reply .exit)) ≡ greeted (requestOf (now (message .entry))) (tagOf (now (message .entry))) (now (message .entry)) (now (log .entry)) (now (reply .entry)) ⌝ }
 {
-    let tag = message[3];
+    let tag = message::tag_of(message);
     let request = message::parse(message);
     match request {
         Request::Unknown => refuse(Refusal::MessageType, tag, Session::Greeted, reply),
         Request::Ill => refuse(Refusal::Body, tag, Session::Greeted, reply),
         Request::Goodbye => close(),
         Request::Hello => refuse(Refusal::Hello, tag, Session::Greeted, reply),
-        Request::Ping => acknowledge(3, tag, reply),
-        Request::Sync => acknowledge(17, tag, reply),
+        Request::Ping => acknowledge(message::PING_REPLY, tag, reply),
+        Request::Sync => acknowledge(message::SYNC_REPLY, tag, reply),
         Request::Read { kind, count } => serve_read(message, log, reply, kind, count),
         Request::Write { kind } => serve_write(message, log, reply, kind),
     }
@@ -208,7 +212,7 @@ pub fn serve(session: Session, message: &[u8], log: &mut [u8], reply: &mut [u8])
     if !message::is_framed(message) {
         return refuse_silently(Refusal::Frame, session);
     }
-    if reply.len() < 57348 {
+    if reply.len() < REPLY_ROOM {
         return refuse_silently(Refusal::Buffer, session);
     }
     if !lookup::is_allowed(log.len()) {

@@ -8,6 +8,7 @@ use visit::Walked;
 ghost use mathlib.Core.Path.{_≡_};
 ghost use Prim.Native.Nat.{ℕ, _+_, _%_, _≤_, _<_};
 ghost use lib.ListN.{length};
+ghost use Rattle.kind.specs.Kind.{longest};
 ghost use Rattle.block.specs.Block.{partsOf};
 ghost use Rattle.block.specs.Log.{sectors};
 ghost use Rattle.reader.specs.Reader.{bytesAt};
@@ -33,7 +34,7 @@ pub fn visit_directory(
     nest: usize,
     left: usize,
 ) -> Walked
-    requires { ⌜ (first .0 + partsOf size ≤ sectors (length (now log))) × (size ≤ 57344) × (nest ≤ 16) ⌝ }
+    requires { ⌜ (first .0 + partsOf size ≤ sectors (length (now log))) × (size ≤ longest) × (nest ≤ 16) ⌝ }
     ensures within { λ r. ⌜ r .visits ≤ left ⌝ }
     ensures exact { λ r. ⌜ ((f : ℕ) → left + left + 2 ≤ f → r ≡ visitDirectory f (now (log .entry)) nest (bytesAt (now (log .entry)) (first .0) size) left) ⌝ }
 {
@@ -67,7 +68,7 @@ fn visit_listed(
     nest: usize,
     left: usize,
 ) -> Walked
-    requires { ⌜ (first .0 + partsOf size ≤ sectors (length (now log))) × (size ≤ 57344) × (nest ≤ 16) × (i < entriesOf size) ⌝ }
+    requires { ⌜ (first .0 + partsOf size ≤ sectors (length (now log))) × (size ≤ longest) × (nest ≤ 16) × (i < entriesOf size) ⌝ }
     ensures within { λ r. ⌜ r .visits ≤ left ⌝ }
     ensures exact { λ r. ⌜ ((f : ℕ) → left + left + 1 ≤ f → r ≡ visitListed f (now (log .entry)) nest (entryIn (bytesAt (now (log .entry)) (first .0) size) i) left) ⌝ }
 {
@@ -124,7 +125,7 @@ fn visit_scores(
     nest: usize,
     left: usize,
 ) -> Walked
-    requires { ⌜ (first .0 + partsOf size ≤ sectors (length (now log))) × (size ≤ 57344) × (size % 20 ≡ 0) × (level ≤ 7) ⌝ }
+    requires { ⌜ (first .0 + partsOf size ≤ sectors (length (now log))) × (size ≤ longest) × (size % 20 ≡ 0) × (level ≤ 7) ⌝ }
     ensures within { λ r. ⌜ r .visits ≤ left ⌝ }
     ensures exact { λ r. ⌜ ((f : ℕ) → left + left + 1 ≤ f → r ≡ visitScores f (now (log .entry)) e level nest (bytesAt (now (log .entry)) (first .0) size) left) ⌝ }
 {

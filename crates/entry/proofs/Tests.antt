@@ -6,6 +6,7 @@ use lib.Dec.{leb, eqb}
 use lib.ListN.{length}
 use borrow.Author.Tests.{le-leb, lt-leb, eq-eqb, ne-eqb}
 use Rattle.buffer.specs.Bytes.{Bytes}
+use Rattle.kind.specs.Kind.{longest}
 use Rattle.entry.specs.Entry.{field, pointers, wellFormed}
 use Rattle.entry.specs.Root.{rootWellFormed}
 use Rattle.entry.specs.declared.Entry.{Entry}
@@ -15,24 +16,24 @@ module _ (e : Entry) where
   unfolding wellFormed
   psize-under h = rw (lt-leb 40 (e .psize) h)
 
-  pub psize-over : 40 ≤ e .psize → 57344 < e .psize → false ≡ wellFormed e
+  pub psize-over : 40 ≤ e .psize → longest < e .psize → false ≡ wellFormed e
   unfolding wellFormed
-  psize-over h k = rw (le-leb 40 (e .psize) h, lt-leb (e .psize) 57344 k)
+  psize-over h k = rw (le-leb 40 (e .psize) h, lt-leb (e .psize) longest k)
 
-  module _ (psize-from : 40 ≤ e .psize) (psize-to : e .psize ≤ 57344) where
+  module _ (psize-from : 40 ≤ e .psize) (psize-to : e .psize ≤ longest) where
     pub dsize-under : e .dsize < 1 → false ≡ wellFormed e
     unfolding wellFormed
-    dsize-under h = rw (le-leb 40 (e .psize) psize-from, le-leb (e .psize) 57344 psize-to, lt-leb 1 (e .dsize) h)
+    dsize-under h = rw (le-leb 40 (e .psize) psize-from, le-leb (e .psize) longest psize-to, lt-leb 1 (e .dsize) h)
 
-    pub dsize-over : 1 ≤ e .dsize → 57344 < e .dsize → false ≡ wellFormed e
+    pub dsize-over : 1 ≤ e .dsize → longest < e .dsize → false ≡ wellFormed e
     unfolding wellFormed
-    dsize-over h k = rw (le-leb 40 (e .psize) psize-from, le-leb (e .psize) 57344 psize-to, le-leb 1 (e .dsize) h, lt-leb (e .dsize) 57344 k)
+    dsize-over h k = rw (le-leb 40 (e .psize) psize-from, le-leb (e .psize) longest psize-to, le-leb 1 (e .dsize) h, lt-leb (e .dsize) longest k)
 
-    module _ (dsize-from : 1 ≤ e .dsize) (dsize-to : e .dsize ≤ 57344) where
+    module _ (dsize-from : 1 ≤ e .dsize) (dsize-to : e .dsize ≤ longest) where
       sizes : ((not (e .directory) || eqb (e .dsize % 40) 0) && (e .plain && (e .clean && leb (e .size) (e .dsize * pointers e ^ e .depth)))) ≡ wellFormed e
       unfolding wellFormed
       sizes =
-          rw (le-leb 40 (e .psize) psize-from, le-leb (e .psize) 57344 psize-to, le-leb 1 (e .dsize) dsize-from, le-leb (e .dsize) 57344 dsize-to)
+          rw (le-leb 40 (e .psize) psize-from, le-leb (e .psize) longest psize-to, le-leb 1 (e .dsize) dsize-from, le-leb (e .dsize) longest dsize-to)
 
       pub dsize-ragged : e .directory ≡ true → (e .dsize % 40 ≡ 0 → ⊥) → false ≡ wellFormed e
       dsize-ragged d n = rw (← sizes, d, ne-eqb (e .dsize % 40) 0 n)

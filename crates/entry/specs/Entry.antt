@@ -5,6 +5,7 @@ use lib.Dec.{leb, eqb}
 use lib.ListN.{take, drop}
 use Rattle.buffer.specs.Bytes.{Bytes, zeros}
 use Rattle.word.specs.Number.{beNumber}
+use Rattle.kind.specs.Kind.{longest}
 use Rattle.entry.specs.declared.Entry.{Entry}
 
 -- the number of w bytes at an offset
@@ -43,8 +44,8 @@ pointers e = e .psize / 20
 -- and size is at most dsize times p to the power depth"; "The same holds for the five pad bytes of an active entry: 16"
 unfoldable pub wellFormed : Entry → Bool
 wellFormed e =
-    (leb 40 (e .psize) && leb (e .psize) 57344)
-    && ((leb 1 (e .dsize) && leb (e .dsize) 57344)
+    (leb 40 (e .psize) && leb (e .psize) longest)
+    && ((leb 1 (e .dsize) && leb (e .dsize) longest)
     && ((not (e .directory) || eqb (e .dsize % 40) 0)
     && (e .plain && (e .clean && leb (e .size) (e .dsize * pointers e ^ e .depth)))))
 

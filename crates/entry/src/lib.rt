@@ -1,4 +1,5 @@
 // Entries of directories, and roots.
+use kind::LONGEST;
 ghost use mathlib.Core.Path.{_≡_};
 ghost use Prim.Native.Nat.{_+_, _*_, _^_, _≤_, _<_};
 ghost use lib.Dec.{leb};
@@ -88,13 +89,13 @@ pub fn is_well_formed(e: Entry) -> bool
     if e.psize < 40 {
         return false;
     }
-    if 57344 < e.psize {
+    if LONGEST < e.psize {
         return false;
     }
     if e.dsize < 1 {
         return false;
     }
-    if 57344 < e.dsize {
+    if LONGEST < e.dsize {
         return false;
     }
     if e.directory {

@@ -10,6 +10,7 @@ use borrow.Author.Tests.{le-ltb}
 use Rattle.buffer.specs.Bytes.{Bytes, zeros}
 use Rattle.buffer.proofs.Bytes.{zeros-getD}
 use Rattle.refusal.specs.declared.Refusal.the-variants.{Entry as IllFormed}
+use Rattle.kind.specs.Kind.{longest}
 use Rattle.log.specs.LookUp.{logAllowed}
 use Rattle.message.specs.declared.Request.the-variants.{Ill}
 use Rattle.message.specs.Message.{typeOf, readOf, writeOf, requestOf}
@@ -57,7 +58,7 @@ six m q Greeted log buffer n f h a = rw (f, le-ltb (length buffer) replyRoom h, 
 padded : (e : Entry) → e .clean ≡ false → wellFormed e ≡ false
 unfolding wellFormed
 padded e c =
-    rw (c, and-false (e .plain), and-false (not (e .directory) || eqb (e .dsize % 40) 0), and-false (leb 1 (e .dsize) && leb (e .dsize) 57344), and-false (leb 40 (e .psize) && leb (e .psize) 57344))
+    rw (c, and-false (e .plain), and-false (not (e .directory) || eqb (e .dsize % 40) 0), and-false (leb 1 (e .dsize) && leb (e .dsize) longest), and-false (leb 40 (e .psize) && leb (e .psize) longest))
 
 entry-ill : (x : Bytes) (k : ℕ) → k < 5 → (getD x (9 + k) 0 ≡ 0 → ⊥) → entryAllowed x ≡ false
 unfolding entryOf

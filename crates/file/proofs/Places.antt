@@ -9,6 +9,7 @@ use lib.ListN.{length, take, drop, getD, set, length-take, length-drop}
 use lib.Seq.{getD-take, getD-drop, take-suc, take-suc-set, take-all}
 use Rattle.ground.proofs.Cases.{cond-ind}
 use Rattle.buffer.specs.Bytes.{Bytes}
+use Rattle.kind.specs.Kind.{longest}
 use Rattle.block.specs.Block.{partsOf}
 use Rattle.block.specs.Log.{sectors}
 use Rattle.block.proofs.At.{at-piece}
@@ -46,5 +47,5 @@ module _ (log : Bytes) (n size : ℕ) (h : n + partsOf size ≤ sectors (length 
       ∙ getD-drop (512 * m) log i 0
 
 -- an index is below p
-pub digit-small : (psize m r : ℕ) → 40 ≤ psize → psize ≤ 57344 → r ≡ m % (psize / 20) → r ≤ 57344
+pub digit-small : (psize m r : ℕ) → 40 ≤ psize → psize ≤ longest → r ≡ m % (psize / 20) → r ≤ longest
 digit-small psize m r a b e = let g : 0 < psize / 20 = omega arith in omega (arith, mod-lt m g)

@@ -11,6 +11,7 @@ use Rattle.ground.proofs.Cases.{and-true}
 use Rattle.buffer.specs.Bytes.{Bytes, zeros}
 use Rattle.refusal.specs.declared.Refusal.{Refusal}
 use Rattle.refusal.specs.declared.Refusal.the-variants as why
+use Rattle.kind.specs.Kind.{longest}
 use Rattle.log.specs.LookUp.{logAllowed}
 use Rattle.entry.specs.declared.Entry.{Entry}
 use Rattle.entry.specs.Entry.{entryOf, wellFormed, scoreOf}
@@ -63,14 +64,14 @@ depth-few b = omega arith
 bounds : (e : Entry) (offset : ℕ) → wellFormed e ≡ true → e .depth < 8 → offset < e .size → Open e offset
 unfolding wellFormed
 bounds e offset w d o =
-    let p = and-true (leb 40 (e .psize) && leb (e .psize) 57344) _ w in
+    let p = and-true (leb 40 (e .psize) && leb (e .psize) longest) _ w in
     let ps = and-true (leb 40 (e .psize)) _ (p .0) in
-    let ds = and-true (leb 1 (e .dsize)) _ ((and-true (leb 1 (e .dsize) && leb (e .dsize) 57344) _ (p .1)) .0) in
+    let ds = and-true (leb 1 (e .dsize)) _ ((and-true (leb 1 (e .dsize) && leb (e .dsize) longest) _ (p .1)) .0) in
     record {
       psize-from = leb-true 40 (e .psize) (ps .0);
-      psize-to = leb-true (e .psize) 57344 (ps .1);
+      psize-to = leb-true (e .psize) longest (ps .1);
       dsize-from = leb-true 1 (e .dsize) (ds .0);
-      dsize-to = leb-true (e .dsize) 57344 (ds .1);
+      dsize-to = leb-true (e .dsize) longest (ds .1);
       depth = d;
       inside = o;
     }

@@ -1,5 +1,6 @@
 -- What the steps below the tests stand on: the run in the leaf that look-up finds, and what the tests have shown.
 use Prim.Native.Nat.{ℕ, _+_, _≤_, _<_}
+use Rattle.kind.specs.Kind.{longest}
 use Rattle.block.specs.Block.{partsOf}
 use Rattle.entry.specs.declared.Entry.{Entry}
 use Rattle.log.specs.declared.Look.{Look}
@@ -21,8 +22,8 @@ runIn page e offset (look.Refused w) = Refused w
 -- an entry and an offset that the tests let through
 pub record Open (e : Entry) (offset : ℕ) : Type 0 where
   pub psize-from : 40 ≤ e .psize
-  pub psize-to : e .psize ≤ 57344
+  pub psize-to : e .psize ≤ longest
   pub dsize-from : 1 ≤ e .dsize
-  pub dsize-to : e .dsize ≤ 57344
+  pub dsize-to : e .dsize ≤ longest
   pub depth : e .depth < 8
   pub inside : offset < e .size

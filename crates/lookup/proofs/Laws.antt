@@ -22,7 +22,7 @@ use Rattle.block.proofs.Facts.{valid-facts}
 use Rattle.block.proofs.Sound.{sound-reads, as-reads, as-digits}
 use Rattle.block.proofs.Apart.{sound-used}
 use Rattle.reader.specs.Reader.{sizeOf}
-use Rattle.kind.specs.Kind.{lawful, zeroScore}
+use Rattle.kind.specs.Kind.{lawful, longest, zeroScore}
 use Rattle.refusal.specs.declared.Refusal.{Refusal}
 use Rattle.refusal.specs.declared.Refusal.the-variants.{LogLength, BlockType, NotHeld, NotKnown, OverCount}
 use Rattle.sector_number.specs.declared.SectorNumber.{SectorNumber}
@@ -121,10 +121,10 @@ pub walk-ends : (log : Bytes) (n : ℕ) → Passed log n → used log ≤ n → 
 walk-ends log n p h = sym (first-end log n (p .1) h)
 
 -- a sound block is not longer than the longest
-pub size-most : (log : Bytes) (n k : ℕ) → k ≡ sizeOf (sound log n) → k ≤ 57344
+pub size-most : (log : Bytes) (n k : ℕ) → k ≡ sizeOf (sound log n) → k ≤ longest
 size-most log n k e = go (sound log n) refl e
   where
-    go : (o : Option Row) → sound log n ≡ o → k ≡ sizeOf o → k ≤ 57344
+    go : (o : Option Row) → sound log n ≡ o → k ≡ sizeOf o → k ≤ longest
     go none q z = omega arith
     go (some r) q z = omega (arith, (valid-facts r ((sound-reads log n r q) .0)) .not-many)
 

@@ -7,6 +7,7 @@ use native.Mathlib.Omega.{arith}
 use lib.Dec.{leb, eqb}
 use borrow.Author.Tests.{leb-true, eqb-true}
 use lib.ListN.{length, getD, take, drop, length-take, length-drop}
+use lib.Seq.{take-length}
 use Rattle.ground.proofs.Cases.{and-true}
 use Rattle.buffer.specs.Bytes.{Bytes, zeros}
 use Rattle.buffer.proofs.Bytes.{small-getD, small-take, small-drop}
@@ -16,7 +17,7 @@ use Rattle.message.specs.declared.Request.{Request}
 use Rattle.message.specs.declared.Request.the-variants.{Ping, Hello, Goodbye, Read, Write, Sync, Unknown, Ill}
 use Rattle.message.specs.declared.Next.{Next}
 use Rattle.message.specs.declared.Next.the-variants.{At, Bad}
-use Rattle.message.specs.Message.{framed, typeOf, tagOf, exactly, helloEnd, scoreOf, readOf, dataOf, writeOf, requestOf}
+use Rattle.message.specs.Message.{framed, typeOf, tagOf, exactly, helloEnd, scoreOf, readOf, writeOf, requestOf}
 
 -- ---- numbers
 
@@ -95,6 +96,10 @@ asks m q e = rw e at (request-asks m)
 
 -- ---- a read and a write
 
+-- what lies from k on, as a part up to the end
+pub part-rest : (b : Bytes) (k : ℕ) → take (length b - k) (drop k b) ≡ drop k b
+part-rest b k = rw (← length-drop k b) (take-length (drop k b))
+
 module _ (m : Bytes) (k c : ℕ) (e : requestOf m ≡ Read k c) where
   pub read-length : length m ≡ 28
   read-length = asks m (Read k c) e .0
@@ -111,9 +116,6 @@ module _ (m : Bytes) (k c : ℕ) (e : requestOf m ≡ Read k c) where
 module _ (m : Bytes) (k : ℕ) (e : requestOf m ≡ Write k) where
   pub write-length : 8 ≤ length m
   write-length = asks m (Write k) e .0
-
-  pub write-data : 8 + length (dataOf m) ≡ length m
-  write-data = let l : 8 ≤ length m = write-length in simp length-drop (omega arith)
 
   pub write-kind-lt : small m ≡ true → k < 256
   write-kind-lt s = rw (asks m (Write k) e .1) (small-getD m 4 s)

@@ -8,9 +8,25 @@ ghost use Prim.Native.Nat.{_+_, _≤_};
 ghost use lib.ListN.{length};
 ghost use Rattle.buffer.specs.Bytes.{same, put};
 ghost use Rattle.word.specs.Number.{beBytes};
-ghost use Rattle.message.specs.Message.{framed, textEnd, countedEnd, helloEnd, exactly, readOf, writeOf, requestOf, versionOf};
-ghost use Rattle.message.specs.Reply.{reply, answered, why, place, errorReply};
+ghost use Rattle.message.specs.Message.{framed, tagOf, textEnd, countedEnd, helloEnd, exactly, scoreOf, readOf, dataOf, writeOf, requestOf, versionOf};
+ghost use Rattle.message.specs.Reply.{reply, answered, why, place, errorReply, helloReply};
 ghost use Rattle.refusal.specs.declared.Doubt.the-variants.{At};
+
+// The bytes before a message's body: size, type, tag.
+pub const HEAD: usize = 4;
+
+// The types of the replies.
+pub const ERROR_REPLY: u8 = 1;
+
+pub const PING_REPLY: u8 = 3;
+
+pub const HELLO_REPLY: u8 = 5;
+
+pub const READ_REPLY: u8 = 13;
+
+pub const WRITE_REPLY: u8 = 15;
+
+pub const SYNC_REPLY: u8 = 17;
 
 // What a message asks. The version of a hello, the score of a read and the data of a write stay where they are in the message.
 pub enum Request {
@@ -41,6 +57,30 @@ pub fn is_framed(m: &[u8]) -> bool
     }
     let size = word::number::be_number(&m[..2]);
     size == (m.len() - 2) as u64
+}
+
+// The tag of a message that has its head.
+pub fn tag_of(m: &[u8]) -> u8
+    requires { ⌜ 4 ≤ length (now m) ⌝ }
+    ensures { λ r. ⌜ r ≡ tagOf (now (m .entry)) ⌝ }
+{
+    m[3]
+}
+
+// The score of a read, where it is in the message.
+pub fn score_of(m: &[u8]) -> &[u8]
+    requires { ⌜ 24 ≤ length (now m) ⌝ }
+    ensures { λ r. ⌜ now r ≡ scoreOf (now (m .entry)) ⌝ }
+{
+    &m[4..24]
+}
+
+// The data of a write, where it is in the message.
+pub fn data_of(m: &[u8]) -> &[u8]
+    requires { ⌜ 8 ≤ length (now m) ⌝ }
+    ensures { λ r. ⌜ now r ≡ dataOf (now (m .entry)) ⌝ }
+{
+    &m[8..]
 }
 
 // Where the text at `at` ends: a two-byte count, and at most 1,024 bytes of UTF-8 without NUL.
@@ -190,7 +230,16 @@ pub fn write_reply(buffer: &mut [u8], kind: u8, tag: u8, body: &[u8])
     ensures { λ _. ⌜ now (buffer .exit) ≡ answered (now (buffer .entry)) (reply kind tag (now (body .entry))) ⌝ }
 {
     write_head(buffer, kind, tag, body.len());
-    buffer::copy_at(buffer, 4, body);
+    buffer::copy_at(buffer, HEAD, body);
+}
+
+// Writes the reply to a hello, whose text is empty and whose two bytes are 0.
+pub fn write_hello(buffer: &mut [u8], tag: u8)
+    requires { ⌜ 8 ≤ length (now buffer) ⌝ }
+    ensures { λ _. ⌜ now (buffer .exit) ≡ answered (now (buffer .entry)) (helloReply tag) ⌝ }
+{
+    let body = [0u8; 4];
+    write_reply(buffer, HELLO_REPLY, tag, &body);
 }
 
 // The body of an error reply that tells of a doubtful sector: the length of its text, and the text, which ends with the sector.
@@ -234,9 +283,9 @@ pub fn write_error(buffer: &mut [u8], tag: u8, why: Refusal)
     let doubt = refusal::doubt_of(why);
     if let Doubt::At(sector) = doubt {
         let body = doubt_text(n, sector);
-        write_reply(buffer, 1, tag, &body);
+        write_reply(buffer, ERROR_REPLY, tag, &body);
         return;
     }
     let body = [0, 6, b'w', b'h', b'y', b'=', b'0' + n / 10, b'0' + n % 10];
-    write_reply(buffer, 1, tag, &body);
+    write_reply(buffer, ERROR_REPLY, tag, &body);
 }

@@ -10,6 +10,7 @@ use Rattle.ground.proofs.Cases.{cond-ind}
 use Rattle.buffer.specs.Bytes.{Bytes}
 use Rattle.refusal.specs.Number.{toldSector}
 use Rattle.refusal.specs.declared.Refusal.{Refusal}
+use Rattle.kind.specs.Kind.{longest}
 use Rattle.block.specs.Block.{Row, partsOf}
 use Rattle.block.specs.Log.{sectors}
 use Rattle.log.specs.LookUp.{mostSectors, logAllowed}
@@ -26,14 +27,14 @@ use Rattle.file.proofs.Tests.{opened}
 use Rattle.results.proofs.Doubts.{absence-told}
 
 abbrev pub Small : Located → Type 0
-Small (Stored at n) = (at < 512 * mostSectors) × (n ≤ 57344)
-Small (Zeros n) = n ≤ 57344
+Small (Stored at n) = (at < 512 * mostSectors) × (n ≤ longest)
+Small (Zeros n) = n ≤ longest
 Small (Refused w) = toldSector w ≤ mostSectors
 
 place-small : (l n size k : ℕ) → sectors l ≤ mostSectors → n + partsOf size ≤ sectors l → k < size → placeIn n k < 512 * mostSectors
 place-small l n size k h r g = omega (arith, part-of size k g)
 
-module _ (log : Bytes) (page : ℕ) (e : Entry) (offset : ℕ) (h : sectors (length log) ≤ mostSectors) (d : e .dsize ≤ 57344) where
+module _ (log : Bytes) (page : ℕ) (e : Entry) (offset : ℕ) (h : sectors (length log) ≤ mostSectors) (d : e .dsize ≤ longest) where
   zero-small : Small (zeroRun page e offset)
   zero-small =
       let b = e .dsize - offset % e .dsize in
@@ -72,10 +73,10 @@ located-small log page b offset =
 
 -- of the code's answer
 module _ (log page b : Bytes) (offset : ℕ) (w : Located) (e : w ≡ located log page b offset) where
-  pub stored-within : (at n : ℕ) → w ≡ Stored at n → (at < 512 * mostSectors) × (n ≤ 57344)
+  pub stored-within : (at n : ℕ) → w ≡ Stored at n → (at < 512 * mostSectors) × (n ≤ longest)
   stored-within at n q = rw (sym e ∙ q) at (located-small log page b offset)
 
-  pub zeros-within : (n : ℕ) → w ≡ Zeros n → n ≤ 57344
+  pub zeros-within : (n : ℕ) → w ≡ Zeros n → n ≤ longest
   zeros-within n q = rw (sym e ∙ q) at (located-small log page b offset)
 
   pub refused-within : (r : Refusal) → w ≡ Refused r → toldSector r ≤ mostSectors

@@ -7,6 +7,7 @@ use lib.Dec.{eqb}
 use borrow.Author.Tests.{eq-eqb, ne-eqb}
 use Rattle.buffer.specs.Bytes.{Bytes}
 use Rattle.refusal.specs.Number.{numberOf, toldSector}
+use Rattle.kind.specs.Kind.{longest}
 use Rattle.file.specs.declared.Located.{Located}
 use Rattle.file.specs.declared.Located.the-variants.{Stored, Zeros, Refused}
 use Rattle.file.specs.File.{located}
@@ -20,14 +21,14 @@ fields : (r number start length : ℕ) (zeros : Bool) → r % 256 ≡ number →
 unfolding unpacked
 fields r number start length zeros a b c d = λ i. run (a i) (b i) (c i) (d i)
 
-stored-back : (at n : ℕ) → n ≤ 57344 → unpacked (packed (Stored at n)) ≡ runOf (Stored at n)
+stored-back : (at n : ℕ) → n ≤ longest → unpacked (packed (Stored at n)) ≡ runOf (Stored at n)
 stored-back at n h =
     let r = 256 * (2 * (n + 65536 * at)) in
     let u : r / 256 / 2 ≡ n + 65536 * at = omega arith in
     let z : r / 256 % 2 ≡ 1 → ⊥ = λ e. omega arith in
     fields r 0 at n false (omega arith) (ne-eqb (r / 256 % 2) 1 z) (omega arith) (omega arith)
 
-zeros-back : (n : ℕ) → n ≤ 57344 → unpacked (packed (Zeros n)) ≡ runOf (Zeros n)
+zeros-back : (n : ℕ) → n ≤ longest → unpacked (packed (Zeros n)) ≡ runOf (Zeros n)
 zeros-back n h =
     let r = 256 * (1 + 2 * n) in
     let u : r / 256 / 2 ≡ n = omega arith in

@@ -2,7 +2,6 @@
 use mathlib.Core.Path.{_≡_, refl, sym, ap, _∙_}
 use mathlib.Core.Bool.{Bool, true, false}
 use mathlib.Core.List.{[], _∷_}
-use mathlib.Core.Option.{Option, none, some}
 use Prim.Native.Nat.{ℕ, _+_, _*_, _/_, _≤_}
 use native.Mathlib.Omega.{arith}
 use lib.Dec.{ltb}
@@ -12,11 +11,8 @@ use Rattle.buffer.specs.Bytes.{Bytes}
 use Rattle.refusal.specs.Number.{numberOf}
 use Rattle.refusal.specs.declared.Refusal.the-variants.{LogLength}
 use Rattle.sector.specs.Sector.{line, lines}
-use Rattle.block.specs.Block.{Row}
 use Rattle.block.specs.Log.{used, sound}
 use Rattle.block.proofs.Apart.{none-past}
-use Rattle.block.proofs.Facts.{valid-facts}
-use Rattle.block.proofs.Sound.{sound-reads}
 use Rattle.block.proofs.Used.{used-le-sectors}
 use Rattle.log.specs.LookUp.{logAllowed}
 use Rattle.reader.specs.Reader.{sizeOf}
@@ -55,13 +51,6 @@ pub reported-so : (r : Reported) (b : Bytes) (o : ReportOutcome) (k : ℕ) → r
 reported-so r b o k e f = ap (λ (x : ℕ). reported x b) f ∙ ap reportResult e
 
 -- ---- the sound block at a sector
-
-pub sound-short : (log : Bytes) (n k : ℕ) → k ≡ sizeOf (sound log n) → k ≤ 57344
-sound-short log n k e = go (sound log n) refl e
-  where
-    go : (o : Option Row) → sound log n ≡ o → k ≡ sizeOf o → k ≤ 57344
-    go none q z = omega arith
-    go (some r) q z = omega (arith, (valid-facts r ((sound-reads log n r q) .0)) .not-many)
 
 module _ (log : Bytes) (n : ℕ) (a : Bool) (e : a ≡ logAllowed (length log)) where
   pub sound-barred : a ≡ false → (k : ℕ) → k ≡ numberOf LogLength → k ≡ soundResult log n

@@ -7,6 +7,7 @@ use lib.ListN.{length}
 use borrow.Author.Tests.{eqb-false, ltb-false}
 use Rattle.buffer.specs.Bytes.{Bytes}
 use Rattle.refusal.specs.Number.{toldSector}
+use Rattle.kind.specs.Kind.{longest}
 use Rattle.block.specs.Log.{sectors}
 use Rattle.log.specs.LookUp.{held, absence, mostSectors, logAllowed}
 use Rattle.lookup.proofs.Laws.{allowed-sectors}
@@ -22,7 +23,7 @@ use Rattle.visit.specs.declared.End.the-variants.{Done, Refused}
 use Rattle.tree.specs.Tree.{piece, typeAt, countAt}
 use Rattle.visit.specs.Visit.{endNumber, visiting}
 use Rattle.descent.specs.Descent.{andThen, paddedTo, inOrder, nestOf, entriesOf, judged, visitDirectory, visitEntry}
-use Rattle.walk.specs.Walk.{walkTop, walkRoot, walkOf}
+use Rattle.walk.specs.Walk.{walkTop, walkRoot, walkOf, mostAllowance}
 
 -- at most so many visits, and a sector of the longest log
 pub record Within (left : ℕ) (w : Walked) : Type 0 where
@@ -87,7 +88,7 @@ module _ (log : Bytes) (h : sectors (length log) ≤ mostSectors) where
 
   top-within : (score : Bytes) (left : ℕ) → Within left (walkTop log score left)
   unfolding walkTop
-  top-within score left = visit-within 1 left 2 57344 score _ (λ b. directory-within (left + left + 2) 1 b (left - 1))
+  top-within score left = visit-within 1 left 2 longest score _ (λ b. directory-within (left + left + 2) 1 b (left - 1))
 
   root-within : (score : Bytes) (left : ℕ) → Within left (walkRoot log score left)
   unfolding walkRoot
@@ -95,20 +96,20 @@ module _ (log : Bytes) (h : sectors (length log) ≤ mostSectors) where
       visit-within 0 left 1 300 score _
       (λ b. cond-ind (Within (left - 1)) (rootWellFormed (paddedTo 300 b)) _ _ (λ _. top-within (rootScore (paddedTo 300 b)) (left - 1)) (λ _. bare (omega arith) refl))
 
-pub walk-within : (log score : Bytes) (allowance : ℕ) → Within allowance (walkOf log score allowance) × Within 1000000 (walkOf log score allowance)
+pub walk-within : (log score : Bytes) (allowance : ℕ) → Within allowance (walkOf log score allowance) × Within mostAllowance (walkOf log score allowance)
 unfolding walkOf
 walk-within log score allowance =
     cond-ind Both (logAllowed (length log)) _ _
-    (λ p. cond-ind Both (ltb 1000000 allowance) _ _ (λ _. (bare (omega arith) refl, bare (omega arith) refl))
+    (λ p. cond-ind Both (ltb mostAllowance allowance) _ _ (λ _. (bare (omega arith) refl, bare (omega arith) refl))
     (λ q. let h = root-within log (allowed-sectors (length log) _ refl p) score allowance in
-    (h, within (omega (arith, h .few, ltb-false 1000000 allowance q)) (h .told))))
+    (h, within (omega (arith, h .few, ltb-false mostAllowance allowance q)) (h .told))))
     (λ _. (bare (omega arith) refl, bare (omega arith) refl))
   where
     Both : Walked → Type 0
-    Both w = Within allowance w × Within 1000000 w
+    Both w = Within allowance w × Within mostAllowance w
 
 -- of the code's answer
-pub walk-small : (log score : Bytes) (allowance : ℕ) (w : Walked) → w ≡ walkOf log score allowance → Within 1000000 w
+pub walk-small : (log score : Bytes) (allowance : ℕ) (w : Walked) → w ≡ walkOf log score allowance → Within mostAllowance w
 walk-small log score allowance w e = rw e ((walk-within log score allowance) .1)
 
 pub walked-so : (w v : Walked) (k s : ℕ) → w ≡ v → k ≡ endNumber (w .end) → s ≡ endSector (w .end) → k + 256 * (w .visits + 1048576 * s) ≡ walkResult v

@@ -9,6 +9,7 @@ ghost use mathlib.Core.Path.{_≡_};
 ghost use Prim.Native.Nat.{_+_, _≤_};
 ghost use lib.ListN.{length};
 ghost use Rattle.sha1.specs.Sha1.{sha1Of};
+ghost use Rattle.kind.specs.Kind.{longest};
 ghost use Rattle.block.specs.Block.{partsOf};
 ghost use Rattle.block.specs.Log.{sectors};
 ghost use Rattle.reader.specs.Reader.{bytesAt};
@@ -17,7 +18,7 @@ ghost use Rattle.log.specs.Store.{store as storeOf};
 
 // Appends a block that look-up did not find, or refuses it for want of room.
 fn append_new(log: &mut [u8], kind: u8, score: &[u8; 20], data: &[u8]) -> Stored
-    requires { ⌜ (length (now «data») ≤ 57344) × (now score ≡ sha1Of (now «data»)) ⌝ }
+    requires { ⌜ (length (now «data») ≤ longest) × (now score ≡ sha1Of (now «data»)) ⌝ }
     ensures { λ r. ⌜ afterStore (receipt (sha1Of (now («data» .entry))) r) (now (log .exit)) ≡ appended (now (log .entry)) kind (now («data» .entry)) ⌝ }
 {
     let used = reader::used_part(log);
@@ -47,7 +48,7 @@ fn compare(log: &[u8], first: SectorNumber, size: usize, data: &[u8]) -> Stored
 
 // Stores a block of a type.
 pub fn store(log: &mut [u8], kind: u8, data: &[u8]) -> Receipt
-    requires { ⌜ length (now «data») ≤ 57344 ⌝ }
+    requires { ⌜ length (now «data») ≤ longest ⌝ }
     ensures { λ r. ⌜ afterStore r (now (log .exit)) ≡ storeOf (now (log .entry)) kind (now («data» .entry)) ⌝ }
 {
     let score = sha1::sha1(data);

@@ -1,5 +1,6 @@
 // Builds small trees in a log, reads and walks them, and prints a line for each answer.
 use file::Located;
+use kind::LONGEST;
 ghost use mathlib.Core.Path.{_≡_};
 ghost use Prim.Native.Nat.{_+_, _*_, _≤_, _<_};
 ghost use lib.ListN.{length};
@@ -41,7 +42,7 @@ fn begin(log: &mut [u8], name: &[u8]) {
 
 // Stores a block; its score.
 fn put(log: &mut [u8], kind: u8, data: &[u8]) -> [u8; 20] {
-    if 57344 < data.len() {
+    if LONGEST < data.len() {
         return kind::zero_score();
     }
     let receipt = store::store(log, kind, data);
@@ -380,7 +381,7 @@ fn walk_directories(log: &mut [u8], d: &[u8]) {
     let directory = put(log, 2, d);
     let root = put_root(log, &directory);
     walk_thrice(log, &root);
-    walk_with(log, &root, 1000000);
+    walk_with(log, &root, walk::MOST_ALLOWANCE);
     walk_with(log, &root, 1000001);
     walk_with(log, &root, 0);
     walk_with(log, &directory, 1000);

@@ -13,6 +13,7 @@ use Rattle.buffer.specs.Bytes.{Bytes}
 use Rattle.refusal.specs.declared.Refusal.{Refusal}
 use Rattle.refusal.specs.declared.Refusal.the-variants.{OverCount, Nest, Spent}
 use Rattle.sector_number.specs.declared.SectorNumber.{SectorNumber}
+use Rattle.kind.specs.Kind.{longest}
 use Rattle.block.specs.Block.{Row, parts, partsOf}
 use Rattle.block.specs.Log.{sectors}
 use Rattle.reader.specs.Reader.{bytesAt}
@@ -123,7 +124,7 @@ pub record Known (log : Bytes) (nest left kind count : ℕ) (score : Bytes) (fir
   pub not-deep : nest ≤ 16
   pub some-left : 0 < left
   pub in-log : first + partsOf size ≤ sectors (length log)
-  pub not-many : size ≤ 57344
+  pub not-many : size ≤ longest
   pub counted-in : size ≤ count
   pub one-spent : spent ≡ 1
   pub goes-on : (go : Bytes → Walked) (w : Walked) → w ≡ go (bytesAt log first size) → more w ≡ visiting log nest left kind count score go

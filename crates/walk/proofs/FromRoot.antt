@@ -8,6 +8,7 @@ use lib.ListN.{length, take, drop}
 use Rattle.buffer.specs.Bytes.{Bytes}
 use Rattle.refusal.specs.declared.Refusal.{Refusal}
 use Rattle.refusal.specs.declared.Refusal.the-variants.{LogLength, Entry as IllFormed, Allowance}
+use Rattle.kind.specs.Kind.{longest}
 use Rattle.sector.specs.Sector.{filled}
 use Rattle.reader.specs.Reader.{bytesAt}
 use Rattle.reader.proofs.Pieces.{length-bytes}
@@ -19,7 +20,7 @@ use Rattle.visit.specs.declared.Met.{Met}
 use Rattle.visit.specs.declared.End.the-variants.{Refused as Stopped}
 use Rattle.visit.specs.Visit.{walked, more}
 use Rattle.descent.specs.Descent.{paddedTo, visitDirectory}
-use Rattle.walk.specs.Walk.{walkTop, walkRoot, walkOf}
+use Rattle.walk.specs.Walk.{walkTop, walkRoot, walkOf, mostAllowance}
 use Rattle.visit.specs.Met.{metOf, answerOf}
 use Rattle.descent.proofs.Padded.{root-padded}
 use Rattle.visit.proofs.Visits.{Known, refused-known, spent-within}
@@ -30,13 +31,13 @@ use Rattle.visit.proofs.Visits.{Known, refused-known, spent-within}
 abbrev belowTop : Bytes → ℕ → Bytes → Walked
 belowTop log left b = visitDirectory (left + left + 2) log 1 b (left - 1)
 
-pub top-refused : (log score : Bytes) (left : ℕ) {m : Met} → m ≡ metOf log 1 left 2 57344 score → {why : Refusal} → m .look ≡ Refused why → {r : Walked} → r ≡ answerOf m
+pub top-refused : (log score : Bytes) (left : ℕ) {m : Met} → m ≡ metOf log 1 left 2 longest score → {why : Refusal} → m .look ≡ Refused why → {r : Walked} → r ≡ answerOf m
     → (r .visits ≤ left) × (r ≡ walkTop log score left)
 unfolding walkTop
 top-refused log score left {m} e {why} d a =
-    (rw a (spent-within log 1 left 2 57344 score m e), a ∙ refused-known log 1 left 2 57344 score m e why d (belowTop log left))
+    (rw a (spent-within log 1 left 2 longest score m e), a ∙ refused-known log 1 left 2 longest score m e why d (belowTop log left))
 
-pub top-found : {log score : Bytes} {left first size spent : ℕ} → Known log 1 left 2 57344 score first size spent → (w : Walked)
+pub top-found : {log score : Bytes} {left first size spent : ℕ} → Known log 1 left 2 longest score first size spent → (w : Walked)
     → (w .visits ≤ left - 1) × ((g : ℕ) → (left - 1) + (left - 1) + 2 ≤ g → w ≡ visitDirectory g log 1 (bytesAt log first size) (left - 1))
     → (more w .visits ≤ left) × (more w ≡ walkTop log score left)
 unfolding walkTop
@@ -77,10 +78,10 @@ module _ (log score : Bytes) (allowance : ℕ) (a : Bool) (e : a ≡ logAllowed 
   unfolding walkOf
   log-not-allowed q = rw (sym e ∙ q)
 
-  pub allowance-too-large : a ≡ true → 1000000 < allowance → walked 0 (Stopped Allowance) ≡ walkOf log score allowance
+  pub allowance-too-large : a ≡ true → mostAllowance < allowance → walked 0 (Stopped Allowance) ≡ walkOf log score allowance
   unfolding walkOf
-  allowance-too-large q h = rw (sym e ∙ q, lt-ltb 1000000 allowance h)
+  allowance-too-large q h = rw (sym e ∙ q, lt-ltb mostAllowance allowance h)
 
-  pub tests-passed : a ≡ true → allowance ≤ 1000000 → (r : Walked) → r ≡ walkRoot log score allowance → r ≡ walkOf log score allowance
+  pub tests-passed : a ≡ true → allowance ≤ mostAllowance → (r : Walked) → r ≡ walkRoot log score allowance → r ≡ walkOf log score allowance
   unfolding walkOf
-  tests-passed q h r d = rw (sym e ∙ q, le-ltb 1000000 allowance h) d
+  tests-passed q h r d = rw (sym e ∙ q, le-ltb mostAllowance allowance h) d

@@ -10,6 +10,9 @@ ghost use lib.ListN.{length};
 ghost use Rattle.visit.specs.Visit.{endNumber};
 ghost use Rattle.walk.specs.Walk.{walkTop, walkRoot, walkOf};
 
+// The largest allowance.
+pub const MOST_ALLOWANCE: u64 = 1000000;
+
 // The number of how a walk ended: 0 for done.
 pub fn number(end: End) -> u8
     ensures { λ r. ⌜ r ≡ endNumber end ⌝ }
@@ -64,7 +67,7 @@ pub fn walk(log: &[u8], score: &[u8; 20], allowance: u64) -> Walked
             end: End::Refused(Refusal::LogLength),
         };
     }
-    if 1000000 < allowance {
+    if MOST_ALLOWANCE < allowance {
         return Walked {
             visits: 0,
             end: End::Refused(Refusal::Allowance),

@@ -7,6 +7,7 @@ use lib.Dec.{eqb, ltb}
 use lib.ListN.{length}
 use Rattle.buffer.specs.Bytes.{Bytes}
 use Rattle.refusal.specs.declared.Refusal.{Refusal}
+use Rattle.kind.specs.Kind.{longest}
 use Rattle.block.specs.Block.{Row}
 use Rattle.log.specs.LookUp.{held, absence, logAllowed}
 use Rattle.entry.specs.declared.Entry.{Entry}
@@ -17,7 +18,7 @@ use Rattle.visit.specs.declared.End.the-variants.{Done, Refused}
 use Rattle.tree.specs.Tree.{piece, typeAt, countAt}
 use Rattle.visit.specs.Visit.{walked, more, visiting}
 use Rattle.descent.specs.Descent.{andThen, paddedTo, inOrder, nestOf, entriesOf, judged, visitDirectory, visitEntry}
-use Rattle.walk.specs.Walk.{walkTop, walkRoot, walkOf}
+use Rattle.walk.specs.Walk.{walkTop, walkRoot, walkOf, mostAllowance}
 use Rattle.visit.proofs.Visits.{visitBy}
 use Rattle.walk_laws.proofs.Found.{not-done, and-then-done}
 
@@ -90,7 +91,7 @@ module _ (log log′ : Bytes) (h : (t : ℕ) (s : Bytes) (r : Row) → held log 
 
   top-again : (score : Bytes) (left : ℕ) → Same (walkTop log score left) (walkTop log′ score left)
   unfolding walkTop
-  top-again score left = visit-again 1 left 2 57344 score _ _ (λ b. directory-again (left + left + 2) 1 b (left - 1))
+  top-again score left = visit-again 1 left 2 longest score _ _ (λ b. directory-again (left + left + 2) 1 b (left - 1))
 
   root-again : (score : Bytes) (left : ℕ) → Same (walkRoot log score left) (walkRoot log′ score left)
   unfolding walkRoot
@@ -104,5 +105,5 @@ pub walk-again : (log log′ score : Bytes) (n v : ℕ) → length log′ ≡ le
 unfolding walkOf
 walk-again log log′ score n v l h e =
     rw l
-    (cond-again (logAllowed (length log)) (cond-again (ltb 1000000 n) (λ d. refl) (root-again log log′ h score n)) (λ d. refl) (ap (λ (w : Walked). w .end) e)
+    (cond-again (logAllowed (length log)) (cond-again (ltb mostAllowance n) (λ d. refl) (root-again log log′ h score n)) (λ d. refl) (ap (λ (w : Walked). w .end) e)
     ∙ e)

@@ -10,6 +10,7 @@ use lib.ListN.{length}
 use Rattle.buffer.specs.Bytes.{Bytes}
 use Rattle.refusal.specs.declared.Refusal.{Refusal}
 use Rattle.refusal.specs.declared.Refusal.the-variants.{OverCount, Entry as IllFormed, Pointers, LogLength, Allowance}
+use Rattle.kind.specs.Kind.{longest}
 use Rattle.block.specs.Block.{Row}
 use Rattle.log.specs.LookUp.{held, absence, logAllowed}
 use Rattle.entry.specs.declared.Entry.{Entry}
@@ -21,7 +22,7 @@ use Rattle.visit.specs.declared.End.the-variants.{Done, Refused}
 use Rattle.tree.specs.Tree.{piece, typeAt, countAt}
 use Rattle.visit.specs.Visit.{walked, more, visiting}
 use Rattle.descent.specs.Descent.{andThen, paddedTo, inOrder, nestOf, entriesOf, judged, visitDirectory, visitEntry}
-use Rattle.walk.specs.Walk.{walkTop, walkRoot, walkOf}
+use Rattle.walk.specs.Walk.{walkTop, walkRoot, walkOf, mostAllowance}
 use Rattle.descent.specs.Parts.{entryIn}
 use Rattle.walk_laws.specs.Found.{Found, leaf, directory, FoundEntries, FoundRoot, WalkFinds, pointers, entries}
 use Rattle.visit.proofs.Visits.{visitBy}
@@ -155,7 +156,7 @@ root-done-found : (log score : Bytes) (n : ℕ) (r : Row) → held log 1 score �
     → cond t (walkTop log (rootScore (paddedTo 300 (r .bytes))) n) (walked 0 (Refused IllFormed)) .end ≡ Done → FoundRoot log score
 unfolding walkTop
 root-done-found log score n r h true z d =
-    let s = seen log 1 n 2 57344 (rootScore (paddedTo 300 (r .bytes))) _ d in
+    let s = seen log 1 n 2 longest (rootScore (paddedTo 300 (r .bytes))) _ d in
     record {
       root = r;
       root-held = h;
@@ -174,6 +175,6 @@ tests-passed false b w e = not-done _ e
 pub walk-found : WalkFinds
 unfolding walkOf walkRoot
 walk-found log score n v e =
-    let d = tests-passed (logAllowed (length log)) (ltb 1000000 n) (walkRoot log score n) (ap (λ (w : Walked). w .end) e) in
+    let d = tests-passed (logAllowed (length log)) (ltb mostAllowance n) (walkRoot log score n) (ap (λ (w : Walked). w .end) e) in
     let s = seen log 0 n 1 300 score _ d in
     root-done-found log score (n - 1) (s .row) (s .row-held) (rootWellFormed (paddedTo 300 (s .row .bytes))) refl (s .rest-done)

@@ -1,13 +1,13 @@
 -- `archive::serve_greeted` meets its contract: a case for each request.
-use mathlib.Core.Path.{sym, _∙_}
+use mathlib.Core.Path.{refl, sym, _∙_}
 use Rattle.archive.specs.Step.{greeted}
 use Rattle.archive.proofs.Laws.{greeted-as}
 use borrow.Author.Needs.{needs}
 use Rattle.archive.proofs.serve_greeted.Statement.{statement}
 use Rattle.archive.proofs.serve_greeted.Tie as tie
 
-shared-slice-read-tag : tie.Need-shared-slice-read-tag
-shared-slice-read-tag c = search needs
+tag-of-requires : tie.Need-tag-of-requires
+tag-of-requires c κs = search needs
 
 parse-requires : tie.Need-parse-requires
 parse-requires c κs = search needs
@@ -65,39 +65,39 @@ same-length c = search needs
 
 returns : tie.Need-returns
 unfolding greeted
-returns c = greeted-as _ (c .before .before .before .before .before .before .before .before .before .before .before .args .log .now) _ _ _ _ (c .before .before .before .before .before .before .parse .ensures) (c .before .before .before .before .enum-told .given .1) ((c .before .before .refuse .ensures) (c .before .before .before .before .before .before .before .before .before .before .before .args .log .now))
+returns c = greeted-as _ (c .before .before .before .before .before .before .before .before .before .before .before .args .log .now) _ _ _ _ _ (c .before .before .before .before .before .before .parse .ensures) (c .before .before .before .before .enum-told .given .1) (c .before .before .before .before .before .before .before .tag-of .ensures) ((c .before .before .refuse .ensures) (c .before .before .before .before .before .before .before .before .before .before .before .args .log .now))
 
 same-length-2 : tie.Need-same-length-2
 same-length-2 c = search needs
 
 returns-2 : tie.Need-returns-2
 unfolding greeted
-returns-2 c = greeted-as _ (c .before .before .before .before .before .before .before .before .before .before .before .args .log .now) _ _ _ _ (c .before .before .before .before .before .before .parse .ensures) (c .before .before .before .before .enum-told2 .given .1) ((c .before .before .refuse2 .ensures) (c .before .before .before .before .before .before .before .before .before .before .before .args .log .now))
+returns-2 c = greeted-as _ (c .before .before .before .before .before .before .before .before .before .before .before .args .log .now) _ _ _ _ _ (c .before .before .before .before .before .before .parse .ensures) (c .before .before .before .before .enum-told2 .given .1) (c .before .before .before .before .before .before .before .tag-of .ensures) ((c .before .before .refuse2 .ensures) (c .before .before .before .before .before .before .before .before .before .before .before .args .log .now))
 
 returns-3 : tie.Need-returns-3
 unfolding greeted
-returns-3 c = greeted-as _ (c .before .before .before .before .before .before .before .before .args .log .now) _ _ _ _ (c .before .before .before .parse .ensures) (c .before .enum-told3 .given .1) ((c .close .ensures) (c .before .before .before .before .before .before .before .before .args .log .now) (c .before .before .before .before .before .before .before .before .args .reply .now))
+returns-3 c = greeted-as _ (c .before .before .before .before .before .before .before .before .args .log .now) _ _ _ _ _ (c .before .before .before .parse .ensures) (c .before .enum-told3 .given .1) (c .before .before .before .before .tag-of .ensures) ((c .close .ensures) (c .before .before .before .before .before .before .before .before .args .log .now) (c .before .before .before .before .before .before .before .before .args .reply .now))
 
 same-length-3 : tie.Need-same-length-3
 same-length-3 c = search needs
 
 returns-4 : tie.Need-returns-4
 unfolding greeted
-returns-4 c = greeted-as _ (c .before .before .before .before .before .before .before .before .before .before .before .args .log .now) _ _ _ _ (c .before .before .before .before .before .before .parse .ensures) (c .before .before .before .before .enum-told4 .given .1) ((c .before .before .refuse3 .ensures) (c .before .before .before .before .before .before .before .before .before .before .before .args .log .now))
+returns-4 c = greeted-as _ (c .before .before .before .before .before .before .before .before .before .before .before .args .log .now) _ _ _ _ _ (c .before .before .before .before .before .before .parse .ensures) (c .before .before .before .before .enum-told4 .given .1) (c .before .before .before .before .before .before .before .tag-of .ensures) ((c .before .before .refuse3 .ensures) (c .before .before .before .before .before .before .before .before .before .before .before .args .log .now))
 
 same-length-4 : tie.Need-same-length-4
 same-length-4 c = search needs
 
 returns-5 : tie.Need-returns-5
 unfolding greeted
-returns-5 c = greeted-as _ (c .before .before .before .before .before .before .before .before .before .before .before .args .log .now) _ _ _ _ (c .before .before .before .before .before .before .parse .ensures) (c .before .before .before .before .enum-told5 .given .1) ((c .before .before .acknowledge .ensures) (c .before .before .before .before .before .before .before .before .before .before .before .args .log .now))
+returns-5 c = greeted-as _ (c .before .before .before .before .before .before .before .before .before .before .before .args .log .now) _ _ _ _ _ (c .before .before .before .before .before .before .parse .ensures) (c .before .before .before .before .enum-told5 .given .1) (c .before .before .before .before .before .before .before .tag-of .ensures) ((c .before .before .acknowledge .ensures) (c .before .before .before .before .before .before .before .before .before .before .before .args .log .now))
 
 same-length-5 : tie.Need-same-length-5
 same-length-5 c = search needs
 
 returns-6 : tie.Need-returns-6
 unfolding greeted
-returns-6 c = greeted-as _ (c .before .before .before .before .before .before .before .before .before .before .before .args .log .now) _ _ _ _ (c .before .before .before .before .before .before .parse .ensures) (c .before .before .before .before .enum-told6 .given .1) ((c .before .before .acknowledge2 .ensures) (c .before .before .before .before .before .before .before .before .before .before .before .args .log .now))
+returns-6 c = greeted-as _ (c .before .before .before .before .before .before .before .before .before .before .before .args .log .now) _ _ _ _ _ (c .before .before .before .before .before .before .parse .ensures) (c .before .before .before .before .enum-told6 .given .1) (c .before .before .before .before .before .before .before .tag-of .ensures) ((c .before .before .acknowledge2 .ensures) (c .before .before .before .before .before .before .before .before .before .before .before .args .log .now))
 
 same-length-6 : tie.Need-same-length-6
 same-length-6 c = search needs
@@ -107,7 +107,7 @@ same-length-7 c = search needs
 
 returns-7 : tie.Need-returns-7
 unfolding greeted
-returns-7 c = greeted-as _ (c .before .before .before .before .before .before .before .before .before .before .before .before .before .args .log .now) _ _ _ _ (c .before .before .before .before .before .before .before .before .parse .ensures) (c .before .before .before .before .before .before .request .given .1) (c .before .before .serve-read .ensures)
+returns-7 c = greeted-as _ (c .before .before .before .before .before .before .before .before .before .before .before .before .before .args .log .now) _ _ _ _ _ (c .before .before .before .before .before .before .before .before .parse .ensures) (c .before .before .before .before .before .before .request .given .1) refl (c .before .before .serve-read .ensures)
 
 same-length-8 : tie.Need-same-length-8
 same-length-8 c = search needs
@@ -117,13 +117,13 @@ same-length-9 c = search needs
 
 returns-8 : tie.Need-returns-8
 unfolding greeted
-returns-8 c = greeted-as _ (c .before .before .before .before .before .before .before .before .before .before .before .before .before .before .before .args .log .now) _ _ _ _ (c .before .before .before .before .before .before .before .before .before .before .parse .ensures) (c .before .before .before .before .before .before .before .before .request2 .given .1) (c .before .before .before .before .serve-write .ensures)
+returns-8 c = greeted-as _ (c .before .before .before .before .before .before .before .before .before .before .before .before .before .before .before .args .log .now) _ _ _ _ _ (c .before .before .before .before .before .before .before .before .before .before .parse .ensures) (c .before .before .before .before .before .before .before .before .request2 .given .1) refl (c .before .before .before .before .serve-write .ensures)
 
 pub serve-greeted-spec : {M : Type 1} → statement M
 serve-greeted-spec =
     tie.close
     (tie.spec
-    shared-slice-read-tag
+    tag-of-requires
     parse-requires
     enum-told
     refuse-requires

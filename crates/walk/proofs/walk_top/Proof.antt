@@ -1,6 +1,7 @@
 -- `walk::walk_top` meets its contract: refused, or the directory below.
 use native.Mathlib.Omega.{arith}
 use borrow.Author.Needs.{needs}
+use Rattle.kind.specs.Kind.{longest}
 use Rattle.walk.proofs.FromRoot.{top-refused, top-found}
 use Rattle.visit.proofs.Visits.{Known, found-known}
 use Rattle.walk.proofs.walk_top.Statement.{statement}
@@ -13,7 +14,7 @@ start v = v .before .before .before
 -- what is known of the block that was found
 found : (c : tie.After-look)
     → let a = start (c .before .before) .args in
-    Known (a .log .now) 1 (a .left) 2 57344 (a .score .now) (c .look .given .0 .0 .0) (c .look .given .0 .1 .0) (c .before .before .visit .result .spent)
+    Known (a .log .now) 1 (a .left) 2 longest (a .score .now) (c .look .given .0 .0 .0) (c .look .given .0 .1 .0) (c .before .before .visit .result .spent)
 found c = found-known _ _ _ _ _ _ _ (c .before .before .visit .ensures) _ _ (c .look .given .1)
 
 refused : tie.Need-returns

@@ -3,7 +3,8 @@ use mathlib.Core.Path.{_∙_}
 use native.Mathlib.Omega.{arith}
 use borrow.Author.Tests.{not-true, not-false}
 use Rattle.reader.proofs.Alone.{size-alone}
-use Rattle.results.proofs.SurveyLaws.{sound-short, sound-barred, sound-past, sound-sized}
+use Rattle.lookup.proofs.Laws.{size-most}
+use Rattle.results.proofs.SurveyLaws.{sound-barred, sound-past, sound-sized}
 use borrow.Author.Needs.{needs}
 use Rattle.boundary.proofs.survey.skywimple_sound_at.Statement.{statement}
 use Rattle.boundary.proofs.survey.skywimple_sound_at.Tie as tie
@@ -36,12 +37,12 @@ sound-at-requires c κs = (omega arith, omega (arith, c .before .if2 .left))
 cast-result-2 : tie.Need-cast-result-2
 cast-result-2 c =
     let a = c .before .before .before .before .before .before .args in
-    omega (arith, sound-short (a .log .now) (a .n) _ (c .sound-at .ensures ∙ size-alone (a .log .now) (a .n)))
+    omega (arith, size-most (a .log .now) (a .n) _ (c .sound-at .ensures ∙ size-alone (a .log .now) (a .n)))
 
 mul-result : tie.Need-mul-result
 mul-result c =
     let a = c .before .before .before .before .before .before .args in
-    omega (arith, sound-short (a .log .now) (a .n) _ (c .sound-at .ensures ∙ size-alone (a .log .now) (a .n)))
+    omega (arith, size-most (a .log .now) (a .n) _ (c .sound-at .ensures ∙ size-alone (a .log .now) (a .n)))
 
 returns-3 : tie.Need-returns-3
 returns-3 c =
