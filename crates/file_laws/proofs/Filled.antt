@@ -23,7 +23,7 @@ use Rattle.file.specs.declared.Located.the-variants as run
 use Rattle.file.specs.File.{pageAllowed, entryReadable, located}
 use Rattle.file.proofs.Tests.{stops-log, stops-entry, stops-offset}
 use Rattle.fill.specs.declared.Stop.the-variants.{Done, Refused}
-use Rattle.fill.specs.Fill.{Read, byte, refused, byteOf, byteAt, gathered, Outcome, filledWith, fillOf}
+use Rattle.fill.specs.Fill.{Read, byte, refused, byteOf, byteAt, gathered, FillOutcome, filledWith, fillOf}
 use Rattle.fill.proofs.Tests.{zero-page, nothing}
 use Rattle.file_laws.specs.Path.{Answers}
 use Rattle.file_laws.specs.Bytes.{runBytes, fileByte, laid}
@@ -81,7 +81,7 @@ module _ (log entry : Bytes) where
 -- ---- the tests
 
 -- a test stopped it, or it goes down
-pub data Course (log entry : Bytes) (offset : ℕ) (d : Bytes) (x : Outcome) : Type 0 where
+pub data Course (log entry : Bytes) (offset : ℕ) (d : Bytes) (x : FillOutcome) : Type 0 where
   stopped : (w : Refusal) → x ≡ nothing d w → ((page : Bytes) → pageAllowed page ≡ true → run.Refused w ≡ located log page entry offset) → Course log entry offset d x
   down : offset < (entryOf entry) .size → x ≡ filledWith d (gathered (byteAt log entry) (min (length d) ((entryOf entry) .size - offset)) offset) → Course log entry offset d x
 
@@ -117,7 +117,7 @@ module _ (log entry : Bytes) (offset : ℕ) (d : Bytes) where
   front i h = ap (λ (y : Bytes). getD y i 0) (put-front d x) ∙ List·getD-append x (drop (length x) d) 0 i h
 
   -- of an outcome
-  abbrev Files : Outcome → Type 0
+  abbrev Files : FillOutcome → Type 0
   Files r =
       (r .filled .count ≤ length d)
       × (r .filled .count ≤ (entryOf entry) .size - offset)
@@ -146,12 +146,12 @@ fill-files log entry offset d = files log entry offset d (course log entry offse
 pub fill-refusal : FillRefusal
 fill-refusal log page entry offset d w p = go (fillOf log entry offset d) (course log entry offset d)
   where
-    go : (r : Outcome) → Course log entry offset d r → r .filled .stop ≡ Refused w → located log page entry (offset + r .filled .count) ≡ run.Refused w
+    go : (r : FillOutcome) → Course log entry offset d r → r .filled .stop ≡ Refused w → located log page entry (offset + r .filled .count) ≡ run.Refused w
     go r (stopped v e h) q =
-        let c : v ≡ w = let y : Refused v ≡ Refused w = ap (λ (o : Outcome). o .filled .stop) (sym e) ∙ q in cc in
-        let z : offset + r .filled .count ≡ offset = ap (λ (o : Outcome). offset + o .filled .count) e ∙ add-zero offset in
+        let c : v ≡ w = let y : Refused v ≡ Refused w = ap (λ (o : FillOutcome). o .filled .stop) (sym e) ∙ q in cc in
+        let z : offset + r .filled .count ≡ offset = ap (λ (o : FillOutcome). offset + o .filled .count) e ∙ add-zero offset in
         ap (located log page entry) z ∙ sym (h page p) ∙ ap run.Refused c
     go r (down inside e) q =
         let g = gathered (byteAt log entry) (min (length d) ((entryOf entry) .size - offset)) offset in
-        let t = gathers (byteAt log entry) (min (length d) ((entryOf entry) .size - offset)) offset .ends w (ap (λ (o : Outcome). o .filled .stop) (sym e) ∙ q) in
-        ap (λ (o : Outcome). located log page entry (offset + o .filled .count)) e ∙ byte-refused log entry page p (offset + length (g .bytes)) w (t .1)
+        let t = gathers (byteAt log entry) (min (length d) ((entryOf entry) .size - offset)) offset .ends w (ap (λ (o : FillOutcome). o .filled .stop) (sym e) ∙ q) in
+        ap (λ (o : FillOutcome). located log page entry (offset + o .filled .count)) e ∙ byte-refused log entry page p (offset + length (g .bytes)) w (t .1)

@@ -18,7 +18,7 @@ use Rattle.file.specs.declared.Located.the-variants as run
 use Rattle.file.specs.File.{pageAllowed, located}
 use Rattle.fill.specs.declared.Stop.{Stop}
 use Rattle.fill.specs.declared.Stop.the-variants.{Done, Refused}
-use Rattle.fill.specs.Fill.{byteAt, gathered, Outcome, filledWith, fillOf}
+use Rattle.fill.specs.Fill.{byteAt, gathered, FillOutcome, filledWith, fillOf}
 use Rattle.file_laws.specs.Path.{Answers}
 use Rattle.file_laws.specs.Bytes.{runBytes, fileByte, laid}
 use Rattle.file_laws.specs.Fill.{FillIsTheRuns, FillWhole}
@@ -74,24 +74,24 @@ module _ (log page entry : Bytes) where
 -- ---- what is filled
 
 -- every offset that was filled reads
-filled-answers : (log page entry : Bytes) (offset : ℕ) (d : Bytes) → pageAllowed page ≡ true → (r : Outcome) → Course log entry offset d r
+filled-answers : (log page entry : Bytes) (offset : ℕ) (d : Bytes) → pageAllowed page ≡ true → (r : FillOutcome) → Course log entry offset d r
     → (o : ℕ) → offset ≤ o → o < offset + r .filled .count → Answers (located log page entry o)
-filled-answers log page entry offset d p r (stopped w e h) o g l = absurd (omega (arith, ap (λ (x : Outcome). x .filled .count) e))
+filled-answers log page entry offset d p r (stopped w e h) o g l = absurd (omega (arith, ap (λ (x : FillOutcome). x .filled .count) e))
 filled-answers log page entry offset d p r (down inside e) o g l =
     let G = gathers (byteAt log entry) (min (length d) ((entryOf entry) .size - offset)) offset in
-    let c = ap (λ (x : Outcome). x .filled .count) e in
+    let c = ap (λ (x : FillOutcome). x .filled .count) e in
     let z : offset + (o - offset) ≡ o = omega arith in
     byte-answers log entry page p o _ (ap (byteAt log entry) (sym z) ∙ G .each (o - offset) (omega (arith, c)))
 
 -- done is full
-done-full : (log entry : Bytes) (offset : ℕ) (d : Bytes) (r : Outcome) → Course log entry offset d r → r .filled .stop ≡ Done
+done-full : (log entry : Bytes) (offset : ℕ) (d : Bytes) (r : FillOutcome) → Course log entry offset d r → r .filled .stop ≡ Done
     → r .filled .count ≡ min (length d) ((entryOf entry) .size - offset)
 done-full log entry offset d r (stopped w e h) q =
-    let y : Refused w ≡ Done = ap (λ (o : Outcome). o .filled .stop) (sym e) ∙ q in
+    let y : Refused w ≡ Done = ap (λ (o : FillOutcome). o .filled .stop) (sym e) ∙ q in
     let z : _≡_ {A = ℕ} 0 1 = cc in absurd (omega arith)
 done-full log entry offset d r (down inside e) q =
-    ap (λ (o : Outcome). o .filled .count) e
-    ∙ gathers (byteAt log entry) (min (length d) ((entryOf entry) .size - offset)) offset .done (ap (λ (o : Outcome). o .filled .stop) (sym e) ∙ q)
+    ap (λ (o : FillOutcome). o .filled .count) e
+    ∙ gathers (byteAt log entry) (min (length d) ((entryOf entry) .size - offset)) offset .done (ap (λ (o : FillOutcome). o .filled .stop) (sym e) ∙ q)
 
 buffer-long : (log entry : Bytes) (offset : ℕ) (d : Bytes) → Course log entry offset d (fillOf log entry offset d)
     → fillOf log entry offset d .filled .count ≤ length (fillOf log entry offset d .buffer)
@@ -108,7 +108,7 @@ pub fill-runs : FillIsTheRuns
 unfolding size
 fill-runs log page entry offset d p = (go (ltb offset ((entryOf entry) .size)) refl, done-full log entry offset d (fillOf log entry offset d) (course log entry offset d))
   where
-    r : Outcome
+    r : FillOutcome
     r = fillOf log entry offset d
 
     c : ℕ
@@ -137,7 +137,7 @@ refused-none : (x : Located) (w : Refusal) → x ≡ run.Refused w → Answers x
 refused-none x w e a = rw e at a
 
 whole-count : (log page entry d : Bytes) → ((o : ℕ) → o < (entryOf entry) .size → Answers (located log page entry o)) → (entryOf entry) .size ≤ length d
-    → (r : Outcome) → Course log entry 0 d r → (r .filled .count ≡ (entryOf entry) .size) × (0 < (entryOf entry) .size → r .filled .stop ≡ Done)
+    → (r : FillOutcome) → Course log entry 0 d r → (r .filled .count ≡ (entryOf entry) .size) × (0 < (entryOf entry) .size → r .filled .stop ≡ Done)
 whole-count log page entry d a h r (stopped w e f) = go (ltb 0 ((entryOf entry) .size)) refl
   where
     go : (t : Bool) → ltb 0 ((entryOf entry) .size) ≡ t → (r .filled .count ≡ (entryOf entry) .size) × (0 < (entryOf entry) .size → r .filled .stop ≡ Done)
@@ -147,14 +147,14 @@ whole-count log page entry d a h r (stopped w e f) = go (ltb 0 ((entryOf entry) 
         absurd (refused-none (located log page entry 0) w (sym (f page (T .zeros))) (a 0 pos))
     go false q =
         let z = ltb-false 0 ((entryOf entry) .size) q in
-        (omega (arith, ap (λ (o : Outcome). o .filled .count) e), λ pos. absurd (omega arith))
+        (omega (arith, ap (λ (o : FillOutcome). o .filled .count) e), λ pos. absurd (omega arith))
 whole-count log page entry d a h r (down pos e) = go (gathered (byteAt log entry) (min (length d) ((entryOf entry) .size - 0)) 0 .stop) refl
   where
     go : (s : Stop) → gathered (byteAt log entry) (min (length d) ((entryOf entry) .size - 0)) 0 .stop ≡ s
         → (r .filled .count ≡ (entryOf entry) .size) × (0 < (entryOf entry) .size → r .filled .stop ≡ Done)
     go Done q = (
-      omega (arith, ap (λ (o : Outcome). o .filled .count) e, gathers (byteAt log entry) (min (length d) ((entryOf entry) .size - 0)) 0 .done q),
-      λ _. ap (λ (o : Outcome). o .filled .stop) e ∙ q,
+      omega (arith, ap (λ (o : FillOutcome). o .filled .count) e, gathers (byteAt log entry) (min (length d) ((entryOf entry) .size - 0)) 0 .done q),
+      λ _. ap (λ (o : FillOutcome). o .filled .stop) e ∙ q,
     )
     go (Refused w) q =
         let n = min (length d) ((entryOf entry) .size - 0) in

@@ -14,7 +14,7 @@ use Rattle.sector.specs.Sector.{filled}
 use Rattle.block.proofs.Payloads.{filled-getD}
 use Rattle.tree.proofs.Filled.{length-filled}
 use Rattle.fill.specs.declared.Stop.the-variants.{Done, Refused}
-use Rattle.fill.specs.Fill.{Read, byte, refused, Gathered, infront, gathered, Outcome, outcome, filledWith}
+use Rattle.fill.specs.Fill.{Read, byte, refused, Gathered, infront, gathered, FillOutcome, fillOutcome, filledWith}
 
 -- known bytes in front
 abbrev pub behind : Bytes → Gathered → Gathered
@@ -48,16 +48,16 @@ module _ (read : ℕ → Read) where
   gathered-refused (suc n) o w h e = ap (λ (r : Read). infront r (gathered read n (suc o))) e
 
 -- what is gathered written from byte `at` on, where so many were written before
-abbrev pub onward : Bytes → ℕ → Gathered → Outcome
-onward d at g = outcome (record { count = at + length (g .bytes); stop = g .stop }) (put d at (g .bytes))
+abbrev pub onward : Bytes → ℕ → Gathered → FillOutcome
+onward d at g = fillOutcome (record { count = at + length (g .bytes); stop = g .stop }) (put d at (g .bytes))
 
 pub onward-behind : (d : Bytes) (at : ℕ) (p : Bytes) (g : Gathered) → at ≤ length d → onward (put d at p) (at + length p) g ≡ onward d at (behind p g)
 onward-behind d at p g h =
     let n : at + length p + length (g .bytes) ≡ at + length (p ++ g .bytes) = omega (arith, length-append p (g .bytes)) in
-    λ i. outcome (record { count = n i; stop = g .stop }) (put-put d at p (g .bytes) h i)
+    λ i. fillOutcome (record { count = n i; stop = g .stop }) (put-put d at p (g .bytes) h i)
 
 pub onward-front : (d : Bytes) (g : Gathered) → onward d 0 g ≡ filledWith d g
-onward-front d g = λ i. outcome (record { count = zero-add (length (g .bytes)) i; stop = g .stop }) (put d 0 (g .bytes))
+onward-front d g = λ i. fillOutcome (record { count = zero-add (length (g .bytes)) i; stop = g .stop }) (put d 0 (g .bytes))
 
 -- what is left to gather behind `done` bytes, with the buffer as it is, makes what the whole makes
 abbrev pub Rest : (ℕ → Read) → ℕ → ℕ → Bytes → Bytes → ℕ → Type 0
@@ -68,17 +68,17 @@ module _ (read : ℕ → Read) (count offset : ℕ) (d₀ : Bytes) where
   rest-all = ap₂ (λ (n o : ℕ). onward d₀ 0 (gathered read n o)) (sub-zero count) (add-zero offset) ∙ onward-front d₀ (gathered read count offset)
 
   module _ (d : Bytes) (done : ℕ) (rest : Rest read count offset d₀ d done) where
-    pub rest-none : count ≤ done → outcome (record { count = done; stop = Done }) d ≡ filledWith d₀ (gathered read count offset)
+    pub rest-none : count ≤ done → fillOutcome (record { count = done; stop = Done }) d ≡ filledWith d₀ (gathered read count offset)
     unfolding gathered
     rest-none h =
         let z : count - done ≡ 0 = omega arith in
-        (λ i. outcome (record { count = sym (add-zero done) i; stop = Done }) (sym (put-nothing d done) i))
+        (λ i. fillOutcome (record { count = sym (add-zero done) i; stop = Done }) (sym (put-nothing d done) i))
         ∙ ap (λ (n : ℕ). onward d done (gathered read n (offset + done))) (sym z) ∙ rest
 
     pub rest-refused : (w : Refusal) → done < count → read (offset + done) ≡ refused w
-        → outcome (record { count = done; stop = Refused w }) d ≡ filledWith d₀ (gathered read count offset)
+        → fillOutcome (record { count = done; stop = Refused w }) d ≡ filledWith d₀ (gathered read count offset)
     rest-refused w h e =
-        (λ i. outcome (record { count = sym (add-zero done) i; stop = Refused w }) (sym (put-nothing d done) i))
+        (λ i. fillOutcome (record { count = sym (add-zero done) i; stop = Refused w }) (sym (put-nothing d done) i))
         ∙ ap (onward d done) (sym (gathered-refused read (count - done) (offset + done) w (omega arith) e)) ∙ rest
 
     -- m bytes more, those of a leaf's bytes b from k on

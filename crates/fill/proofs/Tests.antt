@@ -16,7 +16,7 @@ use Rattle.file.specs.File.{pageAllowed, entryReadable}
 use Rattle.file.specs.Fetch.{Open}
 use Rattle.file.proofs.Tests.{goes-down}
 use Rattle.fill.specs.declared.Stop.the-variants.{Refused}
-use Rattle.fill.specs.Fill.{byteOf, byteAt, byteBelow, gathered, Outcome, outcome, filledWith, fillOf}
+use Rattle.fill.specs.Fill.{byteOf, byteAt, byteBelow, gathered, FillOutcome, fillOutcome, filledWith, fillOf}
 use Rattle.fill.proofs.Gather.{gathered-same}
 
 -- further on in the file
@@ -36,8 +36,8 @@ unfolding pageAllowed
 zero-page = refl
 
 -- nothing written
-abbrev pub nothing : Bytes → Refusal → Outcome
-nothing d w = outcome (record { count = 0; stop = Refused w }) d
+abbrev pub nothing : Bytes → Refusal → FillOutcome
+nothing d w = fillOutcome (record { count = 0; stop = Refused w }) d
 
 module _ (log b : Bytes) (offset : ℕ) (d : Bytes) (a : Bool) (ea : a ≡ logAllowed (length log)) where
   pub fill-stops-log : a ≡ false → nothing d why.LogLength ≡ fillOf log b offset d

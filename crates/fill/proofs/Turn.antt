@@ -21,7 +21,7 @@ use Rattle.tree.proofs.Filled.{length-filled}
 use Rattle.file.specs.File.{under}
 use Rattle.file.specs.Fetch.{endOf, runIn}
 use Rattle.fill.specs.declared.Stop.{Stop}
-use Rattle.fill.specs.Fill.{Read, byte, stopOf, byteBelow, gathered, outcome, filledWith}
+use Rattle.fill.specs.Fill.{Read, byte, stopOf, byteBelow, gathered, fillOutcome, filledWith}
 use Rattle.fill.proofs.Gather.{Rest, rest-refused, rest-leaf}
 use Rattle.fill.proofs.Leaf.{leaf-refused, leaf-bytes}
 
@@ -49,9 +49,9 @@ module _ (log : Bytes) (e : Entry) (top : Bytes) (offset count : ℕ) (d₀ d : 
     (held : Filling (byteBelow log e top) count offset d₀ d done) (lt : done < count) (l : Look) (ends : endOf l ≤ sectors (length log))
     (found : (page o : ℕ) → o / e .dsize ≡ (offset + done) / e .dsize → runIn page e o l ≡ under log page e o (e .depth) top) where
   pub leaf-missing : (w : Refusal) → l ≡ look.Refused w → (s : Stop) → s ≡ stopOf l
-      → outcome (record { count = done; stop = s }) d ≡ filledWith d₀ (gathered (byteBelow log e top) count offset)
+      → fillOutcome (record { count = done; stop = s }) d ≡ filledWith d₀ (gathered (byteBelow log e top) count offset)
   leaf-missing w z s es =
-      ap (λ (x : Stop). outcome (record { count = done; stop = x }) d) (es ∙ ap stopOf z)
+      ap (λ (x : Stop). fillOutcome (record { count = done; stop = x }) d) (es ∙ ap stopOf z)
       ∙ rest-refused (byteBelow log e top) count offset d₀ d done (held .2) w lt (leaf-refused log e top (offset + done) l found w z)
 
   module _ (first : SectorNumber) (size : ℕ) (z : l ≡ look.Found first size) (m : ℕ) (em : m ≡ min (e .dsize - (offset + done) % e .dsize) (count - done)) where

@@ -65,23 +65,23 @@ gathered read zero o = record { bytes = []; stop = Done }
 gathered read (suc n) o = infront (read o) (gathered read n (suc o))
 
 -- what a call leaves: its answer, and the buffer to its last byte
-pub record Outcome : Type 0 where
+pub record FillOutcome : Type 0 where
   pub filled : Filled
   pub buffer : Bytes
 
-abbrev pub outcome : Filled → Bytes → Outcome
-outcome f d = record { filled = f; buffer = d }
+abbrev pub fillOutcome : Filled → Bytes → FillOutcome
+fillOutcome f d = record { filled = f; buffer = d }
 
 -- bytes gathered, written to the front of the buffer; "the rest stays"
-abbrev pub filledWith : Bytes → Gathered → Outcome
-filledWith d g = outcome (record { count = length (g .bytes); stop = g .stop }) (put d 0 (g .bytes))
+abbrev pub filledWith : Bytes → Gathered → FillOutcome
+filledWith d g = fillOutcome (record { count = length (g .bytes); stop = g .stop }) (put d 0 (g .bytes))
 
 -- a test, which refuses, the buffer as it was lent, or lets through
-abbrev pub test : Bool → Refusal → Bytes → Outcome → Outcome
-test b w d x = cond b x (outcome (record { count = 0; stop = Refused w }) d)
+abbrev pub test : Bool → Refusal → Bytes → FillOutcome → FillOutcome
+test b w d x = cond b x (fillOutcome (record { count = 0; stop = Refused w }) d)
 
 -- "Tests: 3, 16, 17, then the tree": the file's bytes from the offset on, up to the end of the buffer or of the file
-unfoldable pub fillOf : Bytes → Bytes → ℕ → Bytes → Outcome
+unfoldable pub fillOf : Bytes → Bytes → ℕ → Bytes → FillOutcome
 fillOf log entry offset d =
     test (logAllowed (length log)) why.LogLength d
     (test (entryReadable entry) why.Entry d

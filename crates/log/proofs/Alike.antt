@@ -6,6 +6,7 @@ use Rattle.buffer.specs.Bytes.{Bytes}
 use Rattle.block.specs.Log.{Alike, used, sound}
 use Rattle.block.proofs.Alike.{used-alike, sound-alike}
 use Rattle.log.specs.LookUp.{blocks, held, doubtful, firstDoubtful, absence, lookUp}
+use Rattle.log.specs.Laws.{AlikeAnswers}
 use Rattle.log.proofs.Blocks.{blocks-used}
 use Rattle.log.proofs.Written.{same-blocks}
 
@@ -32,3 +33,6 @@ module _ (a b : Bytes) (f : Alike a b) where
   pub look-up-alike : (t : ℕ) (s : Bytes) → lookUp a t s ≡ lookUp b t s
   unfolding lookUp
   look-up-alike t s = rw (held-alike t s, absence-alike)
+
+pub alike-answers : AlikeAnswers
+alike-answers a b f = (used-alike a b f, sound-alike a b f, look-up-alike a b f, first-doubtful-alike a b f)

@@ -16,7 +16,7 @@ use Rattle.block.proofs.Sound.{sound-reads}
 use Rattle.block.proofs.Apart.{none-inside}
 use Rattle.log.specs.LookUp.{blocks, inBlock, outside, doubtful}
 use Rattle.ground.proofs.Places.{within-in, within-before, within-after}
-use Rattle.log.specs.Laws.{Walked, DoubtNone, DoubtSome}
+use Rattle.log.specs.Laws.{PassedTo, DoubtNone, DoubtSome}
 use Rattle.log.proofs.Blocks.{blocks-in, blocks-out}
 use Rattle.log.proofs.InBlock.{covers, in-none, in-some, outside-in, outside-out, outside-mono}
 
@@ -28,17 +28,17 @@ clash log m n r h e f =
     omega arith
 
 module _ (log : Bytes) where
-  pub walked-zero : Walked log 0
+  pub walked-zero : PassedTo log 0
   walked-zero m r h e = absurd (omega arith)
 
-  pub walked-none : (n : ℕ) → Walked log n → sound log n ≡ none → Walked log (n + 1)
+  pub walked-none : (n : ℕ) → PassedTo log n → sound log n ≡ none → PassedTo log (n + 1)
   walked-none n w e m r h f = go (eqb m n) refl
     where
       go : (b : Bool) → eqb m n ≡ b → m + parts r ≤ n + 1
       go true q = absurd (clash log m n r (eqb-true m n q) e f)
       go false q = omega (arith, w m r (omega (arith, eqb-false m n q)) f)
 
-  pub walked-some : (n : ℕ) (r : Row) → Walked log n → sound log n ≡ some r → Walked log (n + parts r)
+  pub walked-some : (n : ℕ) (r : Row) → PassedTo log n → sound log n ≡ some r → PassedTo log (n + parts r)
   walked-some n r w e m s h f = go (ltb m n) (eqb m n) refl refl
     where
       go : (a b : Bool) → ltb m n ≡ a → eqb m n ≡ b → m + parts s ≤ n + parts r
@@ -51,7 +51,7 @@ module _ (log : Bytes) where
           let k : m ≡ n + (m - n) = omega (arith, ltb-false m n p) in
           absurd (clash log m (n + (m - n)) s k (none-inside log n (m - n) r e (omega (arith, ltb-false m n p, eqb-false m n q)) (omega (arith, ltb-false m n p))) f)
 
-  clear : (n : ℕ) (r : Row) → Walked log n → sound log n ≡ none → sound log (r .first) ≡ some r → covers r n ≡ false
+  clear : (n : ℕ) (r : Row) → PassedTo log n → sound log n ≡ none → sound log (r .first) ≡ some r → covers r n ≡ false
   clear n r w e f = go (ltb (r .first) n) (eqb (r .first) n) refl refl
     where
       go : (a b : Bool) → ltb (r .first) n ≡ a → eqb (r .first) n ≡ b → covers r n ≡ false
@@ -59,7 +59,7 @@ module _ (log : Bytes) where
       go false true p q = absurd (clash log (r .first) n r (eqb-true (r .first) n q) e f)
       go false false p q = within-before (r .first) (parts r) n (omega (arith, ltb-false (r .first) n p, eqb-false (r .first) n q))
 
-  pub doubtful-at : (n : ℕ) → Walked log n → sound log n ≡ none → inBlock (blocks log) n ≡ false
+  pub doubtful-at : (n : ℕ) → PassedTo log n → sound log n ≡ none → inBlock (blocks log) n ≡ false
   doubtful-at n w e = in-none (blocks log) n (λ r m. clear n r w e (blocks-out log r m))
 
 -- passing a sector where no block starts adds one
@@ -86,7 +86,7 @@ doubt-some log n r e = go (parts r) (omega arith)
 
 module _ (log : Bytes) where
   -- where none starts in the used part, a sector is doubtful
-  pub doubt-first : (n : ℕ) → Walked log n → n < used log → sound log n ≡ none → doubtful log ≢ 0
+  pub doubt-first : (n : ℕ) → PassedTo log n → n < used log → sound log n ≡ none → doubtful log ≢ 0
   unfolding doubtful
   doubt-first n w h e z = omega (arith, doubt-none log n w e, outside-mono (blocks log) (n + 1) (used log) (omega arith))
 

@@ -51,15 +51,26 @@ first-end log n z h =
     ∙ b
 
 -- where the walk ends before the used part does, something is doubtful; else nothing is
-out-of : (rows : List Row) (k n : ℕ) → firstOutside rows k n < n + k → inBlock rows (firstOutside rows k n) ≡ false
+pub outside-at : (rows : List Row) (k n : ℕ) → firstOutside rows k n < n + k → inBlock rows (firstOutside rows k n) ≡ false
 unfolding firstOutside
-out-of rows zero n h = absurd (omega arith)
-out-of rows (suc k) n h = go (inBlock rows n) refl (out-of rows k (suc n))
+outside-at rows zero n h = absurd (omega arith)
+outside-at rows (suc k) n h = go (inBlock rows n) refl (outside-at rows k (suc n))
   where
     go : (b : Bool) → inBlock rows n ≡ b → (firstOutside rows k (suc n) < suc n + k → inBlock rows (firstOutside rows k (suc n)) ≡ false)
         → inBlock rows (firstOutside rows (suc k) n) ≡ false
     go true q f = rw q (f (let g : firstOutside rows k (suc n) < n + suc k = rw q at h in omega arith))
     go false q f = rw q q
+
+-- each sector before it is in a block
+pub inside-before : (rows : List Row) (k n i : ℕ) → n ≤ i → i < firstOutside rows k n → inBlock rows i ≡ true
+unfolding firstOutside
+inside-before rows zero n i a b = absurd (omega arith)
+inside-before rows (suc k) n i a b = go (inBlock rows n) (eqb i n) refl refl (inside-before rows k (suc n) i)
+  where
+    go : (t u : Bool) → inBlock rows n ≡ t → eqb i n ≡ u → (suc n ≤ i → i < firstOutside rows k (suc n) → inBlock rows i ≡ true) → inBlock rows i ≡ true
+    go false u q e f = absurd (let g : i < n = rw q at b in omega arith)
+    go true true q e f = ap (inBlock rows) (eqb-true i n e) ∙ q
+    go true false q e f = f (omega (arith, eqb-false i n e)) (rw q at b)
 
 all-in : (rows : List Row) (k n : ℕ) → n + k ≤ firstOutside rows k n → (i : ℕ) → n ≤ i → i < n + k → inBlock rows i ≡ true
 unfolding firstOutside
@@ -75,7 +86,7 @@ pub absence-known : (log : Bytes) → firstDoubtful log < used log → absence l
 unfolding absence doubtful firstDoubtful
 absence-known log h =
     let n = firstOutside (blocks log) (used log) 0 in
-    let o : inBlock (blocks log) n ≡ false = out-of (blocks log) (used log) 0 (omega arith) in
+    let o : inBlock (blocks log) n ≡ false = outside-at (blocks log) (used log) 0 (omega arith) in
     rw (ne-eqb (outside (blocks log) (used log)) 0 (λ z. true≢false (sym (outside-zero (blocks log) (used log) z n h) ∙ o)))
 
 pub absence-held : (log : Bytes) → used log ≤ firstDoubtful log → absence log ≡ NotHeld

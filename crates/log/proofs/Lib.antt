@@ -10,3 +10,4 @@ pub mod Written
 pub mod Alike
 pub mod Parts
 pub mod Counted
+pub mod Gives

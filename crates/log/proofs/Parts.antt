@@ -22,6 +22,7 @@ use Rattle.refusal.specs.declared.Refusal.the-variants.{LogLength, BlockType}
 use Rattle.log.specs.declared.Look.the-variants.{Refused}
 use Rattle.log.specs.LookUp.{held, absence, lookUp, firstDoubtful, logAllowed, lookUpAsked}
 use Rattle.log.specs.Parts.{tape, writtenFrom, moved}
+use Rattle.log.specs.Laws.{LookUpAlone}
 use Rattle.log.proofs.Alike.{held-alike, absence-alike, first-doubtful-alike, look-up-alike}
 
 module _ (log waiting : Bytes) where
@@ -134,3 +135,6 @@ module _ (log : Bytes) where
       → lookUpAsked log [] t s ≡ cond (logAllowed (length log)) (cond (lawful t) (lookUp log t s) (Refused BlockType)) (Refused LogLength)
   unfolding lookUpAsked
   look-up-asked-alone t s = rw (look-up-alone t s)
+
+pub look-up-only : LookUpAlone
+look-up-only log t s = (look-up-alone log t s, look-up-asked-alone log t s)

@@ -9,7 +9,7 @@ use Rattle.ground.specs.Choice.{on}
 use Rattle.ground.specs.Places.{foundFrom, within}
 use Rattle.buffer.specs.Bytes.{Bytes, same}
 use Rattle.kind.specs.Kind.{lawful, zeroScore}
-use Rattle.refusal.specs.Number.{numberOf}
+use Rattle.refusal.specs.Number.{numberOf, toldSector}
 use Rattle.refusal.specs.declared.Refusal.{Refusal}
 use Rattle.refusal.specs.declared.Refusal.the-variants.{LogLength, BlockType, NotHeld, NotKnown, OverCount}
 use Rattle.block.specs.Block.{Row, parts}
@@ -72,6 +72,16 @@ counted count (Refused w) = Refused w
 abbrev pub lookNumber : Look → ℕ
 lookNumber (Found first size) = 0
 lookNumber (Refused w) = numberOf w
+
+-- the block's first sector and size, where it finds one
+abbrev pub lookPlace : Look → Option (ℕ × ℕ)
+lookPlace (Found first size) = some (first .0, size)
+lookPlace (Refused w) = none
+
+-- the doubtful sector that it tells, 0 where it tells none
+abbrev pub lookSector : Look → ℕ
+lookSector (Found first size) = 0
+lookSector (Refused w) = toldSector w
 
 -- "The limit of 131,072 sectors becomes 1,048,576, with refusal 3 beyond it"
 abbrev pub mostSectors : ℕ

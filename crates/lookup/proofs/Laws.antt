@@ -31,7 +31,7 @@ use Rattle.log.specs.declared.Look.the-variants.{Found, Refused}
 use Rattle.log.specs.LookUp.{blocks, firstOf, outside, firstDoubtful, mostSectors, logAllowed, held, absence, lookUp, counted, lookUpAsked}
 use Rattle.log.specs.Parts.{tape}
 use Rattle.log.proofs.First.{first-none, first-some}
-use Rattle.log.specs.Laws.{Walked}
+use Rattle.log.specs.Laws.{PassedTo}
 use Rattle.log.proofs.Doubt.{walked-some, doubtful-at, doubt-some}
 use Rattle.log.proofs.FirstDoubt.{first-at, first-end, absence-known, absence-held}
 use Rattle.log.proofs.Alike.{blocks-alike}
@@ -101,7 +101,7 @@ find-nowhere log n t s a b inv =
 
 -- one turn of the walk for doubt
 abbrev pub Passed : Bytes → ℕ → Type 0
-Passed log n = Walked log n × (outside (blocks log) n ≡ 0)
+Passed log n = PassedTo log n × (outside (blocks log) n ≡ 0)
 
 pub walk-stops : (log : Bytes) (n k : ℕ) → Passed log n → n < used log → k ≡ sizeOf (sound log n) → k ≡ 0 → n ≡ firstDoubtful log
 walk-stops log n k p h e z = sym (first-at log n (p .1) h (doubtful-at log n (p .0) (none-sound log n k e z)))

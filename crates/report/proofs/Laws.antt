@@ -22,7 +22,7 @@ use Rattle.block.proofs.Used.{used-le-sectors}
 use Rattle.reader.specs.Reader.{sizeOf}
 use Rattle.log.specs.LookUp.{blocks, inBlock, outside, doubtful, mostSectors, logAllowed}
 use Rattle.log.proofs.Doubt.{walked-zero, walked-none, walked-some, doubt-none, doubt-some}
-use Rattle.log.specs.Laws.{Walked}
+use Rattle.log.specs.Laws.{PassedTo}
 use Rattle.log.proofs.Records.{records-none, records-some, records-used}
 use Rattle.lookup.proofs.Laws.{sized, none-sound, allowed-sectors}
 use Rattle.report.specs.declared.Survey.{Survey}
@@ -139,7 +139,7 @@ text-written d d₁ d₂ d₃ d₄ d₅ count end s a b c e r h w₁ w₂ w₃ w
 
 -- the walk stands at n, with what it counted
 pub record Counted (log : Bytes) (n records doubts : ℕ) : Type 0 where
-  pub walked : Walked log n
+  pub walked : PassedTo log n
   pub inside : n ≤ used log
   pub blocks-before : records ≡ length (foundFrom (sound log) n 0)
   pub doubts-before : doubts ≡ outside (blocks log) n

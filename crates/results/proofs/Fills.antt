@@ -10,7 +10,7 @@ use Rattle.word.specs.Number.{Below}
 use Rattle.word.proofs.NumberLaws.{value-lt}
 use Rattle.entry.specs.Entry.{entryOf}
 use Rattle.fill.specs.declared.Filled.{Filled}
-use Rattle.fill.specs.Fill.{stopNumber, Outcome, outcome, fillOf}
+use Rattle.fill.specs.Fill.{stopNumber, FillOutcome, fillOutcome, fillOf}
 use Rattle.file_laws.proofs.Filled.{fill-files}
 use Rattle.results.specs.Tree.{filledNumber, filledUp, fillResult}
 
@@ -24,10 +24,10 @@ size-few b h =
     omega (arith, value-lt 256 s few, room)
 
 -- of the code's answer
-pub fills-few : (log b : Bytes) (offset : ℕ) (d d′ : Bytes) (f : Filled) → Below 256 b → outcome f d′ ≡ fillOf log b offset d → f .count < 2 ^ 48
+pub fills-few : (log b : Bytes) (offset : ℕ) (d d′ : Bytes) (f : Filled) → Below 256 b → fillOutcome f d′ ≡ fillOf log b offset d → f .count < 2 ^ 48
 fills-few log b offset d d′ f h e =
-    let c : f .count ≡ fillOf log b offset d .filled .count = ap (λ (o : Outcome). o .filled .count) e in
+    let c : f .count ≡ fillOf log b offset d .filled .count = ap (λ (o : FillOutcome). o .filled .count) e in
     omega (arith, c, fill-files log b offset d .1, size-few b h)
 
-pub filled-so : (f : Filled) (d : Bytes) (o : Outcome) (k : ℕ) → outcome f d ≡ o → k ≡ stopNumber (f .stop) → filledUp (k + 256 * f .count) d ≡ fillResult o
+pub filled-so : (f : Filled) (d : Bytes) (o : FillOutcome) (k : ℕ) → fillOutcome f d ≡ o → k ≡ stopNumber (f .stop) → filledUp (k + 256 * f .count) d ≡ fillResult o
 filled-so f d o k e g = ap (λ (x : ℕ). filledUp (x + 256 * f .count) d) g ∙ ap fillResult e

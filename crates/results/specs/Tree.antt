@@ -7,7 +7,7 @@ use Rattle.refusal.specs.Number.{numberOf, toldSector}
 use Rattle.file.specs.declared.Located.{Located}
 use Rattle.file.specs.declared.Located.the-variants.{Stored, Zeros, Refused}
 use Rattle.fill.specs.declared.Filled.{Filled}
-use Rattle.fill.specs.Fill.{stopNumber, Outcome}
+use Rattle.fill.specs.Fill.{stopNumber, FillOutcome}
 use Rattle.visit.specs.declared.End.{End}
 use Rattle.visit.specs.declared.End.the-variants.{Done, Refused as Stopped}
 use Rattle.visit.specs.declared.Walked.{Walked}
@@ -50,7 +50,7 @@ pub record Fill : Type 0 where
 abbrev pub filledUp : ℕ → Bytes → Fill
 filledUp r b = record { result = r; buffer = b }
 
-abbrev pub fillResult : Outcome → Fill
+abbrev pub fillResult : FillOutcome → Fill
 fillResult o = filledUp (filledNumber (o .filled)) (o .buffer)
 
 -- the sector that the end of a walk tells of, 0 where it tells of none
