@@ -5,6 +5,7 @@ mod common;
 
 use std::fs;
 use std::os::unix::fs::PermissionsExt;
+use std::path::Path;
 use std::process::Command;
 
 use common::*;
@@ -13,7 +14,7 @@ use common::*;
 fn repository(rt: &str) -> Place {
     let place = Place::new();
     let script = concat!(env!("CARGO_MANIFEST_DIR"), "/../../skywimple");
-    fs::copy(script, place.path("skywimple")).unwrap();
+    copy_program(Path::new(script), &place.path("skywimple"));
     let list = "# The crates.\nword:\nother: word\nlog: word libc\nboundary: word log\n";
     place.write("crates.txt", list);
     for name in ["word", "other", "log", "boundary"] {

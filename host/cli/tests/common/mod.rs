@@ -62,6 +62,13 @@ pub struct Place {
     other: Option<(u32, PathBuf)>,
 }
 
+/// Copies a program, in a process of its own: were the copy written by this one, a program that
+/// another test starts meanwhile would hold it open for writing, and nobody could run it.
+pub fn copy_program(from: &Path, to: &Path) {
+    let copied = Command::new("cp").arg(from).arg(to).status();
+    assert!(copied.expect("cp").success(), "a copy of {from:?}");
+}
+
 static PLACES: AtomicUsize = AtomicUsize::new(0);
 
 impl Place {
@@ -86,7 +93,7 @@ impl Place {
         let program = PathBuf::from(format!("{}-program", self.folder.display()));
         let _ = fs::remove_dir_all(&program);
         fs::create_dir(&program).expect("a temporary folder");
-        fs::copy(PROGRAM, program.join("skywimple")).expect("the program");
+        copy_program(Path::new(PROGRAM), &program.join("skywimple"));
         let files = fs::read_dir(&self.folder).expect("a folder");
         let files = files.map(|file| file.expect("a file").path());
         for path in files.chain([self.folder.clone()]) {
