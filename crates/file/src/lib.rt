@@ -117,7 +117,7 @@ fn run_in(look: Look, page: usize, e: Entry, offset: u64) -> Located
 }
 
 // Whether a page is not empty and all zeros.
-fn is_page(page: &[u8]) -> bool
+pub fn is_page(page: &[u8]) -> bool
     ensures { λ r. ⌜ r ≡ pageAllowed (now (page .entry)) ⌝ }
 {
     if page.len() == 0 {

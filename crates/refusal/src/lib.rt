@@ -50,6 +50,10 @@ pub enum Refusal {
     Pad,
     // An allowance over the limit.
     Allowance,
+    // An ill-formed card, or one over 4,096 bytes.
+    Card,
+    // An ill-formed query.
+    Query,
 }
 
 // Where the doubt is that a refusal tells of: the first doubtful sector for 12, and nowhere for all others.
@@ -85,7 +89,9 @@ pub fn doubt_of(why: Refusal) -> Doubt
         | Refusal::Nest
         | Refusal::Spent
         | Refusal::Pad
-        | Refusal::Allowance => Doubt::Nowhere,
+        | Refusal::Allowance
+        | Refusal::Card
+        | Refusal::Query => Doubt::Nowhere,
     }
 }
 
@@ -128,5 +134,7 @@ pub fn number(why: Refusal) -> u8
         Refusal::Spent => 21,
         Refusal::Pad => 22,
         Refusal::Allowance => 23,
+        Refusal::Card => 25,
+        Refusal::Query => 26,
     }
 }

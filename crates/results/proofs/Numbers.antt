@@ -1,11 +1,11 @@
--- The numbers of refusals are 1 to 23: none is the 0 for no refusal, and each fits in 8 bits.
+-- The numbers of refusals are 1 to 26: none is the 0 for no refusal, and each fits in 8 bits.
 use Prim.Native.Nat.{_≤_}
 use native.Mathlib.Omega.{arith}
 use Rattle.refusal.specs.declared.Refusal.{Refusal}
-use Rattle.refusal.specs.declared.Refusal.the-variants.{Frame, Buffer, LogLength, Closed, MessageType, Body, NoHello, Hello, BlockType, DataLength, NotHeld, NotKnown, OverCount, NoRoom, Clash, Entry, Offset, Pointers, Page, Nest, Spent, Pad, Allowance}
+use Rattle.refusal.specs.declared.Refusal.the-variants.{Frame, Buffer, LogLength, Closed, MessageType, Body, NoHello, Hello, BlockType, DataLength, NotHeld, NotKnown, OverCount, NoRoom, Clash, Entry, Offset, Pointers, Page, Nest, Spent, Pad, Allowance, Card, Query}
 use Rattle.refusal.specs.Number.{numberOf}
 
-pub number-bounds : (w : Refusal) → (1 ≤ numberOf w) × (numberOf w ≤ 23)
+pub number-bounds : (w : Refusal) → (1 ≤ numberOf w) × (numberOf w ≤ 26)
 number-bounds Frame = (omega arith, omega arith)
 number-bounds Buffer = (omega arith, omega arith)
 number-bounds LogLength = (omega arith, omega arith)
@@ -29,3 +29,5 @@ number-bounds Nest = (omega arith, omega arith)
 number-bounds Spent = (omega arith, omega arith)
 number-bounds Pad = (omega arith, omega arith)
 number-bounds Allowance = (omega arith, omega arith)
+number-bounds Card = (omega arith, omega arith)
+number-bounds Query = (omega arith, omega arith)

@@ -37,7 +37,7 @@ zeros-back n h =
     let m : n % 65536 ≡ n = omega arith in
     fields r 0 0 n true (omega arith) (eq-eqb (r / 256 % 2) 1 z) (ap (λ (x : ℕ). x / 65536) u ∙ o) (ap (λ (x : ℕ). x % 65536) u ∙ m)
 
-refusal-back : (k s : ℕ) → k ≤ 23 → unpacked (k + 256 * (2 * (65536 * s))) ≡ run k false s 0
+refusal-back : (k s : ℕ) → k ≤ 26 → unpacked (k + 256 * (2 * (65536 * s))) ≡ run k false s 0
 refusal-back k s h =
     let r = k + 256 * (2 * (65536 * s)) in
     let u : r / 256 ≡ 2 * (65536 * s) = omega arith in

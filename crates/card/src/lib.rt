@@ -1,0 +1,213 @@
+// Cards: lines that say of antigens whether they are present or absent.
+use kleene::Value;
+ghost use mathlib.Core.Path.{_≡_};
+ghost use Prim.Native.Nat.{_+_, _≤_};
+ghost use lib.ListN.{length, drop};
+ghost use Rattle.card.specs.Name.{letterOrDigit, lettersAndDigits, reserved, isName, before};
+ghost use Rattle.card.specs.Card.{upToEquals, begins, lineOf, told, wellFormed, valueIn};
+ghost use Rattle.card.specs.Scan.{placeOf};
+
+// A line by its places: where its name ends, where the line ends, and whether it says present; or that there is none.
+pub enum Place {
+    Line {
+        equals: usize,
+        end: usize,
+        present: bool,
+    },
+    Nothing,
+}
+
+// Whether a byte is 0 to 9, A to Z or a to z.
+fn is_letter_or_digit(b: u8) -> bool
+    ensures { λ r. ⌜ r ≡ letterOrDigit b ⌝ }
+{
+    if b < 0x30 {
+        return false;
+    }
+    if b <= 0x39 {
+        return true;
+    }
+    if b < 0x41 {
+        return false;
+    }
+    if b <= 0x5a {
+        return true;
+    }
+    if b < 0x61 {
+        return false;
+    }
+    b <= 0x7a
+}
+
+// Whether all bytes are letters or digits.
+fn are_letters_and_digits(s: &[u8]) -> bool
+    ensures { λ r. ⌜ r ≡ lettersAndDigits (now (s .entry)) ⌝ }
+{
+    let mut i: usize = 0;
+    while i < s.len() {
+        if !is_letter_or_digit(s[i]) {
+            return false;
+        }
+        i += 1;
+    }
+    true
+}
+
+// Whether bytes are one of the words that queries have: and, or, not.
+fn is_reserved(s: &[u8]) -> bool
+    ensures { λ r. ⌜ r ≡ reserved (now (s .entry)) ⌝ }
+{
+    if buffer::equal(s, b"and") {
+        return true;
+    }
+    if buffer::equal(s, b"or") {
+        return true;
+    }
+    buffer::equal(s, b"not")
+}
+
+// Whether bytes are the name of an antigen.
+pub fn is_name(s: &[u8]) -> bool
+    ensures { λ r. ⌜ r ≡ isName (now (s .entry)) ⌝ }
+{
+    if s.len() < 1 {
+        return false;
+    }
+    if 8 < s.len() {
+        return false;
+    }
+    if is_reserved(s) {
+        return false;
+    }
+    are_letters_and_digits(s)
+}
+
+// Whether a is before b, byte by byte; a beginning is before its continuation.
+fn is_before(a: &[u8], b: &[u8]) -> bool
+    ensures { λ r. ⌜ r ≡ before (now (a .entry)) (now (b .entry)) ⌝ }
+{
+    let mut i: usize = 0;
+    while i < b.len() {
+        if a.len() <= i {
+            return true;
+        }
+        if a[i] != b[i] {
+            return a[i] < b[i];
+        }
+        i += 1;
+    }
+    false
+}
+
+// Where the first "=" from a place on stands, or the end of the bytes.
+fn equals_from(s: &[u8], at: usize) -> usize
+    requires { ⌜ at ≤ length (now s) ⌝ }
+    ensures { λ r. ⌜ (r ≡ at + length (upToEquals (drop at (now (s .entry))))) × (r ≤ length (now (s .entry))) ⌝ }
+{
+    let mut i = at;
+    while i < s.len() {
+        if s[i] == b'=' {
+            return i;
+        }
+        i += 1;
+    }
+    i
+}
+
+// Whether p stands at a place of s.
+fn begins_at(s: &[u8], at: usize, p: &[u8]) -> bool
+    requires { ⌜ at ≤ length (now s) ⌝ }
+    ensures { λ r. ⌜ r ≡ begins (drop at (now (s .entry))) (now (p .entry)) ⌝ }
+{
+    if s.len() - at < p.len() {
+        return false;
+    }
+    let end = at + p.len();
+    buffer::equal(&s[at..end], p)
+}
+
+// The line that starts at a place.
+fn line_at(s: &[u8], at: usize) -> Place
+    requires { ⌜ at ≤ length (now s) ⌝ }
+    ensures { λ r. ⌜ r ≡ placeOf at (lineOf (drop at (now (s .entry)))) ⌝ }
+{
+    let equals = equals_from(s, at);
+    if begins_at(s, equals, b"=present\n") {
+        return Place::Line {
+            equals,
+            end: equals + 9,
+            present: true,
+        };
+    }
+    if begins_at(s, equals, b"=absent\n") {
+        return Place::Line {
+            equals,
+            end: equals + 8,
+            present: false,
+        };
+    }
+    Place::Nothing
+}
+
+// Yes for present, no for absent.
+fn told(present: bool) -> Value
+    ensures { λ r. ⌜ r ≡ told present ⌝ }
+{
+    if present {
+        return Value::Yes;
+    }
+    Value::No
+}
+
+// What a card says of a name: any bytes and any name.
+pub fn value_in(card: &[u8], name: &[u8]) -> Value
+    ensures { λ r. ⌜ r ≡ valueIn (now (card .entry)) (now (name .entry)) ⌝ }
+{
+    let mut at: usize = 0;
+    while at < card.len() {
+        let place = line_at(card, at);
+        let Place::Line {
+            equals,
+            end,
+            present,
+        } = place
+        else {
+            return Value::NotKnown;
+        };
+        if buffer::equal(&card[at..equals], name) {
+            return told(present);
+        }
+        at = end;
+    }
+    Value::NotKnown
+}
+
+// Whether bytes are a card: lines one after another to the last byte, their names rising.
+pub fn is_card(s: &[u8]) -> bool
+    ensures { λ r. ⌜ r ≡ wellFormed (now (s .entry)) ⌝ }
+{
+    let mut from: usize = 0;
+    let mut to: usize = 0;
+    let mut at: usize = 0;
+    while at < s.len() {
+        let place = line_at(s, at);
+        let Place::Line {
+            equals,
+            end,
+            present: _,
+        } = place
+        else {
+            return false;
+        };
+        if !is_name(&s[at..equals]) {
+            return false;
+        }
+        if !is_before(&s[from..to], &s[at..equals]) {
+            return false;
+        }
+        from = at;
+        to = equals;
+        at = end;
+    }
+    true
+}

@@ -1,0 +1,3 @@
+-- What the clauses of `evaluate` cite.
+pub mod Read
+pub mod Evaluate

@@ -1,0 +1,3 @@
+-- What the clauses of `kleene` cite.
+pub mod Kleene
+pub mod Order

@@ -1,0 +1,11 @@
+-- The laws of queries.
+pub mod Words
+pub mod Names
+pub mod Front
+pub mod Sound
+pub mod Complete
+pub mod OneToOne
+pub mod Monotone
+pub mod Examples
+pub mod Places
+pub mod Fused

@@ -1,0 +1,2 @@
+-- What the clauses of `search` cite.
+pub mod Search

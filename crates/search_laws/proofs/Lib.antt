@@ -1,0 +1,6 @@
+pub mod Course
+pub mod Whole
+pub mod Unreadable
+pub mod Lines
+pub mod Again
+pub mod Examples

@@ -1,0 +1,3 @@
+-- What the card search promises.
+pub mod Promises
+pub mod Examples
