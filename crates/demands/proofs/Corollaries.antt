@@ -1,23 +1,17 @@
 -- What the demands say in plain terms: each claim of specs/Corollaries.antt.
 use mathlib.Core.Path.{_≡_, refl, sym, ap, ap₂, _∙_}
-use mathlib.Core.Bool.{Bool, true, false, not, true≢false}
-use mathlib.Core.List.{List, [], List·Memᴰ}
+use mathlib.Core.Bool.{Bool, true, false, true≢false}
+use mathlib.Core.List.{[], List·Memᴰ}
 use mathlib.Core.Logic.{_⊎_, inl, inr, _≢_}
 use mathlib.Core.Option.{Option, none, some}
-use Prim.Native.Nat.{ℕ, _+_, _≤_, _<_}
+use Prim.Native.Nat.{ℕ, _+_, _<_}
 use native.Mathlib.Omega.{arith}
-use lib.Dec.{ltb, eqb}
 use lib.ListN.{length}
-use borrow.Author.Tests.{lt-leb, le-ltb, leb-false, ltb-false, eq-eqb}
+use borrow.Author.Tests.{lt-leb, le-ltb, leb-false}
 use Rattle.ground.proofs.Cases.{cond-ind}
 use Rattle.buffer.specs.Bytes.{Bytes, same}
 use Rattle.buffer.proofs.Bytes.{same-false, same-true, same-refl}
-use Rattle.word.specs.Number.{small}
 use Rattle.sha1.specs.Sha1.{sha1Of}
-use Rattle.refusal.specs.Number.{numberOf}
-use Rattle.refusal.specs.declared.Refusal.the-variants.{NotHeld, NotKnown}
-use Rattle.message.specs.Message.{tagOf}
-use Rattle.message.specs.Reply.{readReply, writeReply}
 use Rattle.kind.specs.Kind.{lawful, zeroScore}
 use Rattle.block.specs.Block.{Row, partsOf}
 use Rattle.block.specs.Log.{sectors, at, used}
@@ -27,34 +21,25 @@ use Rattle.block.proofs.Sound.{sound-reads}
 use Rattle.log.specs.LookUp as look
 use Rattle.log.specs.Store as stores
 use Rattle.log.proofs.First.{first-sound}
-use Rattle.archive.specs.Step.{Outcome, step, granted}
-use Rattle.archive.specs.declared.Session.{Session}
+use Rattle.archive.specs.Step.{Outcome, step}
 use Rattle.archive.specs.declared.Session.the-variants.{Greeted}
-use Rattle.ledger.specs.Ledger.{next, has, hit, intact, end}
-use Rattle.ledger.specs.Trace.{trace}
-use Rattle.ledger.specs.History.{Item, AllOfBytes, Standing, answer, Books, recount}
+use Rattle.ledger.specs.Ledger.{has, hit, intact, end}
 use Rattle.ledger.proofs.Covers.{hit-has}
 use Rattle.ledger.proofs.Intact.{intact-out}
-use Rattle.ledger.proofs.Trace.{Agree}
-use Rattle.ledger.proofs.Steps.{serve-tell, reflects-serve}
-use Rattle.ledger.proofs.Lists.{Stands, begins, follows}
-use Rattle.demands.specs.Ledger.{Asked, anyUncovered, firstRow, tell}
+use Rattle.demands.specs.Ledger.{anyUncovered, firstRow}
 use Rattle.demands.specs.Instance.{archive}
-use Rattle.demands.specs.Requests.{Writes, Reads}
-use Rattle.demands.specs.Histories.{History, cleanLog, atDamage, logOf, toldLedger, ledgerOf, afterwards, NoneIntact}
+use Rattle.demands.specs.Histories.{History, cleanLog, atDamage, logOf, toldLedger, ledgerOf, NoneIntact}
 use Rattle.demands.specs.Corollaries as claims
 use Rattle.demands.specs.Corollaries.{AtMostOne, alike, adds}
-use Rattle.demands.proofs.LookUp.{outside-none}
 use Rattle.demands.proofs.First.{same-some, first-in, first-none}
-use Rattle.demands.proofs.Seen.{given, storedAs, kept, held-zero, empty-score, held-other, absence-is}
-use Rattle.demands.proofs.Laws.{lawful as laws}
+use Rattle.demands.proofs.Seen.{given, storedAs, kept, held-zero, empty-score, held-other}
 use Rattle.demands.proofs.Greeted.{write-step, read-step}
 use Rattle.demands.proofs.Outcomes.{appends-at-most-one}
 use Rattle.demands.proofs.Uncovered.{changed-uncovered}
-use Rattle.demands.proofs.Known.{Known, known-told, known-after}
-use Rattle.demands.proofs.Reflected.{mirrored, known-reads, known-writes}
+use Rattle.demands.proofs.Reflected.{mirrored}
+use Rattle.demands.proofs.Moment.{read-found, then-reads, then-writes, answers-stored, twelve-first, eleven-covered, read-unknown}
 use Rattle.demands.proofs.Lost.{lost-after}
-use Rattle.demands.proofs.Histories.{reflected, toldBooks, stands-told, changed-of, cleanLedger, clean-single}
+use Rattle.demands.proofs.Histories.{reflected, waiting-none, toldBooks, stands-told, changed-of, cleanLedger, clean-single}
 use Rattle.demands.proofs.Hurt.{given-same, reads-with, clean-first, length-later, held-later}
 
 differ : (x y : Bytes) → same x y ≡ false → x ≢ y
@@ -110,22 +95,6 @@ held-score log t s r l e = go (same s zeroScore) refl
         let g = sound-reads log (r .first) r (f .0) in
         sym (valid-facts r (g .0) .scored) ∙ f .2
 
--- a read that is answered found a block not longer than the count
-read-found : (t count : ℕ) (s m log buffer : Bytes) → Reads m buffer log t count s → step Greeted m log buffer .number ≡ 0
-    → (r : Row) × (look.held log t s ≡ some r) × (length (r .bytes) ≤ count) × (step Greeted m log buffer ≡ granted (readReply (tagOf m) (r .bytes)) Greeted log buffer)
-unfolding look.absence
-read-found t count s m log buffer Q n = go (look.held log t s) refl (ap (λ (o : Outcome). o .number) (sym (read-step m buffer log t count s Q)) ∙ n)
-  where
-    short : (r : Row) → look.held log t s ≡ some r → (b : Bool) → ltb count (length (r .bytes)) ≡ b → given log m buffer count (some r) .number ≡ 0
-        → (r : Row) × (look.held log t s ≡ some r) × (length (r .bytes) ≤ count) × (step Greeted m log buffer ≡ granted (readReply (tagOf m) (r .bytes)) Greeted log buffer)
-    short r e true q z = absurd (let w : _≡_ {A = ℕ} 13 0 = rw q at z in omega arith)
-    short r e false q z = (r, e, ltb-false count (length (r .bytes)) q, read-step m buffer log t count s Q ∙ ap (given log m buffer count) e ∙ rw q)
-
-    go : (o : Option Row) → look.held log t s ≡ o → given log m buffer count o .number ≡ 0
-        → (r : Row) × (look.held log t s ≡ some r) × (length (r .bytes) ≤ count) × (step Greeted m log buffer ≡ granted (readReply (tagOf m) (r .bytes)) Greeted log buffer)
-    go none e z = absurd (cond-ind (λ w. numberOf w ≡ 0 → ⊥) (eqb (look.doubtful log) 0) NotHeld (NotKnown (record { 0 = look.firstDoubtful log })) (λ _ x. omega arith) (λ _ x. omega arith) z)
-    go (some r) e z = short r e (ltb count (length (r .bytes))) refl z
-
 pub answers-have-the-score : claims.AnswersHaveTheScore
 answers-have-the-score t count s m log buffer Q n =
     let f = read-found t count s m log buffer Q n in
@@ -166,69 +135,24 @@ unfolding stores.store
 intact-is-duplicate h t d m buffer r e b n W =
     write-step m buffer (logOf h) t d W ∙ ap (λ o. kept m buffer (storedAs (logOf h) t d o)) (held-later h t (sha1Of d) r (W .lawful-type) e n) ∙ rw (b, same-refl d)
 
--- a write that was answered, and any requests after it: the log reflects a ledger that knows the data
-module _ (h : History) (t : ℕ) (d m buffer : Bytes) (sm : small m ≡ true) (W : Writes m buffer (logOf h) t d) (answered : step Greeted m (logOf h) buffer .number ≡ 0)
-    (past : List Session) (qs : List (Item archive)) (b : AllOfBytes archive qs) where
-  asked : Asked
-  asked = record { message = m; buffer = buffer }
-
-  start : Standing archive
-  start = record { log = step Greeted m (logOf h) buffer .log; past = past }
-
-  books : Books archive
-  books = record { start = step Greeted m (logOf h) buffer .log; added = []; ledger = next archive (ledgerOf h) (tell (ledgerOf h .rows) (ledgerOf h .changed) (length (logOf h)) Greeted asked); past = past }
-
-  goes-so : Agree (Stands archive) (trace (answer archive) start qs) (trace (recount archive) books qs)
-  unfolding asked start books
-  goes-so = follows archive laws start books qs b (begins archive (start .log) (books .ledger) past (reflects-serve archive laws (logOf h) (ledgerOf h) (reflected h) Greeted asked sm))
-
-  knows : Known t d (trace (recount archive) books qs .left .ledger)
-  unfolding asked books
-  knows = known-after t d books qs b
-      (known-told t d (ledgerOf h) m buffer (logOf h) W (sym (ap (λ o. o .answer .number) (serve-tell archive laws (logOf h) (ledgerOf h) (reflected h) Greeted asked sm)) ∙ answered))
-
-  then-reads : (count : ℕ) (m′ buffer′ : Bytes) → length d ≤ count → let log = afterwards (step Greeted m (logOf h) buffer .log) past qs in
-      Reads m′ buffer′ log t count (sha1Of d) → step Greeted m′ log buffer′ ≡ granted (readReply (tagOf m′) d) Greeted log buffer′
-  unfolding start
-  then-reads count m′ buffer′ le Q = known-reads (afterwards (step Greeted m (logOf h) buffer .log) past qs) (trace (recount archive) books qs .left .ledger) (goes-so .left .mirrors) t count d m′ buffer′ knows Q le
-
-  then-writes : (m′ buffer′ : Bytes) → let log = afterwards (step Greeted m (logOf h) buffer .log) past qs in
-      Writes m′ buffer′ log t d → step Greeted m′ log buffer′ ≡ granted (writeReply (tagOf m′) (sha1Of d)) Greeted log buffer′
-  unfolding start
-  then-writes m′ buffer′ W′ = known-writes (afterwards (step Greeted m (logOf h) buffer .log) past qs) (trace (recount archive) books qs .left .ledger) (goes-so .left .mirrors) t d m′ buffer′ knows W′
-
 pub stored-reads-back : claims.StoredReadsBack
-stored-reads-back h t d m buffer sm W answered past qs b count m′ buffer′ le Q = then-reads h t d m buffer sm W answered past qs b count m′ buffer′ le Q
+stored-reads-back h t d m buffer sm W answered past qs b = then-reads (logOf h) (ledgerOf h) (reflected h) (waiting-none h) t d m buffer sm W answered past qs b
 
 pub duplicate-adds-nothing : claims.DuplicateAddsNothing
-duplicate-adds-nothing h t d m buffer sm W answered past qs b m′ buffer′ W′ = then-writes h t d m buffer sm W answered past qs b m′ buffer′ W′
+duplicate-adds-nothing h t d m buffer sm W answered past qs b = then-writes (logOf h) (ledgerOf h) (reflected h) (waiting-none h) t d m buffer sm W answered past qs b
 
 pub answers-are-stored : claims.AnswersAreStored
-answers-are-stored h t count s m buffer Q z n =
-    let f = read-found t count s m (logOf h) buffer Q n in
-    let M = mirrored (logOf h) (ledgerOf h) (reflected h) in
-    let i = first-in t s (intact archive (ledgerOf h)) (f .0) (sym (held-other (logOf h) (intact archive (ledgerOf h)) (end archive (ledgerOf h)) M t s (same-false s zeroScore z)) ∙ f .1) in
-    (f .0, i .0, i .1, i .2, f .3)
+answers-are-stored h = answers-stored (logOf h) (ledgerOf h) (reflected h)
 
--- 11 is answered only where no sector is doubtful, on any log
-not-held-none-doubtful : (s : Session) (m log buffer : Bytes) → small m ≡ true → step s m log buffer .number ≡ 11 → look.doubtful log ≡ 0
-not-held-none-doubtful s m log buffer sm = go (step s m log buffer) (appends-at-most-one s m log buffer sm)
-  where
-    go : (o : Outcome) → AtMostOne log o → o .number ≡ 11 → look.doubtful log ≡ 0
-    go o (alike e n) q = n q
-    go o (adds r e n v f room) q = absurd (omega arith)
+pub twelve-tells : claims.TwelveTells
+twelve-tells h = twelve-first (logOf h) (ledgerOf h) (reflected h)
 
 -- a changed sector stays uncovered to the end of the history
 still-uncovered : (h : History) (k : ℕ) → has k (h .changed) ≡ true → anyUncovered (intact archive (ledgerOf h)) (end archive (ledgerOf h)) ≡ true
 still-uncovered h k e = changed-uncovered (ledgerOf h) k (ap (has k) (changed-of h) ∙ e)
 
 pub never-not-held-uncovered : claims.NeverNotHeldUncovered
-unfolding look.doubtful
-never-not-held-uncovered h s m buffer sm u n =
-    let M = mirrored (logOf h) (ledgerOf h) (reflected h) in
-    let open-sector : anyUncovered (look.blocks (logOf h)) (used (logOf h)) ≡ true = rw (M .blocks, M .ends) u in
-    true≢false
-    (sym (eq-eqb (look.doubtful (logOf h)) 0 (not-held-none-doubtful s m (logOf h) buffer sm n)) ∙ outside-none (look.blocks (logOf h)) (used (logOf h)) ∙ ap not open-sector)
+never-not-held-uncovered h s m buffer sm u n = true≢false (sym u ∙ eleven-covered (logOf h) (ledgerOf h) (reflected h) s m buffer sm n)
 
 pub never-not-held : claims.NeverNotHeld
 never-not-held h s m buffer k sm e = never-not-held-uncovered h s m buffer sm (still-uncovered h k e)
@@ -236,12 +160,10 @@ never-not-held h s m buffer k sm e = never-not-held-uncovered h s m buffer sm (s
 pub not-known-until-stored : claims.NotKnownUntilStored
 not-known-until-stored h t count s m buffer k z e l n Q =
     let L = ledgerOf h in
-    let M = mirrored (logOf h) L (reflected h) in
     let lost : NoneIntact t s L = lost-after t s (atDamage h) (toldBooks h) (h .later) (h .later-of-bytes) (stands-told h) n l in
     let none-left : firstRow t s (intact archive L) ≡ none = first-none t s (intact archive L)
     (λ r i kind score. let p = intact-out archive (L .changed) (L .rows) r i in true≢false (sym (lost r (p .0) kind score) ∙ p .1)) in
-    read-step m buffer (logOf h) t count s Q
-    ∙ rw (held-other (logOf h) (intact archive L) (end archive L) M t s (same-false s zeroScore z) ∙ none-left, absence-is (logOf h) (intact archive L) (end archive L) M, still-uncovered h k e)
+    read-unknown (logOf h) L (reflected h) t count s m buffer z Q none-left (still-uncovered h k e)
 
 -- rows of one type and score are one row before the damage
 module _ (h : History) (t : ℕ) (s : Bytes) (z : s ≢ zeroScore) where

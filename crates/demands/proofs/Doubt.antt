@@ -7,18 +7,18 @@ use Prim.Native.Nat.{ℕ, zero, suc, _+_, _≤_, _<_}
 use native.Mathlib.Omega.{arith}
 use lib.Dec.{eqb, ltb}
 use borrow.Author.Tests.{eqb-true, eqb-false, ltb-true, ltb-false}
-use Rattle.ground.proofs.Cases.{or-false, or-right}
+use Rattle.ground.proofs.Cases.{cond-ind, or-false, or-right}
 use Rattle.buffer.specs.Bytes.{zeros}
 use Rattle.sector.specs.Sector.{blank}
 use Rattle.block.specs.Block.{Row}
 use Rattle.block.specs.Log.{at}
 use Rattle.block.proofs.At.{blank-is}
-use Rattle.ledger.specs.Ledger.{Ledger, has, covers, hit, intact, end}
-use Rattle.ledger.specs.Reflects.{Reflects, cell}
+use Rattle.ledger.specs.Ledger.{Ledger, has, covers, hit, intactOf, intact, end}
+use Rattle.ledger.specs.Reflects.{cell}
 use Rattle.ledger.proofs.Intact.{intact-in}
 use Rattle.demands.specs.Ledger.{coveredBy, anyUncovered, firstUncovered}
 use Rattle.demands.specs.Instance.{archive}
-use Rattle.demands.specs.Histories.{History, logOf, ledgerOf}
+use Rattle.demands.specs.Histories.{logOf, ledgerOf}
 use Rattle.demands.specs.Corollaries as claims
 use Rattle.demands.proofs.Histories.{reflected}
 
@@ -49,7 +49,7 @@ some-uncovered rows (suc e) u = go (coveredBy rows e) refl u (some-uncovered row
     go true q w f = let p = f w in (p .0, omega (arith, p .1), p .2)
 
 -- a covered sector is one of a row, and the other way round
-covering : (rows : List Row) (n : ℕ) → coveredBy rows n ≡ true → (r : Row) × List·Memᴰ r rows × (covers archive r n ≡ true)
+pub covering : (rows : List Row) (n : ℕ) → coveredBy rows n ≡ true → (r : Row) × List·Memᴰ r rows × (covers archive r n ≡ true)
 unfolding coveredBy
 covering [] n e = absurd (false≢true e)
 covering (r ∷ rows) n e = go (covers archive r n) refl e (covering rows n)
@@ -69,10 +69,19 @@ covered (s ∷ rows) r n m e = go (List·Memᴰ·cases-cons m) (λ t. covered ro
     go (inr t) f = or-right (covers archive s n) (coveredBy rows n) (f t)
 
 -- rows put nothing where they are not
-cell-none : (rows : List Row) (n : ℕ) → coveredBy rows n ≡ false → cell archive rows n ≡ blank
+pub cell-none : (rows : List Row) (n : ℕ) → coveredBy rows n ≡ false → cell archive rows n ≡ blank
 unfolding coveredBy
 cell-none [] n e = refl
 cell-none (r ∷ rows) n e = let p = or-false (covers archive r n) (coveredBy rows n) e in rw (p .0) (cell-none rows n (p .1))
+
+-- what no row covers no intact row does
+pub uncovered-intact : (cs : List ℕ) (rows : List Row) (n : ℕ) → coveredBy rows n ≡ false → coveredBy (intactOf archive cs rows) n ≡ false
+unfolding coveredBy
+uncovered-intact cs [] n e = refl
+uncovered-intact cs (r ∷ rows) n e =
+    let p = or-false (covers archive r n) (coveredBy rows n) e in
+    let rest : coveredBy (intactOf archive cs rows) n ≡ false = uncovered-intact cs rows n (p .1) in
+    cond-ind (λ (l : List Row). coveredBy l n ≡ false) (hit archive cs r) (intactOf archive cs rows) (r ∷ intactOf archive cs rows) (λ _. rest) (λ _. rw (p .0) rest)
 
 pub doubt-is-there : claims.DoubtIsThere
 doubt-is-there h u =

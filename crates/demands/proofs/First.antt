@@ -1,18 +1,19 @@
 -- The first row of a type and score: where there is none, where rows are added behind, where some are lost.
 use mathlib.Core.Path.{_≡_, refl, sym, ap, _∙_}
 use mathlib.Core.Bool.{Bool, true, false, cond, _&&_, true≢false}
-use mathlib.Core.List.{List, [], _∷_, _++_, List·Memᴰ, List·Memᴰ·head, List·Memᴰ·tail}
-use mathlib.Core.Logic.{_≢_}
-use mathlib.Core.Option.{none, some}
-use Prim.Native.Nat.{ℕ}
+use mathlib.Core.List.{List, [], _∷_, _++_, List·Memᴰ, List·Memᴰ·head, List·Memᴰ·tail, List·Memᴰ·not-nil, List·Memᴰ·cases-cons}
+use mathlib.Core.Logic.{_≢_, _⊎_, inl, inr}
+use mathlib.Core.Option.{Option, none, some}
+use Prim.Native.Nat.{ℕ, suc, _≤_}
 use native.Mathlib.Omega.{arith}
 use lib.Dec.{eqb}
-use borrow.Author.Tests.{eqb-true}
+use borrow.Author.Tests.{eqb-true, eq-eqb}
 use Rattle.ground.proofs.Cases.{and-true}
 use Rattle.buffer.specs.Bytes.{Bytes, same}
-use Rattle.buffer.proofs.Bytes.{same-true}
+use Rattle.buffer.proofs.Bytes.{same-true, same-refl}
 use Rattle.block.specs.Block.{Row}
 use Rattle.ledger.specs.Ledger.{hit, intactOf}
+use Rattle.ledger.proofs.Ascending.{Ascends, ascends-from}
 use Rattle.demands.specs.Ledger.{firstRow}
 use Rattle.demands.specs.Instance.{archive}
 
@@ -47,6 +48,25 @@ module _ (t : ℕ) (s : Bytes) where
           let p = and-true (eqb (x .kind) t) (same (x .score) s) q in
           (List·Memᴰ·head (sym same-row), ap (λ (y : Row). y .kind) (sym same-row) ∙ eqb-true (x .kind) t (p .0), ap (λ (y : Row). y .score) (sym same-row) ∙ same-true (x .score) s (p .1))
       go false q e f = let m = f e in (List·Memᴰ·tail (m .0), m .1, m .2)
+
+  -- where rows ascend, the first of its type and score starts before every other of them
+  pub first-least : (lo : ℕ) (rows : List Row) (y : Row) → Ascends archive lo rows → List·Memᴰ y rows → y .kind ≡ t → y .score ≡ s
+      → (r : Row) × (firstRow t s rows ≡ some r) × (r .first ≤ y .first)
+  unfolding firstRow
+  first-least lo [] y a m k e = absurd (List·Memᴰ·not-nil m)
+  first-least lo (x ∷ rows) y a m k e = go (is x) refl (List·Memᴰ·cases-cons m) (λ w. first-least (suc (x .first)) rows y (a .1) w k e)
+    where
+      Least : Option Row → Type 0
+      Least o = (r : Row) × (o ≡ some r) × (r .first ≤ y .first)
+
+      this : y ≡ x → is x ≡ true
+      this q = simp (eq-eqb (x .kind) t (ap (λ (z : Row). z .kind) (sym q) ∙ k), ap (λ (b : Bytes). same b s) (ap (λ (z : Row). z .score) (sym q) ∙ e) ∙ same-refl s)
+
+      go : (b : Bool) → is x ≡ b → (y ≡ x) ⊎ List·Memᴰ y rows → (List·Memᴰ y rows → Least (firstRow t s rows)) → Least (cond b (some x) (firstRow t s rows))
+      go true q (inl w) f = (x, refl, omega (arith, ap (λ (z : Row). z .first) w))
+      go true q (inr w) f = (x, refl, omega (arith, ascends-from archive (suc (x .first)) rows (a .1) y w))
+      go false q (inl w) f = absurd (true≢false (sym (this w) ∙ q))
+      go false q (inr w) f = f w
 
   pub first-front : (xs ys : List Row) (r : Row) → firstRow t s xs ≡ some r → firstRow t s (xs ++ ys) ≡ some r
   unfolding firstRow

@@ -1,11 +1,12 @@
 -- What holds of every history: the log reflects the ledger, and the ledger before and after the damage.
 use mathlib.Core.Path.{_≡_}
 use mathlib.Core.List.{[]}
+use lib.ListN.{length}
 use Rattle.ledger.specs.Ledger.{Ledger, told}
-use Rattle.ledger.specs.Reflects.{Reflects}
+use Rattle.ledger.specs.Reflects.{Reflects, Waits}
 use Rattle.ledger.specs.History.{Books, blank-books, harmed-books, first-books}
 use Rattle.ledger.proofs.Lists.{Stands, changed-after}
-use Rattle.ledger.proofs.After.{reflects-clean, stands-hurt, second-list}
+use Rattle.ledger.proofs.After.{extent-first, reflects-clean, stands-hurt, second-list}
 use Rattle.demands.specs.Instance.{archive}
 use Rattle.demands.specs.Histories.{History, cleanLog, atDamage, logOf, ledgerOf, Reflected, Keeps}
 use Rattle.demands.proofs.Laws.{lawful}
@@ -14,6 +15,9 @@ use Rattle.demands.proofs.Keeps.{list-keeps}
 
 pub reflected : Reflected
 reflected h = second-list archive lawful (h .size) (h .before) (h .before-of-bytes) (h .changed) (h .hurt) (h .damage) (h .later) (h .later-of-bytes) .left .mirrors
+
+pub waiting-none : (h : History) → Waits archive (logOf h) (ledgerOf h)
+waiting-none h = second-list archive lawful (h .size) (h .before) (h .before-of-bytes) (h .changed) (h .hurt) (h .damage) (h .later) (h .later-of-bytes) .left .waiting
 
 module _ (h : History) where
   -- the books when the damage has been told
@@ -35,6 +39,9 @@ module _ (h : History) where
 
   pub clean-single : Single cleanLedger
   clean-single = single-after (blank-books archive (h .size)) (h .before) (h .before-of-bytes) single-empty
+
+  pub length-clean : length (cleanLog h) ≡ h .size
+  length-clean = extent-first archive lawful (h .size) (h .before) (h .before-of-bytes)
 
   -- the requests after the damage hide nothing that look-up finds
   pub later-keeps : Keeps (h .hurt) (logOf h)

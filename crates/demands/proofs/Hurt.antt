@@ -11,7 +11,6 @@ use Rattle.kind.specs.Kind.{lawful, zeroScore}
 use Rattle.block.specs.Block.{Row}
 use Rattle.log.specs.LookUp as look
 use Rattle.log.specs.LookUp.{logAllowed}
-use Rattle.archive.specs.Step as steps
 use Rattle.ledger.specs.Ledger.{told, hit, intact, end}
 use Rattle.demands.specs.Ledger.{firstRow}
 use Rattle.demands.specs.Instance.{archive}
@@ -20,7 +19,7 @@ use Rattle.demands.specs.Histories.{History, cleanLog, logOf, toldLedger
 use Rattle.demands.proofs.First.{first-intact, intact-all}
 use Rattle.demands.proofs.Seen.{given, held-zero, held-other}
 use Rattle.demands.proofs.Reflected.{mirrored}
-use Rattle.demands.proofs.Histories.{cleanLedger, clean, stands-told, later-keeps}
+use Rattle.demands.proofs.Histories.{cleanLedger, clean, length-clean, stands-told, later-keeps}
 
 -- the answer of a read that finds a block is the same in two logs, but for the log
 pub given-same : (a b m buffer : Bytes) (count : ℕ) (r : Row) → let o = given a m buffer count (some r) in
@@ -53,7 +52,7 @@ module _ (h : History) where
       (mirrored (cleanLog h) (told archive [] (cleanLedger h)) (clean h)) t s q ∙ ap (firstRow t s) (intact-all (cleanLedger h .rows))
 
   pub length-later : length (logOf h) ≡ length (cleanLog h)
-  length-later = later-keeps h .0 ∙ h .damage .size
+  length-later = later-keeps h .0 ∙ h .damage .size ∙ sym (length-clean h)
 
   pub held-later : (t : ℕ) (s : Bytes) (r : Row) → lawful t ≡ true → look.held (cleanLog h) t s ≡ some r → hit archive (h .changed) r ≡ false → look.held (logOf h) t s ≡ some r
   held-later t s r l e n = later-keeps h .1 t s r (go (same s zeroScore) refl)

@@ -3,14 +3,13 @@ use mathlib.Core.Path.{_≡_, refl, ap, _∙_}
 use mathlib.Core.Bool.{Bool, true, false}
 use mathlib.Core.List.{List, [], _∷_}
 use mathlib.Core.Logic.{_⊎_, inl, inr}
-use mathlib.Core.Option.{Option, none, some}
+use mathlib.Core.Option.{none, some}
 use Prim.Native.Nat.{ℕ, _+_}
 use native.Mathlib.Omega.{arith}
 use lib.Dec.{ltb, eqb}
 use lib.ListN.{length}
 use borrow.Author.Tests.{eqb-true, eq-eqb, le-leb}
 use Rattle.ground.proofs.Cases.{cond-ind, on-ind}
-use Rattle.ground.specs.Choice.{on}
 use Rattle.buffer.specs.Bytes.{Bytes, same}
 use Rattle.buffer.proofs.Bytes.{same-refl, same-true}
 use Rattle.sha1.specs.Sha1.{sha1Of}
@@ -21,10 +20,10 @@ use Rattle.block.specs.Log.{sectors}
 use Rattle.archive.specs.Step.{replyRoom}
 use Rattle.archive.specs.declared.Session.{Session}
 use Rattle.archive.specs.declared.Session.the-variants.{Greeted}
-use Rattle.ledger.specs.Archive.{Ruling}
-use Rattle.ledger.specs.Ledger.{Ledger, has, covers, hit, intactOf, intact, enter, end, next}
+use Rattle.ledger.specs.Archive.{Effect, stays, adds, settles, Ruling}
+use Rattle.ledger.specs.Ledger.{Ledger, has, covers, hit, intactOf, intact, enter, end, note, next}
 use Rattle.ledger.specs.Trace.{trace}
-use Rattle.ledger.specs.History.{Item, AllOfBytes, given, Books, recount}
+use Rattle.ledger.specs.History.{Item, AllOfBytes, Books, ruling, recount}
 use Rattle.ledger.proofs.Trace.{trace-keeps}
 use Rattle.ledger.proofs.Covers.{covers-reads, hit-not}
 use Rattle.ledger.proofs.Ends.{end-changed}
@@ -51,18 +50,19 @@ module _ (t : ℕ) (d : Bytes) where
   known-enter L r (inl e) = inl e
   known-enter L r (inr k) = inr (k .0, rw (intact-append (L .changed) (L .rows) (r ∷ [])) (first-front t (sha1Of d) (intact archive L) (intactOf archive (L .changed) (r ∷ [])) (k .0) (k .1)), k .2)
 
-  known-next : (L : Ledger archive) (o : Ruling Answer Session Row) → Known L → Known (next archive L o)
-  known-next L o k = go (o .adds)
+  known-next : (size : ℕ) (L : Ledger archive) (o : Ruling Answer Session Row) → Known L → Known (next archive size L o)
+  known-next size L o k = go (o .effect)
     where
-      go : (a : Option Row) → Known (on a L (λ r. enter archive r L))
-      go none = k
-      go (some r) = known-enter L r k
+      go : (a : Effect Row) → Known (note archive size a L)
+      go stays = k
+      go (adds r) = known-enter L r k
+      go settles = k
 
   -- requests leave it so
   pub known-after : (b : Books archive) (qs : List (Item archive)) → AllOfBytes archive qs → Known (b .ledger) → Known (trace (recount archive) b qs .left .ledger)
   known-after =
       trace-keeps (recount archive) (λ b. Known (b .ledger)) (λ q. archive .OfBytes (q .request))
-      (λ b q _. known-next (b .ledger) (tell (b .ledger .rows) (b .ledger .changed) (length (b .start)) (given archive (b .past) q) (q .request)))
+      (λ b q _. known-next (length (b .begin)) (b .ledger) (ruling archive b q))
 
   known-new : (L : Ledger archive) → firstRow t (sha1Of d) (intact archive L) ≡ none → Known (enter archive (rowOf t d (end archive L)) L)
   unfolding firstRow
@@ -75,7 +75,7 @@ module _ (t : ℕ) (d : Bytes) where
   module _ (L : Ledger archive) (size : ℕ) (m buffer : Bytes) where
     -- if a decision is answered, the ledger has the data afterwards
     abbrev Kept : Decision → Type 0
-    Kept w = (rulingOf Greeted m buffer w) .answer .number ≡ 0 → Known (next archive L (rulingOf Greeted m buffer w))
+    Kept w = (rulingOf Greeted m buffer w) .answer .number ≡ 0 → Known (next archive size L (rulingOf Greeted m buffer w))
 
     write-kept : Kept (writeRow (intact archive L) (end archive L) size t d (tagOf m))
     write-kept =
@@ -89,13 +89,13 @@ module _ (t : ℕ) (d : Bytes) where
         none-of [] e = refl
         none-of (a ∷ b) e = absurd (omega arith)
 
-  write-decision : (rows : List Row) (e : ℕ) (m buffer log : Bytes) → Writes m buffer log t d
+  pub write-decision : (rows : List Row) (e : ℕ) (m buffer log : Bytes) → Writes m buffer log t d
       → decision rows e (length log) Greeted (record { message = m; buffer = buffer }) ≡ writeRow rows e (length log) t d (tagOf m)
   unfolding decision
   write-decision rows e m buffer log W =
       rw (W .asks .frame, le-leb replyRoom (length buffer) (W .asks .buffer-room), W .asks .log-length, W .asks .request, W .content, W .lawful-type, le-leb (length d) longest (W .not-long))
 
   pub known-told : (L : Ledger archive) (m buffer log : Bytes) → Writes m buffer log t d
-      → (tell (L .rows) (L .changed) (length log) Greeted (record { message = m; buffer = buffer })) .answer .number ≡ 0
-      → Known (next archive L (tell (L .rows) (L .changed) (length log) Greeted (record { message = m; buffer = buffer })))
+      → (tell (L .rows) (L .changed) (L .start) (length log) Greeted (record { message = m; buffer = buffer })) .answer .number ≡ 0
+      → Known (next archive (length log) L (tell (L .rows) (L .changed) (L .start) (length log) Greeted (record { message = m; buffer = buffer })))
   known-told L m buffer log W = rw (write-decision (intact archive L) (end archive L) m buffer log W) (write-kept L (length log) m buffer)

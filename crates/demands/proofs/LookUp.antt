@@ -1,28 +1,27 @@
 -- The log's words and the ledger's for the same things: the blocks, the first of a type and score, what is uncovered.
-use mathlib.Core.Path.{_≡_, refl, ap, ap₂}
+use mathlib.Core.Path.{_≡_, refl, sym, ap, ap₂}
 use mathlib.Core.Bool.{Bool, true, false, cond, not, _&&_, _||_}
 use mathlib.Core.List.{List, [], _∷_}
-use mathlib.Core.Option.{Option, none, some}
-use Prim.Native.Nat.{ℕ, zero, suc, _+_}
+use mathlib.Core.Option.{Option, some}
+use Prim.Native.Nat.{ℕ, zero, suc}
 use native.Mathlib.Omega.{arith}
-use lib.Dec.{leb, ltb, eqb}
-use lib.ListN.{length}
+use lib.Dec.{eqb}
 use borrow.Author.Tests.{ne-eqb}
 use Rattle.ground.specs.Places.{within}
-use Rattle.ground.specs.Choice.{on}
 use Rattle.buffer.specs.Bytes.{Bytes, same}
 use Rattle.refusal.specs.declared.Refusal.{Refusal}
 use Rattle.refusal.specs.declared.Refusal.the-variants.{NotHeld}
 use Rattle.block.specs.Block.{Row, parts}
-use Rattle.block.specs.Log.{sectors, used, sound}
+use Rattle.block.specs.Log.{used}
 use Rattle.log.specs.LookUp as look
+use Rattle.log.proofs.Blocks.{blocks-used}
 use Rattle.ledger.specs.Ledger.{blocks}
 use Rattle.demands.specs.Ledger.{coveredBy, anyUncovered, firstUncovered, absent, firstRow}
 use Rattle.demands.specs.Instance.{archive}
 
 pub blocks-same : (log : Bytes) → look.blocks log ≡ blocks archive log
-unfolding look.blocks blocks
-blocks-same log = refl
+unfolding blocks
+blocks-same log = sym (blocks-used log)
 
 pub first-same : (t : ℕ) (s : Bytes) (rows : List Row) → look.firstOf t s rows ≡ firstRow t s rows
 unfolding look.firstOf firstRow

@@ -10,7 +10,7 @@ use lib.ListN.{length}
 use borrow.Author.Tests.{le-ltb}
 use Rattle.ground.specs.Choice.{on}
 use Rattle.buffer.specs.Bytes.{Bytes, same}
-use Rattle.refusal.specs.declared.Refusal.the-variants.{BlockType, OverCount, NotKnown, NotHeld}
+use Rattle.refusal.specs.declared.Refusal.the-variants.{BlockType, OverCount}
 use Rattle.message.specs.Message.{tagOf}
 use Rattle.message.specs.Reply.{readReply}
 use Rattle.kind.specs.Kind.{lawful, zeroScore}
@@ -18,6 +18,7 @@ use Rattle.block.specs.Block.{Row}
 use Rattle.log.specs.LookUp as look
 use Rattle.archive.specs.Step as steps
 use Rattle.archive.specs.declared.Session.the-variants.{Greeted}
+use Rattle.ledger.specs.Archive.{stays}
 use Rattle.demands.specs.Ledger.{Decision, refusal, reply, absent, firstRow, readRow}
 use Rattle.demands.proofs.Tests.{contrary, ltb-not}
 use Rattle.demands.proofs.Seen.{given, seen, view, Mirrors, held-zero, held-other, absence-is}
@@ -27,7 +28,7 @@ module _ (log : Bytes) (rows : List Row) (end : ℕ) (M : Mirrors log rows end) 
   abbrev decided : Option Row → Decision
   decided o =
       on o (refusal (absent rows end))
-      (λ r. cond (leb (length (r .bytes)) count) (reply (readReply (tagOf m) (r .bytes)) Greeted none) (refusal OverCount))
+      (λ r. cond (leb (length (r .bytes)) count) (reply (readReply (tagOf m) (r .bytes)) Greeted stays) (refusal OverCount))
 
   by-row : (o : Option Row) → seen (given log m buffer count o) ≡ view log Greeted m buffer (decided o)
   by-row none = rw (absence-is log rows end M)

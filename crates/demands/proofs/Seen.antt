@@ -10,7 +10,7 @@ use Rattle.ground.specs.Choice.{on}
 use Rattle.buffer.specs.Bytes.{Bytes, same}
 use Rattle.buffer.proofs.Bytes.{same-refl}
 use Rattle.sha1.specs.Sha1.{sha1Of}
-use Rattle.refusal.specs.declared.Refusal.the-variants.{NotHeld, NotKnown, OverCount, NoRoom, Clash}
+use Rattle.refusal.specs.declared.Refusal.the-variants.{OverCount, NoRoom, Clash}
 use Rattle.message.specs.Message.{tagOf}
 use Rattle.message.specs.Reply.{readReply}
 use Rattle.kind.specs.Kind.{lawful, zeroScore}

@@ -80,5 +80,5 @@ module _ (log : Bytes) (L : Ledger archive) (owned : (r : Row) → List·Memᴰ 
         true≢false (sym (same-refl zeroScore) ∙ z));
   }
 
-  pub agrees : (s : Session) (q : Asked) → served log s q ≡ shown archive log (tell (L .rows) (L .changed) (length log) s q)
+  pub agrees : (s : Session) (q : Asked) → served log s q ≡ shown archive log (tell (L .rows) (L .changed) (L .start) (length log) s q)
   agrees s q = step-agrees log (intact archive L) (end archive L) mirrors (q .message) (q .buffer) s

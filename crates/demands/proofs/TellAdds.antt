@@ -2,12 +2,12 @@
 use mathlib.Core.Path.{_≡_, refl, ap, _∙_, sym}
 use mathlib.Core.Bool.{Bool, true, false, cond, not, false≢true}
 use mathlib.Core.List.{List}
-use mathlib.Core.Option.{Option, none, some}
+use mathlib.Core.Option.{none}
 use Prim.Native.Nat.{ℕ, _+_, _%_, _/_, _≤_}
 use native.Mathlib.Omega.{arith}
 use lib.Dec.{leb, ltb, eqb}
 use lib.ListN.{length}
-use borrow.Author.Tests.{ltb-false, leb-true, eqb-false}
+use borrow.Author.Tests.{ltb-false, leb-true, le-leb, eqb-false}
 use Rattle.ground.proofs.Cases.{on-ind}
 use Rattle.buffer.specs.Bytes.{Bytes, same}
 use Rattle.buffer.proofs.Bytes.{small-drop}
@@ -25,6 +25,7 @@ use Rattle.log.specs.LookUp.{logAllowed, mostSectors}
 use Rattle.archive.specs.Step.{replyRoom, version}
 use Rattle.archive.specs.declared.Session.{Session}
 use Rattle.archive.specs.declared.Session.the-variants.{Fresh, Greeted, Closed as Shut}
+use Rattle.ledger.specs.Archive.{Effect, stays, adds}
 use Rattle.ledger.specs.Ledger.{Ledger, intact, end}
 use Rattle.demands.specs.Ledger.{Asked, Decision, silence, refusal, reply, close, rulingOf, firstRow, writeRow, readRow, decide, bySession, decision, tell}
 use Rattle.demands.specs.Instance.{archive}
@@ -63,14 +64,14 @@ pub record Fits (rows : List Row) (e size : ℕ) (q : Request) (m : Bytes) (r : 
   pub scored : r .score ≡ sha1Of (dataOf m)
   pub alone : firstRow (r .kind) (r .score) rows ≡ none
 
--- the row that a decision adds
-abbrev added : Decision → Option Row
-added (silence w) = none
-added (refusal w) = none
+-- what a decision does
+abbrev added : Decision → Effect Row
+added (silence w) = stays
+added (refusal w) = stays
 added (reply b s a) = a
-added close = none
+added close = stays
 
-outcome-added : (s : Session) (m buffer : Bytes) (d : Decision) → (rulingOf s m buffer d) .adds ≡ added d
+outcome-added : (s : Session) (m buffer : Bytes) (d : Decision) → (rulingOf s m buffer d) .effect ≡ added d
 outcome-added s m buffer (silence w) = refl
 outcome-added s m buffer (refusal w) = refl
 outcome-added s m buffer (reply b s′ a) = refl
@@ -78,10 +79,10 @@ outcome-added s m buffer close = refl
 
 -- if a decision adds a row, it fits
 record Good (rows : List Row) (e size : ℕ) (q : Request) (m : Bytes) (d : Decision) : Type 0 where
-  fits : (r : Row) → added d ≡ some r → Fits rows e size q m r
+  fits : (r : Row) → added d ≡ adds r → Fits rows e size q m r
 
 module _ {rows : List Row} {e size : ℕ} {q : Request} {m : Bytes} where
-  nothing : {d : Decision} → added d ≡ none → Good rows e size q m d
+  nothing : {d : Decision} → added d ≡ stays → Good rows e size q m d
   nothing n = record { fits = λ r g. let z : _≡_ {A = ℕ} 0 1 = cc in absurd (omega arith) }
 
   by-test : (b : Bool) {x y : Decision} → (b ≡ true → Good rows e size q m x) → (b ≡ false → Good rows e size q m y) → Good rows e size q m (cond b x y)
@@ -149,18 +150,18 @@ module _ (rows : List Row) (e size : ℕ) where
       by-session s (λ g. decide-good g (requestOf (q .message)) (q .message) a sm))
       (λ _. nothing refl)) (λ _. nothing refl)) (λ _. nothing refl)
 
-pub tell-fits : (L : Ledger archive) (size : ℕ) (s : Session) (q : Asked) (r : Row) → small (q .message) ≡ true → (tell (L .rows) (L .changed) size s q) .adds ≡ some r
+pub tell-fits : (L : Ledger archive) (size : ℕ) (s : Session) (q : Asked) (r : Row) → small (q .message) ≡ true → (tell (L .rows) (L .changed) (L .start) size s q) .effect ≡ adds r
     → Fits (intact archive L) (end archive L) size (requestOf (q .message)) (q .message) r
 tell-fits L size s q r sm g =
     let d = decision (intact archive L) (end archive L) size s q in
     decision-good (intact archive L) (end archive L) size s q sm .fits r (sym (outcome-added s (q .message) (q .buffer) d) ∙ g)
 
-pub tell-adds : (L : Ledger archive) (size : ℕ) (s : Session) (q : Asked) (r : Row) → small (q .message) ≡ true → (tell (L .rows) (L .changed) size s q) .adds ≡ some r
-    → (valid r ≡ true) × (r .first ≡ end archive L) × (r .first + parts r ≤ sectors size) × (not (same (r .score) zeroScore) ≡ true)
-tell-adds L size s q r sm g = let f = tell-fits L size s q r sm g in (f .ok, f .here, f .room, f .owned)
+pub tell-adds : (L : Ledger archive) (size : ℕ) (s : Session) (q : Asked) (r : Row) → small (q .message) ≡ true → (tell (L .rows) (L .changed) (L .start) size s q) .effect ≡ adds r
+    → (valid r ≡ true) × (r .first ≡ end archive L) × (leb (r .first + parts r) (sectors size) ≡ true) × (not (same (r .score) zeroScore) ≡ true)
+tell-adds L size s q r sm g = let f = tell-fits L size s q r sm g in (f .ok, f .here, le-leb (r .first + parts r) (sectors size) (f .room), f .owned)
 
 -- a row is added only with the answer 0
-pub added-answered : (s : Session) (m buffer : Bytes) (d : Decision) (r : Row) → (rulingOf s m buffer d) .adds ≡ some r → (rulingOf s m buffer d) .answer .number ≡ 0
+pub added-answered : (s : Session) (m buffer : Bytes) (d : Decision) (r : Row) → (rulingOf s m buffer d) .effect ≡ adds r → (rulingOf s m buffer d) .answer .number ≡ 0
 added-answered s m buffer (silence w) r e = let z : _≡_ {A = ℕ} 0 1 = cc in absurd (omega arith)
 added-answered s m buffer (refusal w) r e = let z : _≡_ {A = ℕ} 0 1 = cc in absurd (omega arith)
 added-answered s m buffer (reply b s′ a) r e = refl

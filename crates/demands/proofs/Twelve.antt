@@ -1,18 +1,14 @@
 -- 12 is the answer of a read that found nothing, and of nothing else.
-use mathlib.Core.Path.{_≡_, refl, sym, ap, _∙_}
-use mathlib.Core.Bool.{Bool, true, false, cond, not}
-use mathlib.Core.List.{[], _∷_}
+use mathlib.Core.Path.{_≡_, refl}
+use mathlib.Core.Bool.{not}
 use mathlib.Core.Option.{Option, none, some}
-use Prim.Native.Nat.{ℕ, _+_}
+use Prim.Native.Nat.{ℕ}
 use native.Mathlib.Omega.{arith}
-use lib.Dec.{leb, ltb}
+use lib.Dec.{ltb}
 use lib.ListN.{length}
-use Rattle.ground.specs.Choice.{on}
 use Rattle.ground.proofs.Cases.{cond-ind, on-ind}
 use Rattle.buffer.specs.Bytes.{Bytes, same}
 use Rattle.sha1.specs.Sha1.{sha1Of}
-use Rattle.refusal.specs.Number.{numberOf}
-use Rattle.refusal.specs.declared.Refusal.{Refusal}
 use Rattle.message.specs.Message.{framed, tagOf, versionOf, scoreOf, dataOf, requestOf}
 use Rattle.message.specs.declared.Request.{Request}
 use Rattle.message.specs.declared.Request.the-variants.{Ping, Hello, Goodbye, Read, Write, Sync, Unknown, Ill}
@@ -24,14 +20,7 @@ use Rattle.log.specs.Store as stores
 use Rattle.archive.specs.Step as steps
 use Rattle.archive.specs.declared.Session.{Session}
 use Rattle.archive.specs.declared.Session.the-variants.{Fresh, Greeted, Closed as Shut}
-use Rattle.ledger.specs.Ledger.{intact, end}
-use Rattle.demands.specs.Instance.{archive}
-use Rattle.demands.specs.Ledger.{anyUncovered, firstUncovered, absent}
-use Rattle.demands.specs.Histories.{History, logOf, ledgerOf}
-use Rattle.demands.specs.Corollaries as claims
-use Rattle.demands.proofs.Seen.{storedAs, kept, absence-is}
-use Rattle.demands.proofs.Reflected.{mirrored}
-use Rattle.demands.proofs.Histories.{reflected}
+use Rattle.demands.proofs.Seen.{storedAs, kept}
 
 module _ (log m buffer : Bytes) where
   -- 12 is the refusal of a block that is not found
@@ -84,29 +73,9 @@ module _ (log m buffer : Bytes) where
   session-told Fresh e = fresh-told (requestOf m) e
   session-told Greeted e = greeted-told (requestOf m) e
 
-  step-told : (s : Session) → Told s (steps.step s m log buffer)
+  pub step-told : (s : Session) → Told s (steps.step s m log buffer)
   unfolding steps.step
   step-told s =
       cond-ind (Told s) (not (framed m)) _ _ (λ _ e. absurd (omega arith)) (λ _.
       cond-ind (Told s) (ltb (length buffer) steps.replyRoom) _ _ (λ _ e. absurd (omega arith)) (λ _.
       cond-ind (Told s) (not (logAllowed (length log))) _ _ (λ _ e. absurd (omega arith)) (λ _. session-told s)))
-
-pub twelve-tells : claims.TwelveTells
-twelve-tells h s m buffer n =
-    let rows = intact archive (ledgerOf h) in
-    let last = end archive (ledgerOf h) in
-    let log = logOf h in
-    let why = absence-is log rows last (mirrored log (ledgerOf h) (reflected h)) in
-    let o = step-told log m buffer s n ∙ ap (λ (w : Refusal). steps.refused w (tagOf m) s log buffer) why in
-    let twelve : numberOf (absent rows last) ≡ 12 = ap (λ (x : steps.Outcome). x .number) (sym o) ∙ n in
-    go (anyUncovered rows last) refl twelve o
-  where
-    Answered : Type 0
-    Answered = steps.step s m (logOf h) buffer ≡ steps.refused (claims.notKnown h) (tagOf m) s (logOf h) buffer
-
-    go : (b : Bool) → anyUncovered (intact archive (ledgerOf h)) (end archive (ledgerOf h)) ≡ b
-        → numberOf (absent (intact archive (ledgerOf h)) (end archive (ledgerOf h))) ≡ 12
-        → steps.step s m (logOf h) buffer ≡ steps.refused (absent (intact archive (ledgerOf h)) (end archive (ledgerOf h))) (tagOf m) s (logOf h) buffer
-        → (anyUncovered (intact archive (ledgerOf h)) (end archive (ledgerOf h)) ≡ true) × Answered
-    go true q k o = (q, rw q at o)
-    go false q k o = let z : _≡_ {A = ℕ} 11 12 = rw q at k in absurd (omega arith)

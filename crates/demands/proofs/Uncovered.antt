@@ -14,7 +14,7 @@ use Rattle.ledger.proofs.Covers.{hit-none}
 use Rattle.demands.specs.Ledger.{coveredBy, anyUncovered}
 use Rattle.demands.specs.Instance.{archive}
 
-uncovered-at : (rows : List Row) (e i : ℕ) → i < e → coveredBy rows i ≡ false → anyUncovered rows e ≡ true
+pub uncovered-at : (rows : List Row) (e i : ℕ) → i < e → coveredBy rows i ≡ false → anyUncovered rows e ≡ true
 unfolding anyUncovered
 uncovered-at rows zero i h c = absurd (omega arith)
 uncovered-at rows (suc e) i h c = go (eqb i e) refl (uncovered-at rows e i)

@@ -23,7 +23,7 @@ use Rattle.log.specs.Store as stores
 use Rattle.archive.specs.Step as steps
 use Rattle.archive.specs.declared.Session.{Session}
 use Rattle.archive.specs.declared.Session.the-variants.{Greeted}
-use Rattle.ledger.specs.Archive.{Seen}
+use Rattle.ledger.specs.Archive.{stays, Seen}
 use Rattle.demands.specs.Ledger.{Answer, Decision, refusal, reply, firstRow, newRow, writeRow}
 use Rattle.demands.proofs.Tests.{alike, contrary, ltb-not}
 use Rattle.demands.proofs.Seen.{storedAs, kept, seen, view, Mirrors, held-zero, empty-score, held-other}
@@ -37,7 +37,7 @@ module _ (log : Bytes) (rows : List Row) (end : ℕ) (M : Mirrors log rows end) 
   abbrev decided : Bytes → Option Row → Decision
   decided d o =
       on o (newRow rows end (length log) t d (tagOf m))
-      (λ r. cond (same (r .bytes) d) (reply (writeReply (tagOf m) (sha1Of d)) Greeted none) (refusal Clash))
+      (λ r. cond (same (r .bytes) d) (reply (writeReply (tagOf m) (sha1Of d)) Greeted stays) (refusal Clash))
 
   by-row : (d : Bytes) (o : Option Row) → same (sha1Of d) zeroScore ≡ false → view-kept (storedAs log t d o) ≡ view log Greeted m buffer (decided d o)
   unfolding stores.roomFor

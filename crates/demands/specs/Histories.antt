@@ -11,6 +11,7 @@ use Rattle.sha1.specs.Sha1.{sha1Of}
 use Rattle.message.specs.Message.{dataOf, requestOf}
 use Rattle.message.specs.declared.Request.the-variants.{Write}
 use Rattle.block.specs.Block.{Row}
+use Rattle.block.specs.Log.{at}
 use Rattle.log.specs.LookUp.{held}
 use Rattle.archive.specs.declared.Session.{Session}
 use Rattle.ledger.specs.Ledger.{Ledger, told, hit}
@@ -27,7 +28,7 @@ pub record History : Type 0 where
   -- the sectors that the damage changed, and the log that it left
   pub changed : List ℕ
   pub hurt : Bytes
-  pub damage : Damage archive (first-log archive size before .log) changed hurt
+  pub damage : Damage archive (at (first-log archive size before .log)) size changed hurt
   -- the list of requests after it
   pub later : List (Item archive)
   pub later-of-bytes : AllOfBytes archive later

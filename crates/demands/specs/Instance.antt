@@ -1,7 +1,9 @@
 -- The archive as the ledger's theorem looks at it: its log, sectors and blocks, its step, and its ledger.
 use mathlib.Core.Path.{_≡_}
-use mathlib.Core.Bool.{true, not}
-use Prim.Native.Nat.{ℕ}
+use mathlib.Core.Bool.{true, false, not}
+use mathlib.Core.List.{_++_}
+use Prim.Native.Nat.{ℕ, _+_, _*_, _%_}
+use lib.Dec.{leb, eqb}
 use lib.ListN.{length, replicate}
 use Rattle.buffer.specs.Bytes.{Bytes, same, zeros}
 use Rattle.word.specs.Number.{small}
@@ -22,6 +24,11 @@ served log s q =
     let o = step s (q .message) log (q .buffer) in
     record { answer = record { number = o .number; buffer = o .reply }; session = o .session; log = o .log }
 
+-- a log of whole sectors lent on with k more of them, all blank
+unfoldable pub grown : ℕ → Bytes → Bytes
+grown k log = log ++ replicate (512 * k) 0
+
+-- no waiting part is lent: a row is settled as it is added, a stop leaves the log as it is
 abbrev pub archive : Archive
 archive = record {
   Log = Bytes;
@@ -36,11 +43,22 @@ archive = record {
   fits = fits;
   Near = Near;
   used = used;
+  waits = λ x. false;
+  start = used;
+  settled = λ log. log;
+  Loan = Unit {0};
+  alone = λ l log. log;
+  lent = λ l x. x;
+  Growth = ℕ;
+  grown = grown;
+  wider = λ k m. m + 512 * k;
+  growable = λ m. eqb (m % 512) 0;
   Row = Row;
   first = λ r. r .first;
   parts = parts;
   image = image;
   valid = valid;
+  hasRoom = λ m e r. leb (r .first + parts r) (sectors m);
   owned = λ r. not (same (r .score) zeroScore);
   sound = sound;
   written = written;

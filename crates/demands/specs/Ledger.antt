@@ -25,7 +25,7 @@ use Rattle.log.specs.LookUp.{logAllowed}
 use Rattle.archive.specs.Step.{replyRoom, version}
 use Rattle.archive.specs.declared.Session.{Session}
 use Rattle.archive.specs.declared.Session.the-variants.{Fresh, Greeted, Closed as Shut}
-use Rattle.ledger.specs.Archive.{Ruling}
+use Rattle.ledger.specs.Archive.{Effect, stays, adds, Ruling}
 use Rattle.ledger.specs.Ledger.{intactRows, rowsEnd, changedEnd}
 
 -- "a message, the reply buffer" lent with it
@@ -62,19 +62,19 @@ firstRow t s [] = none
 firstRow t s (r ∷ rows) = cond (eqb (r .kind) t && same (r .score) s) (some r) (firstRow t s rows)
 
 -- what the ledger decides of a request: refused without a reply, refused with one, answered (with the session that it leaves and
--- the row that it adds), or closed without a reply
+-- what it does: a row is added, or nothing), or closed without a reply
 pub data Decision : Type 0 where
   silence : Refusal → Decision
   refusal : Refusal → Decision
-  reply : Bytes → Session → Option Row → Decision
+  reply : Bytes → Session → Effect Row → Decision
   close : Decision
 
 -- "a refusal ... has its outcome from the table and adds no row"
 abbrev pub rulingOf : Session → Bytes → Bytes → Decision → Ruling Answer Session Row
-rulingOf s m buffer (silence w) = record { answer = record { number = numberOf w; buffer = buffer }; session = s; adds = none }
-rulingOf s m buffer (refusal w) = record { answer = record { number = numberOf w; buffer = answered buffer (errorReply (tagOf m) w) }; session = s; adds = none }
-rulingOf s m buffer (reply b s′ a) = record { answer = record { number = 0; buffer = answered buffer b }; session = s′; adds = a }
-rulingOf s m buffer close = record { answer = record { number = 0; buffer = buffer }; session = Shut; adds = none }
+rulingOf s m buffer (silence w) = record { answer = record { number = numberOf w; buffer = buffer }; session = s; effect = stays }
+rulingOf s m buffer (refusal w) = record { answer = record { number = numberOf w; buffer = answered buffer (errorReply (tagOf m) w) }; session = s; effect = stays }
+rulingOf s m buffer (reply b s′ a) = record { answer = record { number = 0; buffer = answered buffer b }; session = s′; effect = a }
+rulingOf s m buffer close = record { answer = record { number = 0; buffer = buffer }; session = Shut; effect = stays }
 
 -- by the session: "session closed", or open and whether a hello was accepted in it
 abbrev pub bySession : Session → Decision → (Bool → Decision) → Decision
@@ -88,9 +88,9 @@ module _ (intact : List Row) (end size : ℕ) where
   -- its bytes; with none, 12 if a sector is uncovered, else 11"
   abbrev pub readRow : ℕ → ℕ → Bytes → ℕ → Decision
   readRow t count s tag =
-      cond (same s zeroScore) (reply (readReply tag []) Greeted none)
+      cond (same s zeroScore) (reply (readReply tag []) Greeted stays)
       (on (firstRow t s intact) (refusal (absent intact end))
-      (λ r. cond (leb (length (r .bytes)) count) (reply (readReply tag (r .bytes)) Greeted none) (refusal OverCount)))
+      (λ r. cond (leb (length (r .bytes)) count) (reply (readReply tag (r .bytes)) Greeted stays) (refusal OverCount)))
 
   -- "if that row has other bytes or data has the zero score, it is 15; if the log has too few sectors from the end on, 14. Else its row
   -- is added, starting at the end"
@@ -98,28 +98,28 @@ module _ (intact : List Row) (end size : ℕ) where
   newRow t d tag =
       cond (same (sha1Of d) zeroScore) (refusal Clash)
       (cond (ltb (sectors size) (end + partsOf (length d))) (refusal NoRoom)
-      (reply (writeReply tag (sha1Of d)) Greeted (some (record { kind = t; score = sha1Of d; bytes = d; first = end }))))
+      (reply (writeReply tag (sha1Of d)) Greeted (adds (record { kind = t; score = sha1Of d; bytes = d; first = end }))))
 
   -- "A write of no bytes, or of those in the first intact row of its type and SHA-1, adds no row"
   abbrev pub writeRow : ℕ → Bytes → ℕ → Decision
   writeRow t d tag =
-      cond (eqb (length d) 0) (reply (writeReply tag (sha1Of d)) Greeted none)
+      cond (eqb (length d) 0) (reply (writeReply tag (sha1Of d)) Greeted stays)
       (on (firstRow t (sha1Of d) intact) (newRow t d tag)
-      (λ r. cond (same (r .bytes) d) (reply (writeReply tag (sha1Of d)) Greeted none) (refusal Clash)))
+      (λ r. cond (same (r .bytes) d) (reply (writeReply tag (sha1Of d)) Greeted stays) (refusal Clash)))
 
   -- tests 5 to 10 in their order, in an open session, by whether a hello was accepted; what each request does
   abbrev pub decide : Bool → Request → Bytes → Decision
   decide greeted Unknown m = refusal MessageType
   decide greeted Ill m = refusal Body
   decide greeted Goodbye m = close
-  decide false Hello m = cond (same (versionOf m) version) (reply (helloReply (tagOf m)) Greeted none) (refusal BadHello)
+  decide false Hello m = cond (same (versionOf m) version) (reply (helloReply (tagOf m)) Greeted stays) (refusal BadHello)
   decide false Ping m = refusal NoHello
   decide false Sync m = refusal NoHello
   decide false (Read t c) m = refusal NoHello
   decide false (Write t) m = refusal NoHello
   decide true Hello m = refusal BadHello
-  decide true Ping m = reply (pingReply (tagOf m)) Greeted none
-  decide true Sync m = reply (syncReply (tagOf m)) Greeted none
+  decide true Ping m = reply (pingReply (tagOf m)) Greeted stays
+  decide true Sync m = reply (syncReply (tagOf m)) Greeted stays
   decide true (Read t c) m = cond (lawful t) (readRow t c (scoreOf m) (tagOf m)) (refusal BlockType)
   decide true (Write t) m =
       cond (lawful t) (cond (leb (length (dataOf m)) longest) (writeRow t (dataOf m) (tagOf m)) (refusal DataLength)) (refusal BlockType)
@@ -135,9 +135,9 @@ module _ (intact : List Row) (end size : ℕ) where
       (silence Buffer))
       (silence Frame)
 
--- "It keeps ... the changed sectors ... and rows": one request by the ledger, told the rows, the changed sectors and the log's length
-abbrev pub tell : List Row → List ℕ → ℕ → Session → Asked → Ruling Answer Session Row
-tell rows changed size s q =
+-- "It keeps ... the changed sectors ... and rows": one request by the ledger, told the rows, the changed sectors and the log's length. No row waits
+abbrev pub tell : List Row → List ℕ → ℕ → ℕ → Session → Asked → Ruling Answer Session Row
+tell rows changed start size s q =
     let intact = intactRows (λ (r : Row). r .first) parts changed rows in
     let end = max (rowsEnd (λ (r : Row). r .first) parts rows) (changedEnd changed) in
     rulingOf s (q .message) (q .buffer) (decision intact end size s q)

@@ -4,3 +4,4 @@ pub mod Demand3
 pub mod Requests
 pub mod Histories
 pub mod Corollaries
+pub mod Events

@@ -5,9 +5,17 @@ pub mod Ends
 pub mod Intact
 pub mod Cells
 pub mod Blocks
+pub mod Doubt
 pub mod Reflects
+pub mod Kept
 pub mod Steps
+pub mod Harm
 pub mod Trace
+pub mod Crash
+pub mod Stop
 pub mod Lists
+pub mod Happens
+pub mod Asks
 pub mod After
 pub mod Theorem
+pub mod Aftermath

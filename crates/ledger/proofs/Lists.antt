@@ -1,89 +1,96 @@
--- A list of requests on a log that reflects a ledger: the archive's account is the ledger's, and the invariant holds after it.
+-- Requests on a log that reflects a ledger: the archive's account is the ledger's, and the invariant holds after them.
 use mathlib.Core.Path.{_≡_, refl, ap, ap₂, subst, _∙_}
+use mathlib.Core.Bool.{Bool, true, false, cond}
 use mathlib.Core.List.{List, [], _∷_, _++_}
-use mathlib.Core.Option.{Option, none, some}
-use Rattle.ground.specs.Choice.{on}
-use Rattle.ledger.specs.Archive.{Ruling, Seen, Archive}
-use Rattle.ledger.specs.Ledger.{Ledger, shown, enter, next}
+use Rattle.ledger.specs.Archive.{Effect, stays, adds, settles, Ruling, Seen, Archive}
+use Rattle.ledger.specs.Ledger.{Ledger, act, enter, settle, note, shown, next}
 use Rattle.ledger.specs.Laws.{Lawful}
 use Rattle.ledger.specs.Trace.{trace}
-use Rattle.ledger.specs.History.{Item, AllOfBytes, given, Standing, answer, overlaid, plus, Books, recount}
-use Rattle.ledger.specs.Reflects.{Reflects}
+use Rattle.ledger.specs.History.{Item, AllOfBytes, given, Standing, answer, overlaid, plus, Books, ruling, recount}
+use Rattle.ledger.specs.Reflects.{Reflects, Waits}
 use Rattle.ledger.proofs.Trace.{trace-keeps, Agree, trace-agrees}
-use Rattle.ledger.proofs.Steps.{serve-tell, reflects-serve, extent-serve}
+use Rattle.ledger.proofs.Steps.{serve-tell, reflects-serve, waits-serve, extent-serve}
 
 module _ (A : Archive) where
-  open Archive A using (Log, Extent, extent, Row, written, Request, Answer, Session, OfBytes, serve, tell)
+  open Archive A using (Log, Extent, extent, waits, Row, Answer, Session, OfBytes, tell)
 
-  overlaid-last : (log : Log) (rows : List Row) (r : Row) → overlaid A log (rows ++ (r ∷ [])) ≡ written (overlaid A log rows) r
-  overlaid-last log [] r = refl
-  overlaid-last log (s ∷ rows) r = overlaid-last (written log s) rows r
+  overlaid-last : (log : Log) (es : List (Effect Row)) (e : Effect Row) → overlaid A log (es ++ (e ∷ [])) ≡ act A e (overlaid A log es)
+  overlaid-last log [] e = refl
+  overlaid-last log (d ∷ es) e = overlaid-last (act A d log) es e
 
-  overlaid-shown : (start log : Log) (added : List Row) (o : Ruling Answer Session Row) → log ≡ overlaid A start added → (shown A log o) .log ≡ overlaid A start (plus A added o)
-  overlaid-shown start log added o e = go (o .adds)
-    where
-      go : (a : Option Row) → on a log (written log) ≡ overlaid A start (on a added (λ r. added ++ (r ∷ [])))
-      go none = e
-      go (some r) = rw (overlaid-last start added r, e)
+  overlaid-shown : (begin log : Log) (done : List (Effect Row)) (o : Ruling Answer Session Row) → log ≡ overlaid A begin done → (shown A log o) .log ≡ overlaid A begin (plus A done o)
+  overlaid-shown begin log done o e = rw (overlaid-last begin done (o .effect)) (ap (act A (o .effect)) e)
 
-  -- what holds between two requests: the log reflects the ledger, and is the one that the list started on with the rows since written
+  -- what holds between two requests: the log reflects the ledger, and is the one that the list started on with what was done since
   pub record Stands (s : Standing A) (b : Books A) : Type 0 where
     pub mirrors : Reflects A (s .log) (b .ledger)
-    pub since : s .log ≡ overlaid A (b .start) (b .added)
-    pub size : extent (s .log) ≡ extent (b .start)
+    pub waiting : Waits A (s .log) (b .ledger)
+    pub since : s .log ≡ overlaid A (b .begin) (b .done)
+    pub size : extent (s .log) ≡ extent (b .begin)
     pub sessions : s .past ≡ b .past
 
-  pub begins : (log : Log) (L : Ledger A) (past : List Session) → Reflects A log L → Stands (record { log = log; past = past }) (record { start = log; added = []; ledger = L; past = past })
-  begins log L past R = record { mirrors = R; since = refl; size = refl; sessions = refl }
+  pub begins : (log : Log) (L : Ledger A) (past : List Session) → Reflects A log L → Waits A log L
+      → Stands (record { log = log; past = past }) (record { begin = log; done = []; ledger = L; past = past })
+  begins log L past R S = record { mirrors = R; waiting = S; since = refl; size = refl; sessions = refl }
 
-  pub changed-next : (L : Ledger A) (o : Ruling Answer Session Row) → (next A L o) .changed ≡ L .changed
-  changed-next L o = go (o .adds)
+  pub changed-next : (x : Extent) (L : Ledger A) (o : Ruling Answer Session Row) → (next A x L o) .changed ≡ L .changed
+  changed-next x L o = go (o .effect)
     where
-      go : (a : Option Row) → (on a L (λ r. enter A r L)) .changed ≡ L .changed
-      go none = refl
-      go (some r) = refl
+      either : (r : Row) (b : Bool) → (cond b (enter A r L) (settle A (enter A r L))) .changed ≡ L .changed
+      either r true = refl
+      either r false = refl
+
+      go : (a : Effect Row) → (note A x a L) .changed ≡ L .changed
+      go stays = refl
+      go (adds r) = either r (waits x)
+      go settles = refl
 
   -- requests leave the changed sectors as they were told, and the log that the list started on
-  pub changed-after : (b : Books A) (qs : List (Item A)) → AllOfBytes A qs → (trace (recount A) b qs .left .ledger .changed ≡ b .ledger .changed) × (trace (recount A) b qs .left .start ≡ b .start)
+  pub changed-after : (b : Books A) (qs : List (Item A)) → AllOfBytes A qs → (trace (recount A) b qs .left .ledger .changed ≡ b .ledger .changed) × (trace (recount A) b qs .left .begin ≡ b .begin)
   changed-after b qs ok =
-      trace-keeps (recount A) (λ x. (x .ledger .changed ≡ b .ledger .changed) × (x .start ≡ b .start)) (λ q. OfBytes (q .request))
-      (λ x q _ e. (changed-next (x .ledger) (tell (x .ledger .rows) (x .ledger .changed) (extent (x .start)) (given A (x .past) q) (q .request)) ∙ e .0, e .1)) b qs ok (refl, refl)
+      trace-keeps (recount A) (λ x. (x .ledger .changed ≡ b .ledger .changed) × (x .begin ≡ b .begin)) (λ q. OfBytes (q .request))
+      (λ x q _ e. (changed-next (extent (x .begin)) (x .ledger) (ruling A x q) ∙ e .0, e .1)) b qs ok (refl, refl)
 
 module _ (A : Archive) (W : Lawful A) where
-  open Archive A using (Log, Extent, extent, Row, Request, Answer, Session, OfBytes, serve, tell)
+  open Archive A using (Log, Extent, extent, Row, Answer, Session, OfBytes, serve, tell)
 
   -- one request: seen alike, and what holds goes on
   module _ (s : Standing A) (b : Books A) (q : Item A) (ok : OfBytes (q .request)) (S : Stands A s b) where
-    ruling : Ruling Answer Session Row
-    ruling = tell (b .ledger .rows) (b .ledger .changed) (extent (b .start)) (given A (b .past) q) (q .request)
-
     own-ruling : Extent → List Session → Ruling Answer Session Row
-    own-ruling x past = tell (b .ledger .rows) (b .ledger .changed) x (given A past q) (q .request)
+    own-ruling x past = tell (b .ledger .rows) (b .ledger .changed) (b .ledger .start) x (given A past q) (q .request)
 
-    same-ruling : own-ruling (extent (s .log)) (s .past) ≡ ruling
-    unfolding ruling own-ruling
+    same-ruling : own-ruling (extent (s .log)) (s .past) ≡ ruling A b q
+    unfolding own-ruling
     same-ruling = ap₂ own-ruling (S .size) (S .sessions)
 
-    told-so : serve (s .log) (given A (s .past) q) (q .request) ≡ shown A (s .log) ruling
+    told-so : serve (s .log) (given A (s .past) q) (q .request) ≡ shown A (s .log) (ruling A b q)
     unfolding own-ruling
     told-so =
-        serve-tell A W (s .log) (b .ledger) (S .mirrors) (given A (s .past) q) (q .request) ok
+        serve-tell A W (s .log) (b .ledger) (S .mirrors) (S .waiting) (given A (s .past) q) (q .request) ok
         ∙ ap (shown A (s .log)) same-ruling
 
-    same-log : serve (s .log) (given A (s .past) q) (q .request) .log ≡ overlaid A (b .start) (plus A (b .added) ruling)
-    same-log = ap (λ (o : Seen Answer Session Log). o .log) told-so ∙ overlaid-shown A (b .start) (s .log) (b .added) ruling (S .since)
+    same-log : serve (s .log) (given A (s .past) q) (q .request) .log ≡ overlaid A (b .begin) (plus A (b .done) (ruling A b q))
+    same-log = ap (λ (o : Seen Answer Session Log). o .log) told-so ∙ overlaid-shown A (b .begin) (s .log) (b .done) (ruling A b q) (S .since)
 
     pub seen-alike : answer A s q .shown ≡ recount A b q .shown
-    unfolding ruling
-    seen-alike = told-so ∙ (λ i. record { answer = ruling .answer; session = ruling .session; log = overlaid-shown A (b .start) (s .log) (b .added) ruling (S .since) i })
+    seen-alike =
+        told-so
+        ∙ (λ i. record { answer = ruling A b q .answer; session = ruling A b q .session; log = overlaid-shown A (b .begin) (s .log) (b .done) (ruling A b q) (S .since) i })
+
+    -- a property of the ledger that is left by what the archive asked of it
+    left-so : (P : Ledger A → Type 0) → P (next A (extent (s .log)) (b .ledger) (own-ruling (extent (s .log)) (s .past))) → P (next A (extent (b .begin)) (b .ledger) (ruling A b q))
+    unfolding own-ruling
+    left-so P p = subst P (ap₂ (λ (x : Extent) (o : Ruling Answer Session Row). next A x (b .ledger) o) (S .size) same-ruling) p
 
     pub goes-on : Stands A (answer A s q .state) (recount A b q .state)
-    unfolding ruling own-ruling
+    unfolding own-ruling
     goes-on = record {
-      mirrors = subst (λ (o : Ruling Answer Session Row). Reflects A (serve (s .log) (given A (s .past) q) (q .request) .log) (next A (b .ledger) o)) same-ruling
-          (reflects-serve A W (s .log) (b .ledger) (S .mirrors) (given A (s .past) q) (q .request) ok);
+      mirrors = left-so (λ L. Reflects A (serve (s .log) (given A (s .past) q) (q .request) .log) L)
+          (reflects-serve A W (s .log) (b .ledger) (S .mirrors) (S .waiting) (given A (s .past) q) (q .request) ok);
+      waiting = left-so (λ L. Waits A (serve (s .log) (given A (s .past) q) (q .request) .log) L)
+          (waits-serve A W (s .log) (b .ledger) (S .mirrors) (S .waiting) (given A (s .past) q) (q .request) ok);
       since = same-log;
-      size = extent-serve A W (s .log) (b .ledger) (S .mirrors) (given A (s .past) q) (q .request) ok ∙ S .size;
+      size = extent-serve A W (s .log) (b .ledger) (S .mirrors) (S .waiting) (given A (s .past) q) (q .request) ok ∙ S .size;
       sessions = ap₂ (λ (p : List Session) (x : Session). p ++ (x ∷ [])) (S .sessions) (ap (λ (o : Seen Answer Session Log). o .session) told-so);
     }
 

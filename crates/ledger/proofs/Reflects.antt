@@ -20,8 +20,8 @@ use Rattle.ledger.proofs.Cells.{cell-in, cell-blank, cell-cases, Held}
 use Rattle.ledger.proofs.Blocks.{blocks-ascend}
 
 module _ (A : Archive) (W : Lawful A) (log : A .Log) (L : Ledger A) (R : Reflects A log L) where
-  open Archive A using (extent, sectors, at, blank, isBlank, fits, used, Row, first, parts, image, valid, sound)
-  open Lawful W using (blank-is, lt-used, used-le, parts-pos, image-fits, image-used, label, sound-reads, sound-finds)
+  open Archive A using (at, blank, isBlank, used, Row, first, parts, image, valid, sound)
+  open Lawful W using (blank-is, lt-used, used-le, parts-pos, image-used, label, sound-reads, sound-finds)
 
   past-end : (n : ℕ) → end A L ≤ n → has n (L .changed) ≡ false
   past-end n h = go (has n (L .changed)) refl
@@ -37,26 +37,26 @@ module _ (A : Archive) (W : Lawful A) (log : A .Log) (L : Ledger A) (R : Reflect
       ∙ cell-in A 0 (L .rows) r (first r + k) (R .apart) m (covers-in A r (first r + k) (omega arith) (omega arith))
       ∙ ap (image r) (omega arith)
 
-  row-marked : (r : Row) (k : ℕ) → List·Memᴰ r (L .rows) → k < parts r → isBlank (at log (first r + k)) ≡ false
-  row-marked r k m h = go (has (first r + k) (L .changed)) refl
+  row-used : (r : Row) (k : ℕ) → List·Memᴰ r (L .rows) → k < parts r → first r + k < used log
+  row-used r k m h = go (has (first r + k) (L .changed)) refl
     where
-      go : (b : Bool) → has (first r + k) (L .changed) ≡ b → isBlank (at log (first r + k)) ≡ false
-      go true q = R .marked (first r + k) q
-      go false q = rw (row-cell r k m h q) (image-used r k (R .valids r m) h)
+      go : (b : Bool) → has (first r + k) (L .changed) ≡ b → first r + k < used log
+      go true q = (R .doubt (first r + k) q) .0
+      go false q = lt-used log (first r + k) (rw (row-cell r k m h q) (image-used r k (R .valids r m) h))
 
   pub used-end : used log ≡ end A L
   used-end = le-antisymm
       (used-le log (end A L) (λ n h. rw (R .plain n (past-end n h) ∙ cell-blank A (L .rows) n (omega arith)) blank-is))
-      (omega (arith, end-rows-le A (L .rows) (used log) row, end-changed-le A (L .changed) (used log) (λ n e. lt-used log n (R .marked n e))))
+      (omega (arith, end-rows-le A (L .rows) (used log) row, end-changed-le A (L .changed) (used log) (λ n e. (R .doubt n e) .0)))
     where
       row : (r : Row) → List·Memᴰ r (L .rows) → first r + parts r ≤ used log
       row r m =
           let p : 0 < parts r = parts-pos r (R .valids r m) in
-          omega (arith, lt-used log (first r + (parts r - 1)) (row-marked r (parts r - 1) m (omega arith)))
+          omega (arith, row-used r (parts r - 1) m (omega arith))
 
   -- an intact row is a sound block
   pub row-sound : (r : Row) → List·Memᴰ r (L .rows) → hit A (L .changed) r ≡ false → sound log (first r) ≡ some r
-  row-sound r m h = sound-finds log r (R .valids r m) (omega (arith, R .room, end-row A (L .rows) r m))
+  row-sound r m h = sound-finds log r (R .valids r m)
       (λ k lt. row-cell r k m lt (hit-none A (L .changed) r (first r + k) h (covers-in A r (first r + k) (omega arith) (omega arith))))
 
   -- a sound block is an intact row
@@ -70,7 +70,7 @@ module _ (A : Archive) (W : Lawful A) (log : A .Log) (L : Ledger A) (R : Reflect
       here = (sound-reads log n r e) .1
 
       reads : (k : ℕ) → k < parts r → at log (n + k) ≡ image r k
-      reads = (sound-reads log n r e) .3
+      reads = (sound-reads log n r e) .2
 
       some-part : 0 < parts r
       some-part = parts-pos r ok
@@ -79,7 +79,7 @@ module _ (A : Archive) (W : Lawful A) (log : A .Log) (L : Ledger A) (R : Reflect
       unchanged k h = go (has (n + k) (L .changed)) refl
         where
           go : (b : Bool) → has (n + k) (L .changed) ≡ b → has (n + k) (L .changed) ≡ false
-          go true q = absurd (true≢false (sym (image-fits r k ok h) ∙ ap fits (sym (reads k h)) ∙ R .unfit (n + k) q))
+          go true q = absurd (true≢false (sym (covers-in A r (n + k) (omega (arith, here)) (omega (arith, here))) ∙ (R .doubt (n + k) q) .1 n r e))
           go false q = q
 
       shown : (k : ℕ) → k < parts r → cell A (L .rows) (n + k) ≡ image r k
@@ -96,7 +96,7 @@ module _ (A : Archive) (W : Lawful A) (log : A .Log) (L : Ledger A) (R : Reflect
           let b = covers-reads A s (n + 0) c in
           let t = label r s 0 (n + 0 - first s) ok (R .valids s m) some-part (omega arith) (sym (shown 0 some-part) ∙ q) in
           let f : first s ≡ n = sym (t .0) ∙ here in
-          let found : sound log (first s) ≡ some s = sound-finds log s (R .valids s m) (omega (arith, R .room, end-row A (L .rows) s m))
+          let found : sound log (first s) ≡ some s = sound-finds log s (R .valids s m)
           (λ k h. row-cell s k m h (rw f (unchanged k (omega (arith, t .2))))) in
           let both : some r ≡ some s = sym e ∙ ap (sound log) (sym f) ∙ found in
           cc
@@ -107,9 +107,9 @@ module _ (A : Archive) (W : Lawful A) (log : A .Log) (L : Ledger A) (R : Reflect
 
   pub blocks-intact : blocks A log ≡ intact A L
   unfolding blocks
-  blocks-intact = ascending-ext A 0 (blocks A log) (intact A L) (blocks-ascend A W log (sectors (extent log)) 0)
+  blocks-intact = ascending-ext A 0 (blocks A log) (intact A L) (blocks-ascend A W log (used log) 0)
       (intact-ascends A (L .changed) 0 (L .rows) (λ r m. parts-pos r (R .valids r m)) (R .apart))
-      (λ r m. let s = found-out (sound log) (sectors (extent log)) 0 r m in let p = sound-row (s .0) r (s .2) in intact-in A (L .changed) (L .rows) r (p .0) (p .1))
+      (λ r m. let s = found-out (sound log) (used log) 0 r m in let p = sound-row (s .0) r (s .2) in intact-in A (L .changed) (L .rows) r (p .0) (p .1))
       (λ r m. let p = intact-out A (L .changed) (L .rows) r m in
       let v : 0 < parts r = parts-pos r (R .valids r (p .0)) in
-      found-in (sound log) (sectors (extent log)) 0 (first r) r (omega arith) (omega (arith, R .room, end-row A (L .rows) r (p .0))) (row-sound r (p .0) (p .1)))
+      found-in (sound log) (used log) 0 (first r) r (omega arith) (omega (arith, used-end, end-row A (L .rows) r (p .0))) (row-sound r (p .0) (p .1)))

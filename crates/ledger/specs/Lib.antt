@@ -4,3 +4,5 @@ pub mod Laws
 pub mod Trace
 pub mod History
 pub mod Reflects
+pub mod Events
+pub mod Aftermath

@@ -1,0 +1,209 @@
+-- Whatever happens to a log, in any order and as often as it likes: requests, damage, stops, stops inside a write, growth. What it means at each
+-- moment, in plain terms; the words in quotes are the papers'. No waiting part is lent: a stop between two requests leaves the log as it is.
+use mathlib.Core.Path.{_≡_}
+use mathlib.Core.Bool.{true, false}
+use mathlib.Core.List.{List, [], _∷_, _++_, map, List·Memᴰ}
+use mathlib.Core.Logic.{_≢_}
+use mathlib.Core.Option.{Option, some}
+use Prim.Native.Nat.{ℕ, suc, _+_, _*_, _%_, _≤_, _<_}
+use lib.Dec.{eqb}
+use lib.ListN.{length}
+use Rattle.buffer.specs.Bytes.{Bytes, zeros}
+use Rattle.word.specs.Number.{small}
+use Rattle.sha1.specs.Sha1.{sha1Of}
+use Rattle.refusal.specs.declared.Refusal.{Refusal}
+use Rattle.refusal.specs.declared.Refusal.the-variants.{NotKnown, OverCount, Clash}
+use Rattle.message.specs.Message.{tagOf}
+use Rattle.message.specs.Reply.{readReply, writeReply}
+use Rattle.kind.specs.Kind.{zeroScore}
+use Rattle.block.specs.Block.{Row, parts}
+use Rattle.block.specs.Log.{sectors, at, Alike, used, sound}
+use Rattle.archive.specs.Step.{step, granted, refused}
+use Rattle.archive.specs.declared.Session.{Session}
+use Rattle.archive.specs.declared.Session.the-variants.{Greeted}
+use Rattle.ledger.specs.Archive.{adds}
+use Rattle.ledger.specs.Ledger.{Ledger, has, hasAll, covers, intact, end, crashed, Doubtful}
+use Rattle.ledger.specs.Reflects.{Reflects}
+use Rattle.ledger.specs.Trace.{Along}
+use Rattle.ledger.specs.History.{Item, AllOfBytes, Damage, ruling, blank-books}
+use Rattle.ledger.specs.Events.{ask, harm, crash, recountEvent, beginning, Possible, Damaging, AllThatHappens, AnyDamage, AnyZeroing, StopAnswers, EventHistory, log-then, books-then}
+use Rattle.demands.specs.Ledger.{coveredBy, anyUncovered, firstUncovered}
+use Rattle.demands.specs.Instance.{grown, archive}
+use Rattle.demands.specs.Requests.{Writes, Reads}
+use Rattle.demands.specs.Histories.{History, logOf, ledgerOf, afterwards}
+
+-- ---- the claims of ledger/specs/Events.antt, of our archive
+
+-- from a blank log on, whatever happens: after each event what is answered, the session and the log are the ledger's
+abbrev pub Whatever : Type 0
+Whatever = AllThatHappens archive
+
+-- "damage may fall before or between any requests, as often as you like ..., and each time the ledger is told the changed sectors anew"
+abbrev pub DamageAgain : Type 0
+DamageAgain = AnyDamage archive
+
+-- the same of zeroed sectors that are still in the used part
+abbrev pub ZeroedAgain : Type 0
+ZeroedAgain = AnyZeroing archive
+
+abbrev pub AfterAStop : Type 0
+AfterAStop = StopAnswers archive
+
+-- all that happened so far; the log and the ledger then
+abbrev pub Past : Type 0
+Past = EventHistory archive
+
+abbrev pub logThen : Past → Bytes
+logThen h = log-then archive h .log
+
+abbrev pub ledgerThen : Past → Ledger archive
+ledgerThen h = books-then archive h .ledger
+
+-- at every moment the log reflects the ledger: the one step from the invariant to histories
+abbrev pub ReflectedThen : Type 0
+ReflectedThen = (h : Past) → Reflects archive (logThen h) (ledgerThen h)
+
+-- "not known", with "the first uncovered one's" number
+abbrev pub notKnownThen : Past → Refusal
+notKnownThen h = NotKnown (record { 0 = firstUncovered (intact archive (ledgerThen h)) (end archive (ledgerThen h)) 0 })
+
+-- the histories of demands 2 and 3 are among them
+abbrev pub HistoriesAreAmong : Type 0
+HistoriesAreAmong = (h : History) → (p : Past) × (logThen p ≡ logOf h) × (ledgerThen p ≡ ledgerOf h)
+
+-- ---- "at each moment"
+
+-- "a wholly unchanged copy" of the block of this type and score
+pub record Unchanged (h : Past) (t : ℕ) (s : Bytes) (r : Row) : Type 0 where
+  pub stored : List·Memᴰ r (ledgerThen h .rows)
+  pub of-type : r .kind ≡ t
+  pub of-score : r .score ≡ s
+  pub wholly : (n : ℕ) → covers archive r n ≡ true → has n (ledgerThen h .changed) ≡ false
+
+-- "a block with a wholly unchanged copy is answered (the first such copy, should two of one score and type differ)"
+abbrev pub UnchangedIsAnswered : Type 0
+UnchangedIsAnswered = (h : Past) (t count : ℕ) (s m buffer : Bytes) (x : Row) → s ≢ zeroScore → Unchanged h t s x → Reads m buffer (logThen h) t count s
+    → (r : Row) × Unchanged h t s r × ((y : Row) → Unchanged h t s y → r .first ≤ y .first)
+    × (length (r .bytes) ≤ count → step Greeted m (logThen h) buffer ≡ granted (readReply (tagOf m) (r .bytes)) Greeted (logThen h) buffer)
+    × (count < length (r .bytes) → step Greeted m (logThen h) buffer ≡ refused OverCount (tagOf m) Greeted (logThen h) buffer)
+
+-- so does a write meet it: the same bytes are a duplicate, which adds nothing, and others are 15
+abbrev pub UnchangedIsMet : Type 0
+UnchangedIsMet = (h : Past) (t : ℕ) (d m buffer : Bytes) (x : Row) → sha1Of d ≢ zeroScore → Unchanged h t (sha1Of d) x → Writes m buffer (logThen h) t d
+    → (r : Row) × Unchanged h t (sha1Of d) r × ((y : Row) → Unchanged h t (sha1Of d) y → r .first ≤ y .first)
+    × (r .bytes ≡ d → step Greeted m (logThen h) buffer ≡ granted (writeReply (tagOf m) (sha1Of d)) Greeted (logThen h) buffer)
+    × (r .bytes ≢ d → step Greeted m (logThen h) buffer ≡ refused Clash (tagOf m) Greeted (logThen h) buffer)
+
+-- "and all others but the empty block are "not known" while any sector is changed"
+abbrev pub OthersNotKnown : Type 0
+OthersNotKnown = (h : Past) (t count : ℕ) (s m buffer : Bytes) (k : ℕ) → s ≢ zeroScore → has k (ledgerThen h .changed) ≡ true
+    → ((r : Row) → Unchanged h t s r → ⊥) → Reads m buffer (logThen h) t count s
+    → step Greeted m (logThen h) buffer ≡ refused (notKnownThen h) (tagOf m) Greeted (logThen h) buffer
+
+-- where no sector is changed but a blank one stays between rows, as when a sector was damaged, written behind and healed, it is "not known" too
+abbrev pub GapNotKnown : Type 0
+GapNotKnown = (h : Past) (t count : ℕ) (s m buffer : Bytes) (k : ℕ) → s ≢ zeroScore → has k (ledgerThen h .changed) ≡ false
+    → k < end archive (ledgerThen h) → coveredBy (ledgerThen h .rows) k ≡ false → ((r : Row) → Unchanged h t s r → ⊥) → Reads m buffer (logThen h) t count s
+    → (zeros (at (logThen h) k) ≡ true) × (step Greeted m (logThen h) buffer ≡ refused (notKnownThen h) (tagOf m) Greeted (logThen h) buffer)
+
+-- "A doubtful sector is never written over": in any log, by any request
+abbrev pub NeverWrittenOver : Type 0
+NeverWrittenOver = (s : Session) (m log buffer : Bytes) (k : ℕ) → small m ≡ true → Doubtful archive log k → at (step s m log buffer .log) k ≡ at log k
+
+-- a healed sector's rows are intact again: whatever was changed before, the rows of which damage told anew leaves every sector are sound blocks
+abbrev pub HealedIsIntact : Type 0
+HealedIsIntact = (h : Past) (cs : List ℕ) (hurt : Bytes) (r : Row) → Possible archive (books-then archive h) (harm cs hurt)
+    → List·Memᴰ r (ledgerThen h .rows) → ((n : ℕ) → covers archive r n ≡ true → has n cs ≡ false) → sound hurt (r .first) ≡ some r
+
+-- what is read is what a row holds none of whose sectors is changed
+abbrev pub AnswersAreUnchanged : Type 0
+AnswersAreUnchanged = (h : Past) (t count : ℕ) (s m buffer : Bytes) → Reads m buffer (logThen h) t count s → s ≢ zeroScore → step Greeted m (logThen h) buffer .number ≡ 0
+    → (r : Row) × Unchanged h t s r × (step Greeted m (logThen h) buffer ≡ granted (readReply (tagOf m) (r .bytes)) Greeted (logThen h) buffer)
+
+-- what a write is answered for reads back after any further requests, and is not stored again: "as if nothing had happened"
+abbrev pub StoredThenReadsBack : Type 0
+StoredThenReadsBack = (h : Past) (t : ℕ) (d m buffer : Bytes) → small m ≡ true → Writes m buffer (logThen h) t d → step Greeted m (logThen h) buffer .number ≡ 0
+    → (past : List Session) (qs : List (Item archive)) → AllOfBytes archive qs → let log = afterwards (step Greeted m (logThen h) buffer .log) past qs in
+    (count : ℕ) (m′ buffer′ : Bytes) → length d ≤ count → Reads m′ buffer′ log t count (sha1Of d)
+    → step Greeted m′ log buffer′ ≡ granted (readReply (tagOf m′) d) Greeted log buffer′
+
+abbrev pub DuplicateThenAddsNothing : Type 0
+DuplicateThenAddsNothing = (h : Past) (t : ℕ) (d m buffer : Bytes) → small m ≡ true → Writes m buffer (logThen h) t d → step Greeted m (logThen h) buffer .number ≡ 0
+    → (past : List Session) (qs : List (Item archive)) → AllOfBytes archive qs → let log = afterwards (step Greeted m (logThen h) buffer .log) past qs in
+    (m′ buffer′ : Bytes) → Writes m′ buffer′ log t d → step Greeted m′ log buffer′ ≡ granted (writeReply (tagOf m′) (sha1Of d)) Greeted log buffer′
+
+-- 12 is answered only while a sector is uncovered, and tells the first of them; 11 only while none is
+abbrev pub TwelveThenTells : Type 0
+TwelveThenTells = (h : Past) (s : Session) (m buffer : Bytes) → step s m (logThen h) buffer .number ≡ 12
+    → (anyUncovered (intact archive (ledgerThen h)) (end archive (ledgerThen h)) ≡ true)
+    × (step s m (logThen h) buffer ≡ refused (notKnownThen h) (tagOf m) s (logThen h) buffer)
+
+abbrev pub ElevenThenCovered : Type 0
+ElevenThenCovered = (h : Past) (s : Session) (m buffer : Bytes) → small m ≡ true → step s m (logThen h) buffer .number ≡ 11
+    → anyUncovered (intact archive (ledgerThen h)) (end archive (ledgerThen h)) ≡ false
+
+-- ---- a stop inside a write: the request that was never answered, the sectors that arrived, the torn ones, and what the disk holds
+
+-- what was stored, and is unchanged, is there as before
+abbrev pub TornKeepsStored : Type 0
+TornKeepsStored = (h : Past) (q : Option (Item archive)) (arrived torn : List ℕ) (hurt : Bytes) (t : ℕ) (s : Bytes) (r : Row)
+    → Possible archive (books-then archive h) (crash q arrived torn tt hurt) → Unchanged h t s r → sound hurt (r .first) ≡ some r
+
+-- a block that arrived whole is there
+abbrev pub WholeIsThere : Type 0
+WholeIsThere = (h : Past) (q : Item archive) (arrived torn : List ℕ) (hurt : Bytes) (r : Row)
+    → Possible archive (books-then archive h) (crash (some q) arrived torn tt hurt) → ruling archive (books-then archive h) q .effect ≡ adds r
+    → hasAll arrived (r .first) (parts r) ≡ true → sound hurt (r .first) ≡ some r
+
+-- one that did not is "not known" while any of its sectors is in the used part
+abbrev pub TornNotKnown : Type 0
+TornNotKnown = (h : Past) (q : Item archive) (arrived torn : List ℕ) (hurt : Bytes) (r : Row) (count : ℕ) (m buffer : Bytes)
+    → Possible archive (books-then archive h) (crash (some q) arrived torn tt hurt) → ruling archive (books-then archive h) q .effect ≡ adds r
+    → hasAll arrived (r .first) (parts r) ≡ false → r .first < used hurt → Reads m buffer hurt (r .kind) count (r .score)
+    → let L = crashed archive arrived torn (beginning archive (books-then archive h) (some q)) in
+    step Greeted m hurt buffer ≡ refused (NotKnown (record { 0 = firstUncovered (intact archive L) (end archive L) 0 })) (tagOf m) Greeted hurt buffer
+
+-- and as if never written if none is: each sector is as it was
+abbrev pub TornLeavesNothing : Type 0
+TornLeavesNothing = (h : Past) (q : Option (Item archive)) (arrived torn : List ℕ) (hurt : Bytes)
+    → Possible archive (books-then archive h) (crash q arrived torn tt hurt) → used hurt ≤ used (logThen h) → Alike hurt (logThen h)
+
+-- ---- growth: whole sectors, all blank, behind those that are there
+
+abbrev pub GrowthAddsBlanks : Type 0
+GrowthAddsBlanks = (k : ℕ) (log : Bytes) → eqb (length log % 512) 0 ≡ true → (length (grown k log) ≡ length log + 512 * k) × Alike (grown k log) log
+
+-- ---- there is something to speak of: at any moment of any history
+
+-- any sector may be damaged, besides those that are, and any of the used part but its last may be left all zeros
+abbrev pub AnySectorMayBeHurt : Type 0
+AnySectorMayBeHurt = (h : Past) (n : ℕ) → n < sectors (length (logThen h))
+    → (hurt : Bytes) × (zeros (at hurt n) ≡ false) × Possible archive (books-then archive h) (harm (n ∷ ledgerThen h .changed) hurt)
+
+abbrev pub AnySectorMayBeZeroed : Type 0
+AnySectorMayBeZeroed = (h : Past) (n : ℕ) → suc n < used (logThen h)
+    → (hurt : Bytes) × (zeros (at hurt n) ≡ true) × Possible archive (books-then archive h) (harm (n ∷ ledgerThen h .changed) hurt)
+
+-- a write that adds a row may be torn: any of its sectors arrived, any others are torn
+abbrev pub AnyAppendMayBeTorn : Type 0
+AnyAppendMayBeTorn = (h : Past) (q : Item archive) (r : Row) → archive .OfBytes (q .request) → ruling archive (books-then archive h) q .effect ≡ adds r
+    → (arrived torn : List ℕ) → ((n : ℕ) → has n arrived ≡ true → covers archive r n ≡ true) → ((n : ℕ) → has n torn ≡ true → covers archive r n ≡ true)
+    → ((n : ℕ) → has n torn ≡ true → has n arrived ≡ false)
+    → (hurt : Bytes) × Possible archive (books-then archive h) (crash (some q) arrived torn tt hurt)
+
+-- requests, damage of a sector, requests, all healed, requests, damage of another sector: with the premises of "Damage that comes again"
+abbrev pub DamageComesAgain : Type 0
+DamageComesAgain = (size i j : ℕ) (before between later : List (Item archive)) → AllOfBytes archive before → AllOfBytes archive between → AllOfBytes archive later
+    → i < sectors size → j < sectors size
+    → (hurt healed again : Bytes)
+    × Along (Damaging archive (Damage archive)) (recountEvent archive) (blank-books archive size)
+    (map ask before ++ (harm (i ∷ []) hurt ∷ (map ask between ++ (harm [] healed ∷ (map ask later ++ (harm (j ∷ []) again ∷ []))))))
+
+-- one of each: a stored block of which a sector is zeroed; and an append of two sectors of which the second arrived and the first is torn
+abbrev pub ZeroedCanBe : Type 0
+ZeroedCanBe = (h : Past) × (r : Row) × (n : ℕ) × (hurt : Bytes) × List·Memᴰ r (ledgerThen h .rows) × (covers archive r n ≡ true) × (zeros (at hurt n) ≡ true)
+    × Possible archive (books-then archive h) (harm (n ∷ ledgerThen h .changed) hurt)
+
+abbrev pub TornCanBe : Type 0
+TornCanBe = (h : Past) × (q : Item archive) × (r : Row) × (hurt : Bytes) × (ruling archive (books-then archive h) q .effect ≡ adds r) × (parts r ≡ 2)
+    × Possible archive (books-then archive h) (crash (some q) (suc (r .first) ∷ []) (r .first ∷ []) tt hurt)
