@@ -1,14 +1,16 @@
-/* The archive from C: a hello is answered, and so is a write, whose block is read back; after damage a block that is not found is
-   not known, and the first doubtful sector is told. Exits with 0 if every answer is as it must be. */
+/* The archive from C: a hello is answered, and so is a write, whose block is read back while it waits and again when a sync has moved
+   it into the log; after damage a block that is not found is not known, and the first doubtful sector is told. Exits with 0 if every
+   answer is as it must be. */
 #include <stdio.h>
 #include <stdlib.h>
 #include <string.h>
 
 #include "skywimple.h"
 
-enum { LOG = 16 * 512, REPLY = 57348 };
+enum { LOG = 16 * 512, WAITING = 8 * 512, REPLY = 57348 };
 
 static uint8_t log_bytes[LOG];
+static uint8_t waiting[WAITING];
 static uint8_t reply[REPLY];
 static uint8_t session = 0;
 
@@ -16,7 +18,8 @@ static uint8_t session = 0;
 static void ask(const char *what, const uint8_t *message, size_t length, uint32_t number, const uint8_t *expected,
                 size_t expected_length) {
     memset(reply, 0xee, sizeof reply);
-    uint32_t result = skywimple_serve(session, message, length, log_bytes, sizeof log_bytes, reply, sizeof reply);
+    uint32_t result = skywimple_serve(session, message, length, log_bytes, sizeof log_bytes, waiting, sizeof waiting, reply,
+                                      sizeof reply);
     if (result % 256 != number || memcmp(reply, expected, expected_length) != 0 || reply[expected_length] != 0xee) {
         fprintf(stderr, "%s: number %u, reply %02x %02x %02x %02x ..\n", what, (unsigned)(result % 256), reply[0], reply[1],
                 reply[2], reply[3]);
@@ -43,6 +46,17 @@ int main(void) {
     read[27] = 3;
     const uint8_t bytes[] = {0, 5, 13, 2, 'a', 'b', 'c'};
     ask("read", read, sizeof read, 0, bytes, sizeof bytes);
+    if (log_bytes[0] != 0 || waiting[0] != 'r') {
+        return 1;
+    }
+
+    const uint8_t sync[] = {0, 2, 16, 3};
+    const uint8_t synced[] = {0, 2, 17, 3};
+    ask("sync", sync, sizeof sync, 0, synced, sizeof synced);
+    if (log_bytes[0] != 'r' || waiting[0] != 0) {
+        return 1;
+    }
+    ask("read after it", read, sizeof read, 0, bytes, sizeof bytes);
 
     /* a blank sector is written over: it is doubtful now, and so are the blank ones before it, from 1 on */
     log_bytes[5 * 512] = 7;
@@ -51,7 +65,7 @@ int main(void) {
                                  ' ', 'a', 't', '=', '0', '0', '0', '0', '0', '0', '0', '1'};
     ask("read of another score", read, sizeof read, 12, not_known, sizeof not_known);
 
-    uint64_t walked = skywimple_walk(log_bytes, sizeof log_bytes, read + 4, 9);
+    uint64_t walked = skywimple_walk(log_bytes, sizeof log_bytes, waiting, sizeof waiting, read + 4, 9);
     unsigned number = walked % 256, visits = walked / 256 % 1048576, sector = walked / 268435456;
     printf("walk: number %u, visits %u, first doubtful sector %u\n", number, visits, sector);
     if (number != 12 || visits != 1 || sector != 1) {

@@ -1,9 +1,15 @@
 /* The functions of target/staticlib/libboundary.a, which `rt staticlib boundary` writes.
    crates/boundary/src has their contracts. A slice is a pointer to its bytes, not null, and their
    count. Slices of one call do not overlap, unless both are only read. "Number" is the number of a
-   refusal, 1 to 23, or 0 for none. 12 ("not known") comes with the log's first doubtful sector (of
-   skywimple_fill, see there), which is the 512 bytes from 512 times its number on. No call has a
-   precondition besides. */
+   refusal, 1 to 23, 25 or 26, or 0 for none.
+
+   waiting is the waiting part of log: whole sectors of 512 bytes, at most 256 of them (else 3), all
+   zeros at first, and from then on as the last skywimple_serve left it. Its sectors are numbered on
+   from the end of log's used part, and both are read as one log; it may be empty.
+
+   12 ("not known") comes with the first doubtful sector. Where log has n used sectors, sector s is
+   the 512 bytes of log from 512 * s on if s < n, else those of waiting from 512 * (s - n) on. No call
+   has a precondition besides. */
 #ifndef SKYWIMPLE_H
 #define SKYWIMPLE_H
 
@@ -23,12 +29,15 @@ uint32_t skywimple_sha1(const uint8_t *s, size_t s_len, uint8_t *out, size_t out
 
 /* Answers one request. session: 0 fresh, 1 greeted, anything else closed. The result is the number,
    and 256 times the session afterwards. A reply stands at the front of reply, which needs 57,348
-   bytes; a stored block is appended in log. An error reply's text is why= and two digits, and for 12
-   also " at=" and the first doubtful sector in eight lower-case hex digits. */
+   bytes; a stored block is appended in waiting, and a sync moves all that is there into log and
+   leaves waiting all zeros. 14 ("no room"): log has too few sectors beyond the used ones of both, or
+   waiting too few blank ones left, which a sync mends. An error reply's text is why= and two digits,
+   and for 12 also " at=" and the first doubtful sector in eight lower-case hex digits. */
 uint32_t skywimple_serve(uint8_t session, const uint8_t *message, size_t message_len,
-                         uint8_t *log, size_t log_len, uint8_t *reply, size_t reply_len);
+                         uint8_t *log, size_t log_len, uint8_t *waiting, size_t waiting_len,
+                         uint8_t *reply, size_t reply_len);
 
-/* Writes the report of log to the front of buffer, which needs 128 bytes. The result is the number,
+/* Writes the report of log, without what waits, to the front of buffer, which needs 128 bytes. The result is the number,
    and 256 times the length of the text. */
 uint32_t skywimple_report(const uint8_t *log, size_t log_len, uint8_t *buffer, size_t buffer_len);
 
@@ -45,25 +54,39 @@ uint32_t skywimple_pad(uint8_t kind, uint8_t *buffer, size_t buffer_len, size_t 
                        size_t target);
 
 /* Where the bytes of a file at an offset lie, as one run. entry has 40 bytes; page is zeros. From
-   the lowest bit on, the result is: the number (8 bits), whether the run lies in page (1) or in log
-   (0), its length (16 bits), and the byte of log where it starts; a run in page starts at its front.
-   A refusal has 0 in all of these, but for 12, which has the first doubtful sector in place of the
-   start: result / 33554432. */
-uint64_t skywimple_locate(const uint8_t *log, size_t log_len, const uint8_t *page, size_t page_len,
+   the lowest bit on, the result is: the number (8 bits), the slice that the run lies in (2 bits: 0
+   log, 1 waiting, 2 page), its length (16 bits), and the byte of the slice where it starts; a run in
+   page starts at its front. A refusal has 0 in all of these, but for 12, which has the first doubtful
+   sector in place of the start: result / 67108864. */
+uint64_t skywimple_locate(const uint8_t *log, size_t log_len, const uint8_t *waiting,
+                          size_t waiting_len, const uint8_t *page, size_t page_len,
                           const uint8_t *entry, size_t entry_len, uint64_t offset);
 
 /* Fills buffer with the bytes of a file from an offset on, up to the end of buffer or of the file.
    entry has 40 bytes. The result is the number, and 256 times the count of the bytes written to the
    front of buffer; the rest of it stays. A refusal is the one that skywimple_locate gives at the
-   first offset behind them: it tells the sector of a 12. */
-uint64_t skywimple_fill(const uint8_t *log, size_t log_len, const uint8_t *entry, size_t entry_len,
-                        uint64_t offset, uint8_t *buffer, size_t buffer_len);
+   first offset behind them. *told becomes the first doubtful sector for 12, else 0. */
+uint64_t skywimple_fill(const uint8_t *log, size_t log_len, const uint8_t *waiting,
+                        size_t waiting_len, const uint8_t *entry, size_t entry_len, uint64_t offset,
+                        uint8_t *buffer, size_t buffer_len, uint64_t *told);
 
 /* Walks from a root's score, 20 bytes. The result is the number, 256 times the visits spent, which are
    at most 1,000,000, and for 12 also 268435456 times the first doubtful sector:
    number = result % 256, visits = result / 256 % 1048576, sector = result / 268435456. */
-uint64_t skywimple_walk(const uint8_t *log, size_t log_len, const uint8_t score[20],
-                        uint64_t allowance);
+uint64_t skywimple_walk(const uint8_t *log, size_t log_len, const uint8_t *waiting,
+                        size_t waiting_len, const uint8_t score[20], uint64_t allowance);
+
+/* Asks a query of the card that an entry leads to. entry has 40 bytes; page is zeros. A card has at
+   most 4,096 bytes (else 25), a query at most 256 (else 26). The result is the number, 256 times the
+   value (1 yes, 2 no, 3 not known; 0 where it is refused), and for 12 also 65536 times the first
+   doubtful sector: number = result % 256, value = result / 256 % 256, sector = result / 65536. */
+uint64_t skywimple_search(const uint8_t *log, size_t log_len, const uint8_t *waiting,
+                          size_t waiting_len, const uint8_t *page, size_t page_len,
+                          const uint8_t *entry, size_t entry_len, const uint8_t *query,
+                          size_t query_len);
+
+/* 1 where the bytes are well-formed as a card, whatever their count, else 0. */
+uint32_t skywimple_is_card(const uint8_t *bytes, size_t bytes_len);
 
 /* The block type of a number of the enumeration: the number 9 for none, else 256 times the type. */
 uint32_t skywimple_block_type(uint64_t number);

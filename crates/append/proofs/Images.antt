@@ -13,9 +13,10 @@ use Rattle.sector.specs.Sector.{labelOf, filled, check, encode}
 use Rattle.sector.specs.declared.Label.{Label}
 use Rattle.sector.proofs.Encode.{length-encode}
 use Rattle.sector.proofs.Fields.{length-label}
-use Rattle.block.specs.Block.{Row, parts, labelAt, rowLabel, image, images, written}
+use Rattle.block.specs.Block.{Row, parts, labelAt, rowLabel, image, images}
 use Rattle.block.specs.Log.{sectors}
 use Rattle.block.proofs.Facts.{parts-bounds}
+use Rattle.log.specs.Parts.{writtenFrom}
 
 -- a sector takes no more of its data than fills it up
 take-cut : (n : ℕ) (d z : Bytes) → take n (take n d ++ z) ≡ take n (d ++ z)
@@ -94,19 +95,19 @@ module _ (r : Row) (part : Bytes) (k : ℕ) (h : length (r .score) ≡ 20) (room
       ∙ put-next part 0 (512 * k) (images r k 0) (image r k) (omega (arith, length-images r h k 0)) (omega (arith, length-images r h k 0, length-image r h k))
       ∙ ap (put part 0) (ap (λ (n : ℕ). images r k 0 ++ image r n) (sym (zero-add k)) ∙ sym (images-more r k 0) ∙ ap (λ (n : ℕ). images r n 0) (sym (add-one k)))
 
--- the block, in the part of the log from its first sector on
-pub block-written : (log ys : Bytes) (r : Row) → length (r .score) ≡ 20 → r .first + parts r ≤ sectors (length log)
-    → ys ≡ put (take (length log - r .first * 512) (drop (r .first * 512) log)) 0 (images r (parts r) 0)
-    → take (r .first * 512) log ++ (ys ++ drop (length log - r .first * 512) (drop (r .first * 512) log)) ≡ written log r
-unfolding written
-block-written log ys r h room e =
-    let at = r .first * 512 in
-    let all : length (drop at log) ≤ length log - at = omega (arith, length-drop at log) in
+-- the block, in what lies from its place on of a part whose sectors are numbered on from sector `from`
+pub block-written : (from : ℕ) (part ys : Bytes) (r : Row) → length (r .score) ≡ 20 → r .first - from + parts r ≤ sectors (length part)
+    → ys ≡ put (take (length part - (r .first - from) * 512) (drop ((r .first - from) * 512) part)) 0 (images r (parts r) 0)
+    → take ((r .first - from) * 512) part ++ (ys ++ drop (length part - (r .first - from) * 512) (drop ((r .first - from) * 512) part)) ≡ writtenFrom from part r
+unfolding writtenFrom
+block-written from part ys r h room e =
+    let at = (r .first - from) * 512 in
+    let all : length (drop at part) ≤ length part - at = omega (arith, length-drop at part) in
     let new = images r (parts r) 0 in
-    let n : at ≡ 512 * r .first = omega arith in
-    let m : at + (0 + length new) ≡ 512 * (r .first + parts r) = omega (arith, length-images r h (parts r) 0) in
-    ap (λ (x : Bytes). take at log ++ x)
-    (ap₂ _++_ (e ∙ ap (λ (x : Bytes). put x 0 new) (take-all (length log - at) (drop at log) all)) (drop-of-length-le (drop at log) all)
-    ∙ append-nil (put (drop at log) 0 new)
-    ∙ ap (λ (x : Bytes). new ++ x) (drop-drop (0 + length new) at log))
-    ∙ ap₂ (λ (a b : ℕ). take a log ++ (new ++ drop b log)) n m
+    let n : at ≡ 512 * (r .first - from) = omega arith in
+    let m : at + (0 + length new) ≡ 512 * (r .first - from + parts r) = omega (arith, length-images r h (parts r) 0) in
+    ap (λ (x : Bytes). take at part ++ x)
+    (ap₂ _++_ (e ∙ ap (λ (x : Bytes). put x 0 new) (take-all (length part - at) (drop at part) all)) (drop-of-length-le (drop at part) all)
+    ∙ append-nil (put (drop at part) 0 new)
+    ∙ ap (λ (x : Bytes). new ++ x) (drop-drop (0 + length new) at part))
+    ∙ ap₂ (λ (a b : ℕ). take a part ++ (new ++ drop b part)) n m

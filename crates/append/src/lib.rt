@@ -1,15 +1,16 @@
-// A block written to the log, sector by sector.
+// A block written behind a log, sector by sector.
 use sector::Label;
 use sector::PAYLOAD;
 use sector::SECTOR;
 use sector_number::SectorNumber;
 ghost use mathlib.Core.Path.{_≡_};
-ghost use Prim.Native.Nat.{_+_, _*_, _≤_, _<_, min};
+ghost use Prim.Native.Nat.{_+_, _-_, _*_, _≤_, _<_, min};
 ghost use lib.ListN.{length};
 ghost use Rattle.buffer.specs.Bytes.{put};
 ghost use Rattle.kind.specs.Kind.{longest};
-ghost use Rattle.block.specs.Block.{partsOf, image, images, written};
+ghost use Rattle.block.specs.Block.{partsOf, image, images};
 ghost use Rattle.block.specs.Log.{sectors};
+ghost use Rattle.log.specs.Parts.{writtenFrom};
 ghost use Rattle.append.specs.Append.{rowOf};
 
 // The smaller of two numbers.
@@ -54,11 +55,19 @@ fn write_parts(part: &mut [u8], first: SectorNumber, kind: u8, score: &[u8], dat
     }
 }
 
-// Writes a block to the log from sector `first` on: that part of the log is lent on, and no other byte changes.
-pub fn append_block(log: &mut [u8], first: SectorNumber, kind: u8, score: &[u8], data: &[u8])
-    requires { ⌜ (length (now «data») ≤ longest) × (length (now score) ≡ 20) × (first .0 + partsOf (length (now «data»)) ≤ sectors (length (now log))) ⌝ }
-    ensures { λ _. ⌜ now (log .exit) ≡ written (now (log .entry)) (rowOf kind (now (score .entry)) (now («data» .entry)) (first .0)) ⌝ }
+// Writes a block among the sectors of a part, which are numbered on from sector `from`: what lies there from the block's place on is lent on,
+// and no other byte changes.
+pub fn append_block(
+    part: &mut [u8],
+    from: SectorNumber,
+    first: SectorNumber,
+    kind: u8,
+    score: &[u8],
+    data: &[u8],
+)
+    requires { ⌜ (length (now «data») ≤ longest) × (length (now score) ≡ 20) × (from .0 ≤ first .0) × (first .0 - from .0 + partsOf (length (now «data»)) ≤ sectors (length (now part))) ⌝ }
+    ensures { λ _. ⌜ now (part .exit) ≡ writtenFrom (from .0) (now (part .entry)) (rowOf kind (now (score .entry)) (now («data» .entry)) (first .0)) ⌝ }
 {
-    let at = first.0 * SECTOR;
-    write_parts(&mut log[at..], first, kind, score, data);
+    let at = (first.0 - from.0) * SECTOR;
+    write_parts(&mut part[at..], first, kind, score, data);
 }

@@ -1,6 +1,6 @@
 -- The cases of a request, one for each return of the code.
 use mathlib.Core.Path.{_≡_, refl, sym, ap, ap₂, _∙_}
-use mathlib.Core.Bool.{Bool, true, false}
+use mathlib.Core.Bool.{Bool, true, false, cond}
 use mathlib.Core.List.{[], _∷_, _++_, append-nil}
 use mathlib.Core.Logic.{inl, inr, ⊎-elim}
 use Prim.Native.Nat.{ℕ, _-_, _≤_, _<_}
@@ -14,7 +14,7 @@ use lib.ListN.{length, take, drop, length-drop, drop-of-length-le}
 use lib.Seq.{drop-drop}
 use Rattle.buffer.specs.Bytes.{Bytes, same, put}
 use Rattle.refusal.specs.declared.Refusal.{Refusal}
-use Rattle.refusal.specs.declared.Refusal.the-variants.{Frame, Buffer, LogLength, Hello as BadHello, BlockType, DataLength}
+use Rattle.refusal.specs.declared.Refusal.the-variants.{Frame, Buffer, LogLength, Hello as BadHello, BlockType, DataLength, NoRoom}
 use Rattle.sector_number.specs.declared.SectorNumber.{SectorNumber}
 use Rattle.kind.specs.Kind.{lawful, longest}
 use Rattle.log.specs.declared.Look.{Look}
@@ -22,28 +22,33 @@ use Rattle.log.specs.declared.Look.the-variants.{Found, Refused}
 use Rattle.log.specs.declared.Stored.{Stored}
 use Rattle.log.specs.declared.Stored.the-variants.{New, Duplicate, Refused as StoreRefused}
 use Rattle.log.specs.declared.Receipt.{Receipt}
-use Rattle.log.specs.LookUp.{logAllowed, lookUp, counted}
+use Rattle.log.specs.LookUp.{lookUp, counted}
+use Rattle.log.specs.Parts.{Lent, beside, oneLog, canSettle, settled}
+use Rattle.block.specs.Block.{partsOf}
+use Rattle.block.specs.Log.{Alike}
+use Rattle.block.proofs.Alike.{payloads-alike}
+use Rattle.log.proofs.Alike.{look-up-alike}
 use Rattle.log.proofs.Counted.{Over, counted-found, counted-refused}
 use Rattle.log.specs.Store.{AfterStore, afterStore, store}
 use Rattle.log.proofs.Stored.{the-type}
 use Rattle.reader.specs.Reader.{bytesAt}
 use Rattle.reader.proofs.Pieces.{length-bytes}
 use Rattle.message.specs.Message.{framed, tagOf, versionOf, scoreOf, dataOf, requestOf}
-use Rattle.message.specs.Reply.{reply, answered, helloReply, readReply, writeReply}
+use Rattle.message.specs.Reply.{reply, answered, helloReply, readReply, writeReply, syncReply}
 use Rattle.message.specs.declared.Request.{Request}
 use Rattle.message.specs.declared.Request.the-variants.{Hello}
 use Rattle.buffer.proofs.Put.{put-none}
 use Rattle.message.proofs.Replies.{head, head-body}
 use Rattle.message.proofs.Requests.{part-rest}
-use Rattle.archive.specs.declared.Session.{Session}
-use Rattle.archive.specs.declared.Session.the-variants.{Fresh, Greeted}
-use Rattle.archive.specs.Step.{Outcome, whole, silent, refused, granted, replyRoom, version, read, written, write, fresh, greeted, inSession, step}
+use Rattle.request.specs.declared.Session.{Session}
+use Rattle.request.specs.declared.Session.the-variants.{Fresh, Greeted}
+use Rattle.request.specs.Step.{Outcome, outcomeOf, silent, refused, granted, replyRoom, version, allowed, read, written, write, sync, fresh, greeted, inSession, step}
 use Rattle.archive.proofs.Held.{look-absent, look-found, found-bytes}
 
 -- an outcome by its parts
-pub outcome : (n k : ℕ) (s : Session) (log x y : Bytes) → n ≡ k → x ≡ y
-    → whole (record { number = n; session = s }) log x ≡ record { number = k; session = s; log = log; reply = y }
-outcome n k s log x y p q = λ i. record { number = p i; session = s; log = log; reply = q i }
+pub outcome : (n k : ℕ) (s : Session) (log w x y : Bytes) → n ≡ k → x ≡ y
+    → outcomeOf (record { number = n; session = s }) log w x ≡ record { number = k; session = s; lent = beside log w; reply = y }
+outcome n k s log w x y p q = λ i. record { number = p i; session = s; lent = beside log w; reply = q i }
 
 -- a head and nothing after it
 pub bodiless : (buffer x : Bytes) (kind tag : ℕ) → x ≡ put buffer 0 (head kind tag 0) → x ≡ answered buffer (reply kind tag [])
@@ -70,109 +75,131 @@ head-block buffer x y log tag first size p q =
 
 -- ---- a hello in a fresh session
 
-module _ (m log buffer : Bytes) (tag : ℕ) (b : Bool) (e : b ≡ same (versionOf m) version) where
-  pub hello-other : b ≡ false → refused BadHello tag Fresh log buffer ≡ fresh Hello tag m log buffer
+module _ (m : Bytes) (L : Lent) (buffer : Bytes) (tag : ℕ) (b : Bool) (e : b ≡ same (versionOf m) version) where
+  pub hello-other : b ≡ false → refused BadHello tag Fresh L buffer ≡ fresh Hello tag m L buffer
   unfolding fresh
   hello-other q = rw (sym e ∙ q)
 
-  pub hello-right : b ≡ true → granted (helloReply tag) Greeted log buffer ≡ fresh Hello tag m log buffer
+  pub hello-right : b ≡ true → granted (helloReply tag) Greeted L buffer ≡ fresh Hello tag m L buffer
   unfolding fresh
   hello-right q = rw (sym e ∙ q)
 
 -- ---- a read
 
-module _ (kind count tag : ℕ) (score log buffer : Bytes) (b : Bool) (e : b ≡ lawful kind) where
-  pub read-kind : b ≡ false → refused BlockType tag Greeted log buffer ≡ read kind count tag score log buffer
+module _ (kind count tag : ℕ) (score : Bytes) (L : Lent) (buffer : Bytes) (b : Bool) (e : b ≡ lawful kind) where
+  pub read-kind : b ≡ false → refused BlockType tag Greeted L buffer ≡ read kind count tag score L buffer
   unfolding read
   read-kind q = rw (sym e ∙ q)
 
   module _ (q : b ≡ true) where
-    read-absent : (w : Refusal) → lookUp log kind score ≡ Refused w → refused w tag Greeted log buffer ≡ read kind count tag score log buffer
+    read-absent : (w : Refusal) → lookUp (oneLog L) kind score ≡ Refused w → refused w tag Greeted L buffer ≡ read kind count tag score L buffer
     unfolding read
     read-absent w d =
-        let a = look-absent log kind score w d in
+        let a = look-absent (oneLog L) kind score w d in
         rw (sym e ∙ q, a .0, a .1)
 
-    read-over : (w : Refusal) → Over count (lookUp log kind score) w → refused w tag Greeted log buffer ≡ read kind count tag score log buffer
+    read-over : (w : Refusal) → Over count (lookUp (oneLog L) kind score) w → refused w tag Greeted L buffer ≡ read kind count tag score L buffer
     unfolding read
     read-over w o =
-        let s = look-found log kind score (o .first) (o .size) (o .found) in
+        let s = look-found (oneLog L) kind score (o .first) (o .size) (o .found) in
         let z : ltb count (length (s .row .bytes)) ≡ true = rw (← s .size) (lt-ltb count (o .size) (o .long)) in
-        ap (λ (x : Refusal). refused x tag Greeted log buffer) (o .why) ∙ rw (sym e ∙ q, s .is-held, z)
+        ap (λ (x : Refusal). refused x tag Greeted L buffer) (o .why) ∙ rw (sym e ∙ q, s .is-held, z)
 
-    module _ (l : Look) (g : l ≡ counted count (lookUp log kind score)) where
-      pub read-refused : (w : Refusal) → l ≡ Refused w → refused w tag Greeted log buffer ≡ read kind count tag score log buffer
-      read-refused w d = ⊎-elim (read-absent w) (read-over w) (counted-refused count (lookUp log kind score) w (sym g ∙ d))
+    -- J is a log with the same sectors, in which the code looks
+    module _ (J : Bytes) (f : Alike J (oneLog L)) (l : Look) (g : l ≡ counted count (lookUp J kind score)) where
+      same-look : l ≡ counted count (lookUp (oneLog L) kind score)
+      same-look = g ∙ ap (counted count) (look-up-alike J (oneLog L) f kind score)
 
-      pub read-found : (f : SectorNumber) (n : ℕ) → l ≡ Found f n → granted (readReply tag (bytesAt log (f .0) n)) Greeted log buffer ≡ read kind count tag score log buffer
+      pub read-refused : (w : Refusal) → l ≡ Refused w → refused w tag Greeted L buffer ≡ read kind count tag score L buffer
+      read-refused w d = ⊎-elim (read-absent w) (read-over w) (counted-refused count (lookUp (oneLog L) kind score) w (sym same-look ∙ d))
+
+      pub read-found : (a : SectorNumber) (n : ℕ) → l ≡ Found a n → granted (readReply tag (bytesAt J (a .0) n)) Greeted L buffer ≡ read kind count tag score L buffer
       unfolding read
-      read-found f n d =
-          let c = counted-found count (lookUp log kind score) f n (sym g ∙ d) in
-          let s = look-found log kind score f n (c .0) in
+      read-found a n d =
+          let c = counted-found count (lookUp (oneLog L) kind score) a n (sym same-look ∙ d) in
+          let s = look-found (oneLog L) kind score a n (c .0) in
           let z : ltb count (length (s .row .bytes)) ≡ false = rw (← s .size) (le-ltb count n (c .1)) in
-          rw (sym e ∙ q, s .is-held, z) (ap (λ (x : Bytes). granted (readReply tag x) Greeted log buffer) (sym (found-bytes log kind score f n (c .0))))
+          let x : bytesAt J (a .0) n ≡ s .row .bytes = ap (take n) (payloads-alike J (oneLog L) f (partsOf n) (a .0)) ∙ sym (found-bytes (oneLog L) kind score a n (c .0)) in
+          rw (sym e ∙ q, s .is-held, z) (ap (λ (y : Bytes). granted (readReply tag y) Greeted L buffer) x)
 
 -- ---- a write
 
 -- what the store did, if it did not refuse
-pub kept : (s : Stored) (tag : ℕ) (score log buffer : Bytes) → OneOf (0 ∷ 1 ∷ []) (variant the-type s) → granted (writeReply tag score) Greeted log buffer ≡ written s tag score log buffer
-kept (New at) tag score log buffer k = refl
-kept (Duplicate at) tag score log buffer k = refl
-kept (StoreRefused w) tag score log buffer (inl e) = absurd (omega arith)
-kept (StoreRefused w) tag score log buffer (inr e) = absurd (omega arith)
+pub kept : (s : Stored) (tag : ℕ) (score : Bytes) (L : Lent) (buffer : Bytes) → OneOf (0 ∷ 1 ∷ []) (variant the-type s) → granted (writeReply tag score) Greeted L buffer ≡ written s tag score L buffer
+kept (New at) tag score L buffer k = refl
+kept (Duplicate at) tag score L buffer k = refl
+kept (StoreRefused w) tag score L buffer (inl e) = absurd (omega arith)
+kept (StoreRefused w) tag score L buffer (inr e) = absurd (omega arith)
 
-module _ (kind tag : ℕ) (d log buffer : Bytes) (b : Bool) (e : b ≡ lawful kind) where
-  pub write-kind : b ≡ false → refused BlockType tag Greeted log buffer ≡ write kind tag d log buffer
+module _ (kind tag : ℕ) (d : Bytes) (L : Lent) (buffer : Bytes) (b : Bool) (e : b ≡ lawful kind) where
+  pub write-kind : b ≡ false → refused BlockType tag Greeted L buffer ≡ write kind tag d L buffer
   unfolding write
   write-kind q = rw (sym e ∙ q)
 
   module _ (q : b ≡ true) where
-    pub write-long : longest < length d → refused DataLength tag Greeted log buffer ≡ write kind tag d log buffer
+    pub write-long : longest < length d → refused DataLength tag Greeted L buffer ≡ write kind tag d L buffer
     unfolding write
     write-long h = rw (sym e ∙ q, lt-ltb longest (length d) h)
 
-    pub write-stored : (r : Receipt) (log′ : Bytes) (o : Outcome) → length d ≤ longest → afterStore r log′ ≡ store log kind d → o ≡ written (r .stored) tag (r .score) log′ buffer → o ≡ write kind tag d log buffer
+    pub write-stored : (r : Receipt) (L′ : Lent) (o : Outcome) → length d ≤ longest → afterStore r L′ ≡ store L kind d → o ≡ written (r .stored) tag (r .score) L′ buffer → o ≡ write kind tag d L buffer
     unfolding write
-    write-stored r log′ o h s p =
+    write-stored r L′ o h s p =
         rw (sym e ∙ q, le-ltb longest (length d) h)
-        (p ∙ ap (λ (a : AfterStore). written (a .receipt .stored) tag (a .receipt .score) (a .log) buffer) s)
+        (p ∙ ap (λ (a : AfterStore). written (a .receipt .stored) tag (a .receipt .score) (a .lent) buffer) s)
+
+-- ---- a sync
+
+module _ (tag : ℕ) (L L′ : Lent) (buffer : Bytes) (b : Bool) (e : b ≡ canSettle L) (p : L′ ≡ cond (canSettle L) (settled L) L) where
+  pub sync-refused : b ≡ false → refused NoRoom tag Greeted L′ buffer ≡ sync tag L buffer
+  unfolding sync
+  sync-refused q =
+      let z : canSettle L ≡ false = sym e ∙ q in
+      let y : L′ ≡ L = p ∙ ap (λ (x : Bool). cond x (settled L) L) z in
+      rw z (ap (λ (x : Lent). refused NoRoom tag Greeted x buffer) y)
+
+  pub sync-moved : b ≡ true → granted (syncReply tag) Greeted L′ buffer ≡ sync tag L buffer
+  unfolding sync
+  sync-moved q =
+      let z : canSettle L ≡ true = sym e ∙ q in
+      let y : L′ ≡ settled L = p ∙ ap (λ (x : Bool). cond x (settled L) L) z in
+      rw z (ap (λ (x : Lent). granted (syncReply tag) Greeted x buffer) y)
 
 -- ---- tests 1 to 4
 
-module _ (s : Session) (m log buffer : Bytes) (b : Bool) (e : b ≡ framed m) where
-  pub step-frame : b ≡ false → silent Frame s log buffer ≡ step s m log buffer
+module _ (s : Session) (m : Bytes) (L : Lent) (buffer : Bytes) (b : Bool) (e : b ≡ framed m) where
+  pub step-frame : b ≡ false → silent Frame s L buffer ≡ step s m L buffer
   unfolding step
   step-frame q = rw (sym e ∙ q)
 
   module _ (q : b ≡ true) where
-    pub step-buffer : length buffer < replyRoom → silent Buffer s log buffer ≡ step s m log buffer
+    pub step-buffer : length buffer < replyRoom → silent Buffer s L buffer ≡ step s m L buffer
     unfolding step
     step-buffer h = rw (sym e ∙ q, lt-ltb (length buffer) replyRoom h)
 
-    module _ (h : replyRoom ≤ length buffer) (a : Bool) (g : a ≡ logAllowed (length log)) where
-      pub step-log : a ≡ false → silent LogLength s log buffer ≡ step s m log buffer
+    module _ (h : replyRoom ≤ length buffer) (a : Bool) (g : a ≡ allowed L) where
+      pub step-log : a ≡ false → silent LogLength s L buffer ≡ step s m L buffer
       unfolding step
       step-log p = rw (sym e ∙ q, le-ltb (length buffer) replyRoom h, sym g ∙ p)
 
-      pub step-in : a ≡ true → (t : Session) (o : Outcome) → s ≡ t → o ≡ inSession t m log buffer → o ≡ step s m log buffer
+      pub step-in : a ≡ true → (t : Session) (o : Outcome) → s ≡ t → o ≡ inSession t m L buffer → o ≡ step s m L buffer
       unfolding step
-      step-in p t o d z = rw (sym e ∙ q, le-ltb (length buffer) replyRoom h, sym g ∙ p) (z ∙ ap (λ (x : Session). inSession x m log buffer) (sym d))
+      step-in p t o d z = rw (sym e ∙ q, le-ltb (length buffer) replyRoom h, sym g ∙ p) (z ∙ ap (λ (x : Session). inSession x m L buffer) (sym d))
 
 -- ---- by what a message asks and its fields, as they were taken from it
 
-module _ (m log buffer : Bytes) (q p : Request) (tag : ℕ) (o : Outcome) (e : q ≡ requestOf m) (d : q ≡ p) (t : tag ≡ tagOf m) where
-  pub fresh-as : o ≡ fresh p tag m log buffer → o ≡ fresh (requestOf m) (tagOf m) m log buffer
-  fresh-as h = h ∙ ap₂ (λ (x : Request) (y : ℕ). fresh x y m log buffer) (sym d ∙ e) t
+module _ (m : Bytes) (L : Lent) (buffer : Bytes) (q p : Request) (tag : ℕ) (o : Outcome) (e : q ≡ requestOf m) (d : q ≡ p) (t : tag ≡ tagOf m) where
+  pub fresh-as : o ≡ fresh p tag m L buffer → o ≡ fresh (requestOf m) (tagOf m) m L buffer
+  fresh-as h = h ∙ ap₂ (λ (x : Request) (y : ℕ). fresh x y m L buffer) (sym d ∙ e) t
 
-  pub greeted-as : o ≡ greeted p tag m log buffer → o ≡ greeted (requestOf m) (tagOf m) m log buffer
-  greeted-as h = h ∙ ap₂ (λ (x : Request) (y : ℕ). greeted x y m log buffer) (sym d ∙ e) t
+  pub greeted-as : o ≡ greeted p tag m L buffer → o ≡ greeted (requestOf m) (tagOf m) m L buffer
+  greeted-as h = h ∙ ap₂ (λ (x : Request) (y : ℕ). greeted x y m L buffer) (sym d ∙ e) t
 
-module _ (m log buffer : Bytes) (tag : ℕ) (o : Outcome) (t : tag ≡ tagOf m) where
-  pub hello-as : o ≡ fresh Hello tag m log buffer → o ≡ fresh Hello (tagOf m) m log buffer
-  hello-as h = h ∙ ap (λ (x : ℕ). fresh Hello x m log buffer) t
+module _ (m : Bytes) (L : Lent) (buffer : Bytes) (tag : ℕ) (o : Outcome) (t : tag ≡ tagOf m) where
+  pub hello-as : o ≡ fresh Hello tag m L buffer → o ≡ fresh Hello (tagOf m) m L buffer
+  hello-as h = h ∙ ap (λ (x : ℕ). fresh Hello x m L buffer) t
 
-  pub read-as : (kind count : ℕ) (score : Bytes) → score ≡ scoreOf m → o ≡ read kind count tag score log buffer → o ≡ read kind count (tagOf m) (scoreOf m) log buffer
-  read-as kind count score s h = h ∙ ap₂ (λ (x : ℕ) (y : Bytes). read kind count x y log buffer) t s
+  pub read-as : (kind count : ℕ) (score : Bytes) → score ≡ scoreOf m → o ≡ read kind count tag score L buffer → o ≡ read kind count (tagOf m) (scoreOf m) L buffer
+  read-as kind count score s h = h ∙ ap₂ (λ (x : ℕ) (y : Bytes). read kind count x y L buffer) t s
 
-  pub write-as : (kind : ℕ) (d : Bytes) → d ≡ dataOf m → o ≡ write kind tag d log buffer → o ≡ write kind (tagOf m) (dataOf m) log buffer
-  write-as kind d s h = h ∙ ap₂ (λ (x : ℕ) (y : Bytes). write kind x y log buffer) t s
+  pub write-as : (kind : ℕ) (d : Bytes) → d ≡ dataOf m → o ≡ write kind tag d L buffer → o ≡ write kind (tagOf m) (dataOf m) L buffer
+  write-as kind d s h = h ∙ ap₂ (λ (x : ℕ) (y : Bytes). write kind x y L buffer) t s

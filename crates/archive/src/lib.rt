@@ -1,49 +1,36 @@
-// One request: a session, a message, the lent log and the lent reply buffer. Any bytes are answered.
+// One request: a session, a message, the lent log with its waiting part, and the lent reply buffer. Any bytes are answered.
 use kind::LONGEST;
 use log::Look;
 use log::Receipt;
 use log::Stored;
 use message::Request;
 use refusal::Refusal;
-use sector::SECTOR;
+use request::Answer;
+use request::Session;
 use sector_number::SectorNumber;
 ghost use mathlib.Core.Path.{_≡_};
-ghost use mathlib.Core.Bool.{true};
 ghost use mathlib.Core.List.{[]};
 ghost use Prim.Native.Nat.{_+_, _≤_};
 ghost use lib.ListN.{length};
 ghost use Rattle.buffer.specs.Bytes.{Bytes};
 ghost use Rattle.kind.specs.Kind.{longest};
-ghost use Rattle.log.specs.LookUp.{logAllowed};
+ghost use Rattle.log.specs.Parts.{beside};
 ghost use Rattle.block.specs.Block.{partsOf};
-ghost use Rattle.block.specs.Log.{sectors};
+ghost use Rattle.block.specs.Log.{sectors, joined};
 ghost use Rattle.reader.specs.Reader.{bytesAt};
 ghost use Rattle.message.specs.Message.{tagOf, scoreOf, dataOf, requestOf};
 ghost use Rattle.message.specs.Reply.{readReply};
 ghost use Rattle.message.specs.Reply.{reply as replyOf};
 ghost use Rattle.message.specs.declared.Request.the-variants.{Hello, Read, Write};
-ghost use Rattle.archive.specs.declared.Session.the-variants.{Greeted, Closed as Shut};
-ghost use Rattle.archive.specs.Step.{replyRoom, whole, silent, refused, granted, read, written, write, fresh, greeted, step};
+ghost use Rattle.request.specs.declared.Session.the-variants.{Greeted, Closed as Shut};
+ghost use Rattle.request.specs.Step.{replyRoom, outcomeOf, silent, refused, granted, read, written, write, sync, fresh, greeted, step};
 
 // The least length of a reply buffer.
 pub const REPLY_ROOM: usize = 57348;
 
-// A session: open with no hello yet, greeted, or closed.
-pub enum Session {
-    Fresh,
-    Greeted,
-    Closed,
-}
-
-// The number of the refusal, 0 for none, and the session afterwards.
-pub struct Answer {
-    pub number: u8,
-    pub session: Session,
-}
-
 // A refusal without a reply.
 fn refuse_silently(why: Refusal, session: Session) -> Answer
-    ensures { λ r. ⌜ ((log buffer : Bytes) → whole r log buffer ≡ silent why session log buffer) ⌝ }
+    ensures { λ r. ⌜ ((log waiting buffer : Bytes) → outcomeOf r log waiting buffer ≡ silent why session (beside log waiting) buffer) ⌝ }
 {
     Answer {
         number: refusal::number(why),
@@ -54,7 +41,7 @@ fn refuse_silently(why: Refusal, session: Session) -> Answer
 // A refusal with its error reply.
 fn refuse(why: Refusal, tag: u8, session: Session, reply: &mut [u8]) -> Answer
     requires { ⌜ replyRoom ≤ length (now reply) ⌝ }
-    ensures { λ r. ⌜ ((log : Bytes) → whole r log (now (reply .exit)) ≡ refused why tag session log (now (reply .entry))) ⌝ }
+    ensures { λ r. ⌜ ((log waiting : Bytes) → outcomeOf r log waiting (now (reply .exit)) ≡ refused why tag session (beside log waiting) (now (reply .entry))) ⌝ }
 {
     message::write_error(reply, tag, why);
     Answer {
@@ -66,7 +53,7 @@ fn refuse(why: Refusal, tag: u8, session: Session, reply: &mut [u8]) -> Answer
 // A reply that has no body, in a greeted session.
 fn acknowledge(kind: u8, tag: u8, reply: &mut [u8]) -> Answer
     requires { ⌜ replyRoom ≤ length (now reply) ⌝ }
-    ensures { λ r. ⌜ ((log : Bytes) → whole r log (now (reply .exit)) ≡ granted (replyOf kind tag []) Greeted log (now (reply .entry))) ⌝ }
+    ensures { λ r. ⌜ ((log waiting : Bytes) → outcomeOf r log waiting (now (reply .exit)) ≡ granted (replyOf kind tag []) Greeted (beside log waiting) (now (reply .entry))) ⌝ }
 {
     message::write_head(reply, kind, tag, 0);
     Answer {
@@ -77,7 +64,7 @@ fn acknowledge(kind: u8, tag: u8, reply: &mut [u8]) -> Answer
 
 // A goodbye: no reply, and the session is closed.
 fn close() -> Answer
-    ensures { λ r. ⌜ ((log buffer : Bytes) → whole r log buffer ≡ record { number = 0; session = Shut; log = log; reply = buffer }) ⌝ }
+    ensures { λ r. ⌜ ((log waiting buffer : Bytes) → outcomeOf r log waiting buffer ≡ record { number = 0; session = Shut; lent = beside log waiting; reply = buffer }) ⌝ }
 {
     Answer {
         number: 0,
@@ -88,7 +75,7 @@ fn close() -> Answer
 // A hello in a fresh session.
 fn greet(message: &[u8], reply: &mut [u8]) -> Answer
     requires { ⌜ (4 ≤ length (now message)) × (replyRoom ≤ length (now reply)) ⌝ }
-    ensures { λ r. ⌜ ((log : Bytes) → whole r log (now (reply .exit)) ≡ fresh Hello (tagOf (now (message .entry))) (now (message .entry)) log (now (reply .entry))) ⌝ }
+    ensures { λ r. ⌜ ((log waiting : Bytes) → outcomeOf r log waiting (now (reply .exit)) ≡ fresh Hello (tagOf (now (message .entry))) (now (message .entry)) (beside log waiting) (now (reply .entry))) ⌝ }
 {
     let tag = message::tag_of(message);
     if !message::is_version(message) {
@@ -104,7 +91,7 @@ fn greet(message: &[u8], reply: &mut [u8]) -> Answer
 // A request in a fresh session.
 fn serve_fresh(message: &[u8], reply: &mut [u8]) -> Answer
     requires { ⌜ (4 ≤ length (now message)) × (replyRoom ≤ length (now reply)) ⌝ }
-    ensures { λ r. ⌜ ((log : Bytes) → whole r log (now (reply .exit)) ≡ fresh (requestOf (now (message .entry))) (tagOf (now (message .entry))) (now (message .entry)) log (now (reply .entry))) ⌝ }
+    ensures { λ r. ⌜ ((log waiting : Bytes) → outcomeOf r log waiting (now (reply .exit)) ≡ fresh (requestOf (now (message .entry))) (tagOf (now (message .entry))) (now (message .entry)) (beside log waiting) (now (reply .entry))) ⌝ }
 {
     let tag = message::tag_of(message);
     let request = message::parse(message);
@@ -121,14 +108,20 @@ fn serve_fresh(message: &[u8], reply: &mut [u8]) -> Answer
 }
 
 // The reply to a read of the block at a place.
-fn answer_read(log: &[u8], first: SectorNumber, size: usize, tag: u8, reply: &mut [u8]) -> Answer
-    requires { ⌜ (first .0 + partsOf size ≤ sectors (length (now log))) × (size ≤ longest) × (replyRoom ≤ length (now reply)) ⌝ }
-    ensures { λ r. ⌜ whole r (now (log .entry)) (now (reply .exit)) ≡ granted (readReply tag (bytesAt (now (log .entry)) (first .0) size)) Greeted (now (log .entry)) (now (reply .entry)) ⌝ }
+fn answer_read<'a>(
+    log: &'a [u8],
+    end: SectorNumber,
+    waiting: &'a [u8],
+    first: SectorNumber,
+    size: usize,
+    tag: u8,
+    reply: &mut [u8],
+) -> Answer
+    requires { ⌜ (end .0 ≤ sectors (length (now log))) × (first .0 + partsOf size ≤ end .0 + sectors (length (now waiting))) × (size ≤ longest) × (replyRoom ≤ length (now reply)) ⌝ }
+    ensures { λ r. ⌜ outcomeOf r (now (log .entry)) (now (waiting .entry)) (now (reply .exit)) ≡ granted (readReply tag (bytesAt (joined (end .0) (now (log .entry)) (now (waiting .entry))) (first .0) size)) Greeted (beside (now (log .entry)) (now (waiting .entry))) (now (reply .entry)) ⌝ }
 {
     message::write_head(reply, message::READ_REPLY, tag, size);
-    let none = [0u8; 0];
-    let end = SectorNumber(log.len() / SECTOR);
-    reader::copy_out(log, end, &none, first, size, &mut reply[message::HEAD..]);
+    reader::copy_out(log, end, waiting, first, size, &mut reply[message::HEAD..]);
     Answer {
         number: 0,
         session: Session::Greeted,
@@ -136,18 +129,25 @@ fn answer_read(log: &[u8], first: SectorNumber, size: usize, tag: u8, reply: &mu
 }
 
 // A read: test 9, the look-up, test 13.
-fn serve_read(message: &[u8], log: &[u8], reply: &mut [u8], kind: u8, count: usize) -> Answer
-    requires { ⌜ (requestOf (now message) ≡ Read kind count) × (logAllowed (length (now log)) ≡ true) × (replyRoom ≤ length (now reply)) ⌝ }
-    ensures { λ r. ⌜ whole r (now (log .entry)) (now (reply .exit)) ≡ read kind count (tagOf (now (message .entry))) (scoreOf (now (message .entry))) (now (log .entry)) (now (reply .entry)) ⌝ }
+fn serve_read<'a>(
+    message: &[u8],
+    log: &'a [u8],
+    waiting: &'a [u8],
+    reply: &mut [u8],
+    kind: u8,
+    count: usize,
+) -> Answer
+    requires { ⌜ (requestOf (now message) ≡ Read kind count) × (replyRoom ≤ length (now reply)) ⌝ }
+    ensures { λ r. ⌜ outcomeOf r (now (log .entry)) (now (waiting .entry)) (now (reply .exit)) ≡ read kind count (tagOf (now (message .entry))) (scoreOf (now (message .entry))) (beside (now (log .entry)) (now (waiting .entry))) (now (reply .entry)) ⌝ }
 {
     let tag = message::tag_of(message);
     if !kind::is_lawful(kind) {
         return refuse(Refusal::BlockType, tag, Session::Greeted, reply);
     }
-    let none = [0u8; 0];
-    let look = lookup::fetch(log, &none, kind, message::score_of(message), count);
+    let end = lookup::border(log, waiting);
+    let look = lookup::fetch(log, end, waiting, kind, message::score_of(message), count);
     match look {
-        Look::Found { first, size } => answer_read(log, first, size, tag, reply),
+        Look::Found { first, size } => answer_read(log, end, waiting, first, size, tag, reply),
         Look::Refused(why) => refuse(why, tag, Session::Greeted, reply),
     }
 }
@@ -155,7 +155,7 @@ fn serve_read(message: &[u8], log: &[u8], reply: &mut [u8], kind: u8, count: usi
 // The reply to a write, by what the store did.
 fn answer_store(receipt: Receipt, tag: u8, reply: &mut [u8]) -> Answer
     requires { ⌜ replyRoom ≤ length (now reply) ⌝ }
-    ensures { λ r. ⌜ ((log : Bytes) → whole r log (now (reply .exit)) ≡ written (receipt .stored) tag (receipt .score) log (now (reply .entry))) ⌝ }
+    ensures { λ r. ⌜ ((log waiting : Bytes) → outcomeOf r log waiting (now (reply .exit)) ≡ written (receipt .stored) tag (receipt .score) (beside log waiting) (now (reply .entry))) ⌝ }
 {
     let score = receipt.score;
     let stored = receipt.stored;
@@ -170,9 +170,9 @@ fn answer_store(receipt: Receipt, tag: u8, reply: &mut [u8]) -> Answer
 }
 
 // A write: tests 9 and 10, then the store.
-fn serve_write(message: &[u8], log: &mut [u8], reply: &mut [u8], kind: u8) -> Answer
-    requires { ⌜ (requestOf (now message) ≡ Write kind) × (logAllowed (length (now log)) ≡ true) × (replyRoom ≤ length (now reply)) ⌝ }
-    ensures { λ r. ⌜ whole r (now (log .exit)) (now (reply .exit)) ≡ write kind (tagOf (now (message .entry))) (dataOf (now (message .entry))) (now (log .entry)) (now (reply .entry)) ⌝ }
+fn serve_write(message: &[u8], log: &[u8], waiting: &mut [u8], reply: &mut [u8], kind: u8) -> Answer
+    requires { ⌜ (requestOf (now message) ≡ Write kind) × (replyRoom ≤ length (now reply)) ⌝ }
+    ensures { λ r. ⌜ outcomeOf r (now (log .entry)) (now (waiting .exit)) (now (reply .exit)) ≡ write kind (tagOf (now (message .entry))) (dataOf (now (message .entry))) (beside (now (log .entry)) (now (waiting .entry))) (now (reply .entry)) ⌝ }
 {
     let tag = message::tag_of(message);
     if !kind::is_lawful(kind) {
@@ -182,14 +182,25 @@ fn serve_write(message: &[u8], log: &mut [u8], reply: &mut [u8], kind: u8) -> An
     if LONGEST < data.len() {
         return refuse(Refusal::DataLength, tag, Session::Greeted, reply);
     }
-    let receipt = store::store(log, kind, data);
+    let receipt = store::store(log, waiting, kind, data);
     answer_store(receipt, tag, reply)
 }
 
+// A sync: what waits is moved into the log before the reply, or nothing is and the refusal is 14.
+fn serve_sync(log: &mut [u8], waiting: &mut [u8], tag: u8, reply: &mut [u8]) -> Answer
+    requires { ⌜ replyRoom ≤ length (now reply) ⌝ }
+    ensures { λ r. ⌜ outcomeOf r (now (log .exit)) (now (waiting .exit)) (now (reply .exit)) ≡ sync tag (beside (now (log .entry)) (now (waiting .entry))) (now (reply .entry)) ⌝ }
+{
+    if !store::settle(log, waiting) {
+        return refuse(Refusal::NoRoom, tag, Session::Greeted, reply);
+    }
+    acknowledge(message::SYNC_REPLY, tag, reply)
+}
+
 // A request in a greeted session.
-fn serve_greeted(message: &[u8], log: &mut [u8], reply: &mut [u8]) -> Answer
-    requires { ⌜ (4 ≤ length (now message)) × (logAllowed (length (now log)) ≡ true) × (replyRoom ≤ length (now reply)) ⌝ }
-    ensures { λ r. ⌜ whole r (now (log .exit)) (now (reply .exit)) ≡ greeted (requestOf (now (message .entry))) (tagOf (now (message .entry))) (now (message .entry)) (now (log .entry)) (now (reply .entry)) ⌝ }
+fn serve_greeted(message: &[u8], log: &mut [u8], waiting: &mut [u8], reply: &mut [u8]) -> Answer
+    requires { ⌜ (4 ≤ length (now message)) × (replyRoom ≤ length (now reply)) ⌝ }
+    ensures { λ r. ⌜ outcomeOf r (now (log .exit)) (now (waiting .exit)) (now (reply .exit)) ≡ greeted (requestOf (now (message .entry))) (tagOf (now (message .entry))) (now (message .entry)) (beside (now (log .entry)) (now (waiting .entry))) (now (reply .entry)) ⌝ }
 {
     let tag = message::tag_of(message);
     let request = message::parse(message);
@@ -199,15 +210,21 @@ fn serve_greeted(message: &[u8], log: &mut [u8], reply: &mut [u8]) -> Answer
         Request::Goodbye => close(),
         Request::Hello => refuse(Refusal::Hello, tag, Session::Greeted, reply),
         Request::Ping => acknowledge(message::PING_REPLY, tag, reply),
-        Request::Sync => acknowledge(message::SYNC_REPLY, tag, reply),
-        Request::Read { kind, count } => serve_read(message, log, reply, kind, count),
-        Request::Write { kind } => serve_write(message, log, reply, kind),
+        Request::Sync => serve_sync(log, waiting, tag, reply),
+        Request::Read { kind, count } => serve_read(message, log, waiting, reply, kind, count),
+        Request::Write { kind } => serve_write(message, log, waiting, reply, kind),
     }
 }
 
 // Answers a request: tests 1 to 4, then what the session allows.
-pub fn serve(session: Session, message: &[u8], log: &mut [u8], reply: &mut [u8]) -> Answer
-    ensures { λ r. ⌜ whole r (now (log .exit)) (now (reply .exit)) ≡ step session (now (message .entry)) (now (log .entry)) (now (reply .entry)) ⌝ }
+pub fn serve(
+    session: Session,
+    message: &[u8],
+    log: &mut [u8],
+    waiting: &mut [u8],
+    reply: &mut [u8],
+) -> Answer
+    ensures { λ r. ⌜ outcomeOf r (now (log .exit)) (now (waiting .exit)) (now (reply .exit)) ≡ step session (now (message .entry)) (beside (now (log .entry)) (now (waiting .entry))) (now (reply .entry)) ⌝ }
 {
     if !message::is_framed(message) {
         return refuse_silently(Refusal::Frame, session);
@@ -215,12 +232,12 @@ pub fn serve(session: Session, message: &[u8], log: &mut [u8], reply: &mut [u8])
     if reply.len() < REPLY_ROOM {
         return refuse_silently(Refusal::Buffer, session);
     }
-    if !lookup::is_allowed(log.len()) {
+    if !lookup::are_allowed(log.len(), waiting.len()) {
         return refuse_silently(Refusal::LogLength, session);
     }
     match session {
         Session::Closed => refuse_silently(Refusal::Closed, session),
         Session::Fresh => serve_fresh(message, reply),
-        Session::Greeted => serve_greeted(message, log, reply),
+        Session::Greeted => serve_greeted(message, log, waiting, reply),
     }
 }

@@ -1,13 +1,15 @@
 // The functions that other languages call: numbers and bytes only, and none with a `requires`.
 // A slice is a pointer and a length, an array a pointer. `host/include/skywimple.h` declares them for C.
 pub mod blocks;
+pub mod cards;
 pub mod survey;
 pub mod tree;
 
-use archive::Session;
+use request::Session;
 ghost use mathlib.Core.Path.{_≡_};
 ghost use Rattle.crc32_rule.specs.Crc32.{crc32Of};
-ghost use Rattle.archive.specs.Step.{step};
+ghost use Rattle.log.specs.Parts.{beside};
+ghost use Rattle.request.specs.Step.{step};
 ghost use Rattle.boundary.specs.Digest.{digestNumber, digestBuffer};
 ghost use Rattle.results.specs.Serve.{sessionOf, sessionNumber, served, servedOf};
 
@@ -56,17 +58,18 @@ fn session_number(s: Session) -> u32
     }
 }
 
-// One request. The result is the number of the refusal, 0 for none, and 256 times the session afterwards.
+// One request, with the log and its waiting part. The result is the number of the refusal, 0 for none, and 256 times the session afterwards.
 #[no_mangle]
 pub extern "C" fn skywimple_serve(
     session: u8,
     message: &[u8],
     log: &mut [u8],
+    waiting: &mut [u8],
     reply: &mut [u8],
 ) -> u32
-    ensures { λ r. ⌜ served r (now (log .exit)) (now (reply .exit)) ≡ servedOf (step (sessionOf session) (now (message .entry)) (now (log .entry)) (now (reply .entry))) ⌝ }
+    ensures { λ r. ⌜ served r (now (log .exit)) (now (waiting .exit)) (now (reply .exit)) ≡ servedOf (step (sessionOf session) (now (message .entry)) (beside (now (log .entry)) (now (waiting .entry))) (now (reply .entry))) ⌝ }
 {
-    let answer = archive::serve(session_of(session), message, log, reply);
+    let answer = archive::serve(session_of(session), message, log, waiting, reply);
     let after = answer.session;
     (answer.number as u32) + 256 * session_number(after)
 }

@@ -1,7 +1,8 @@
 -- A history of demand 3 as events: requests, one damage, requests.
-use mathlib.Core.Path.{_≡_, refl, sym, ap, subst, _∙_}
+use mathlib.Core.Path.{_≡_, sym, ap, subst, _∙_}
 use mathlib.Core.List.{List, _∷_, _++_, map}
 use Rattle.block.specs.Log.{at}
+use Rattle.log.specs.Parts.{oneLog}
 use Rattle.ledger.specs.Trace.{trace, Along}
 use Rattle.ledger.specs.History.{Standing, Books, blank-log, blank-books, harmed, harmed-books, first-log, first-books}
 use Rattle.ledger.specs.Events.{Event, ask, harm, happen, recountEvent, Possible}
@@ -21,8 +22,8 @@ module _ (h : History) where
 
   may : Possible archive (first-books archive (h .size) (h .before)) (harm (h .changed) (h .hurt))
   may =
-      let clean = at (first-log archive (h .size) (h .before) .log) in (
-        none-waits-first archive lawful (h .size) (h .before) (h .before-of-bytes) refl,
+      let clean = at (oneLog (first-log archive (h .size) (h .before) .log)) in (
+        none-waits-first archive lawful (h .size) (h .before) (h .before-of-bytes) (h .rests),
         zeroing-first archive lawful (h .size) (h .before) (h .before-of-bytes) (h .changed) (h .hurt) (damage-zeroing archive lawful clean (h .size) (h .changed) (h .hurt) (h .damage)),
       )
 

@@ -13,6 +13,7 @@ use Rattle.sector.specs.Sector.{blank}
 use Rattle.block.specs.Block.{Row}
 use Rattle.block.specs.Log.{at}
 use Rattle.block.proofs.At.{blank-is}
+use Rattle.log.specs.Parts.{oneLog}
 use Rattle.ledger.specs.Ledger.{Ledger, has, covers, hit, intactOf, intact, end}
 use Rattle.ledger.specs.Reflects.{cell}
 use Rattle.ledger.proofs.Intact.{intact-in}
@@ -111,7 +112,7 @@ doubt-is-there h u =
     Lost = (r : Row) × List·Memᴰ r (L .rows) × (hit archive (L .changed) r ≡ true) × (covers archive r n ≡ true)
 
     Bare : Type 0
-    Bare = (coveredBy (L .rows) n ≡ false) × ((has n (L .changed) ≡ true) ⊎ (zeros (at (logOf h) n) ≡ true))
+    Bare = (coveredBy (L .rows) n ≡ false) × ((has n (L .changed) ≡ true) ⊎ (zeros (at (oneLog (logOf h)) n) ≡ true))
 
     lost : (r : Row) → List·Memᴰ r (L .rows) → covers archive r n ≡ true → coveredBy rows n ≡ false → (b : Bool) → hit archive (L .changed) r ≡ b → Lost
     lost r m c e true q = (r, m, q, c)

@@ -1,12 +1,17 @@
 -- Whatever happens to a log: what it means at each moment. Each claim of specs/Events.antt but those that say what may happen.
-use mathlib.Core.Path.{_≡_, sym, ap, _∙_}
+use mathlib.Core.Path.{_≡_, refl, sym, ap, _∙_}
 use mathlib.Core.List.{List·Memᴰ}
-use mathlib.Core.Option.{none, some}
-use Prim.Native.Nat.{ℕ, _≤_}
+use mathlib.Core.Option.{Option, none, some}
+use Prim.Native.Nat.{ℕ, _+_, _-_, _≤_, _<_}
+use native.Mathlib.Omega.{arith}
 use Rattle.buffer.specs.Bytes.{Bytes, zeros}
 use Rattle.sha1.specs.Sha1.{sha1Of}
 use Rattle.block.specs.Block.{Row}
+use Rattle.block.specs.Log.{at, used}
 use Rattle.block.proofs.At.{blank-is}
+use Rattle.block.proofs.Used.{used-le-sectors}
+use Rattle.block.proofs.Joined.{at-log, at-waiting}
+use Rattle.log.specs.Parts.{oneLog}
 use Rattle.ledger.specs.Ledger.{intact, end, told}
 use Rattle.ledger.specs.Reflects.{Reflects}
 use Rattle.ledger.specs.Events.{log-then, books-then}
@@ -16,6 +21,7 @@ use Rattle.ledger.proofs.Steps.{reflects-told}
 use Rattle.ledger.proofs.Reflects.{row-sound}
 use Rattle.ledger.proofs.Lists.{Stands}
 use Rattle.ledger.proofs.Happens.{all-that-happens, stands-then}
+use Rattle.ledger.proofs.Aftermath.{settled-for-good, as-if-never-written}
 use Rattle.ledger.proofs.Theorem.{any-damage, any-zeroing, stop-answers}
 use Rattle.demands.specs.Ledger.{firstRow}
 use Rattle.demands.specs.Instance.{archive}
@@ -129,3 +135,28 @@ twelve-then-tells h = twelve-first (logThen h) (ledgerThen h) (mirrors h)
 
 pub eleven-then-covered : claims.ElevenThenCovered
 eleven-then-covered h = eleven-covered (logThen h) (ledgerThen h) (mirrors h)
+
+pub settled-is-for-good : claims.SettledIsForGood
+settled-is-for-good = settled-for-good archive lawful
+
+pub torn-leaves-no-row : claims.TornLeavesNoRow
+torn-leaves-no-row = as-if-never-written archive lawful
+
+-- a sector of the log alone, and one of the waiting part, in both read as one
+front : (log : Bytes) (o : Option Bytes) (n : ℕ) → n < used log → at log n ≡ at (oneLog (record { log = log; waiting = o })) n
+front log none n h = refl
+front log (some w) n h = sym (at-log (used log) log w (used-le-sectors log) n h)
+
+behind : (log : Bytes) (o : Option Bytes) (w : Bytes) (n : ℕ) → o ≡ some w → at w n ≡ at (oneLog (record { log = log; waiting = o })) (used log + n)
+behind log o w n e =
+    let k : used log + n - used log ≡ n = omega arith in
+    ap (at w) (sym k) ∙ sym (at-waiting (used log) log w (used-le-sectors log) (used log + n) (omega arith))
+    ∙ ap (λ (x : Option Bytes). at (oneLog (record { log = log; waiting = x })) (used log + n)) (sym e)
+
+pub parts-hold : claims.PartsHold
+parts-hold h n =
+    let L = logThen h in
+    let starts = stands h .waiting .starts in (
+      λ before same. front (L .log) (L .waiting) n (omega (arith, starts, before)) ∙ mirrors h .plain n same,
+      λ w e same. behind (L .log) (L .waiting) w n e ∙ ap (λ (k : ℕ). at (oneLog L) (k + n)) starts ∙ mirrors h .plain (ledgerThen h .start + n) same,
+    )

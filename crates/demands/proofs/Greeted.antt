@@ -9,22 +9,23 @@ use Rattle.message.specs.declared.Request.{Request}
 use Rattle.message.specs.declared.Request.the-variants.{Read, Write}
 use Rattle.kind.specs.Kind.{longest}
 use Rattle.log.specs.LookUp as look
+use Rattle.log.specs.Parts.{Lent, oneLog}
 use Rattle.log.specs.Store as stores
-use Rattle.archive.specs.Step as steps
-use Rattle.archive.specs.declared.Session.the-variants.{Greeted}
+use Rattle.request.specs.Step as steps
+use Rattle.request.specs.declared.Session.the-variants.{Greeted}
 use Rattle.demands.specs.Requests.{Asks, Writes, Reads}
 use Rattle.demands.proofs.Seen.{given, kept}
 
-module _ (m buffer log : Bytes) where
-  asked : (q : Request) → Asks m buffer log q → steps.step Greeted m log buffer ≡ steps.greeted q (tagOf m) m log buffer
+module _ (m buffer : Bytes) (L : Lent) where
+  pub asked : (q : Request) → Asks m buffer L q → steps.step Greeted m L buffer ≡ steps.greeted q (tagOf m) m L buffer
   unfolding steps.step steps.inSession
-  asked q A = rw (A .frame, le-ltb (length buffer) steps.replyRoom (A .buffer-room), A .log-length, A .request)
+  asked q A = rw (A .frame, le-ltb (length buffer) steps.replyRoom (A .buffer-room), A .lent-allowed, A .request)
 
-  pub write-step : (t : ℕ) (d : Bytes) → Writes m buffer log t d → steps.step Greeted m log buffer ≡ kept m buffer (stores.store log t d)
+  pub write-step : (t : ℕ) (d : Bytes) → Writes m buffer L t d → steps.step Greeted m L buffer ≡ kept m buffer (stores.store L t d)
   unfolding steps.greeted steps.write
   write-step t d W = asked (Write t) (W .asks) ∙ rw (W .content, W .lawful-type, le-ltb longest (length d) (W .not-long))
 
-  pub read-step : (t count : ℕ) (s : Bytes) → Reads m buffer log t count s
-      → steps.step Greeted m log buffer ≡ given log m buffer count (look.held log t s)
+  pub read-step : (t count : ℕ) (s : Bytes) → Reads m buffer L t count s
+      → steps.step Greeted m L buffer ≡ given L m buffer count (look.held (oneLog L) t s)
   unfolding steps.greeted steps.read
   read-step t count s Q = asked (Read t count) (Q .asks) ∙ rw (Q .score, Q .lawful-type)

@@ -7,7 +7,7 @@ use Rattle.ledger.specs.Reflects.{Reflects, Waits}
 use Rattle.ledger.specs.History.{Books, blank-books, harmed-books, first-books}
 use Rattle.ledger.proofs.Lists.{Stands, changed-after}
 use Rattle.ledger.proofs.After.{extent-first, reflects-clean, stands-hurt, second-list}
-use Rattle.demands.specs.Instance.{archive}
+use Rattle.demands.specs.Instance.{extentOf, archive}
 use Rattle.demands.specs.Histories.{History, cleanLog, atDamage, logOf, ledgerOf, Reflected, Keeps}
 use Rattle.demands.proofs.Laws.{lawful}
 use Rattle.demands.proofs.Lost.{Single, single-after, single-empty}
@@ -40,7 +40,7 @@ module _ (h : History) where
   pub clean-single : Single cleanLedger
   clean-single = single-after (blank-books archive (h .size)) (h .before) (h .before-of-bytes) single-empty
 
-  pub length-clean : length (cleanLog h) ≡ h .size
+  pub length-clean : extentOf (cleanLog h) ≡ h .size
   length-clean = extent-first archive lawful (h .size) (h .before) (h .before-of-bytes)
 
   -- the requests after the damage hide nothing that look-up finds

@@ -1,24 +1,28 @@
--- Damage that there is: a sector of any log with one byte in it, or a log as it was.
+-- Damage that there is: a sector of any log on which nothing waits with one byte in it, or a log as it was.
 use mathlib.Core.Path.{_≡_, refl, sym, ap, _∙_}
 use mathlib.Core.Bool.{Bool, true, false, cond, true≢false, false≢true}
 use mathlib.Core.List.{List, [], _∷_, List·Memᴰ}
 use mathlib.Core.Logic.{_≢_, _⊎_, inl, inr}
 use Prim.Native.Nat.{ℕ, _-_, _<_}
+use native.Mathlib.Omega.{arith}
 use lib.Dec.{eqb}
 use lib.ListN.{length, replicate}
-use borrow.Author.Tests.{eqb-true}
+use borrow.Author.Tests.{eqb-true, eq-eqb}
 use Rattle.buffer.specs.Bytes.{Bytes, zeros}
 use Rattle.sector.specs.Sector.{fits, check, blank}
 use Rattle.block.specs.Block.{Row, valid}
 use Rattle.block.specs.Log.{sectors, at}
 use Rattle.block.proofs.At.{length-blank, blank-is}
 use Rattle.block.proofs.Image.{length-image, image-fits}
+use Rattle.log.specs.Parts.{Lent, oneLog}
 use Rattle.ledger.specs.Ledger.{has}
 use Rattle.ledger.specs.History.{Damage}
 use Rattle.ledger.specs.Reflects.{cell}
 use Rattle.ledger.proofs.Cells.{cell-cases, Held}
-use Rattle.demands.specs.Instance.{archive}
-use Rattle.demands.proofs.Splice.{splice, length-splice, at-splice}
+use Rattle.demands.specs.Ledger.{Extent}
+use Rattle.demands.specs.Instance.{extentOf, archive}
+use Rattle.demands.specs.Histories.{NothingWaits}
+use Rattle.demands.proofs.Splice.{splice, length-splice, withLog, rests-with, extent-with, at-spliced}
 
 -- a blank sector with a byte 1 at its front: it does not fit, and is not blank
 pub marred : Bytes
@@ -51,9 +55,9 @@ not-only n m e = go (eqb m n) refl
     go true q = absurd (true≢false (rw q at e))
     go false q = q
 
--- a log that holds these sectors, in which one is marred, or none
-module _ (clean : ℕ → Bytes) (x : ℕ) (log : Bytes) (size : length log ≡ x) (alike : (k : ℕ) → at log k ≡ clean k) where
-  pub damage-none : Damage archive clean x [] log
+-- a log with nothing waiting that holds these sectors, in which one is marred, or none
+module _ (clean : ℕ → Bytes) (x : Extent) (L : Lent) (size : extentOf L ≡ x) (alike : (k : ℕ) → at (oneLog L) k ≡ clean k) (rests : NothingWaits L) where
+  pub damage-none : Damage archive clean x [] L
   damage-none = record {
     size = size;
     inside = λ k e. absurd (false≢true e);
@@ -61,32 +65,31 @@ module _ (clean : ℕ → Bytes) (x : ℕ) (log : Bytes) (size : length log ≡ 
     differs = λ k e. absurd (false≢true e);
     shows = λ k e. absurd (false≢true e);
     marked = λ k e. absurd (false≢true e);
-    none-waits = refl;
+    none-waits = rests;
   }
 
-  pub damage-one : (n : ℕ) → n < sectors x → clean n ≢ marred → Damage archive clean x (n ∷ []) (splice n marred log)
+  pub damage-one : (n : ℕ) → n < sectors (x .size) → clean n ≢ marred → Damage archive clean x (n ∷ []) (withLog (splice n marred (L .log)) L)
   damage-one n h d = record {
-    size = length-splice n marred log inside length-marred ∙ size;
+    size = extent-with L rests (splice n marred (L .log)) (length-splice n marred (L .log) inside length-marred) ∙ size;
     inside = λ k e. rw (only n k e) h;
     others = λ k e. here k ∙ rw (not-only n k e) (alike k);
     differs = λ k e z. d (ap clean (sym (only n k e)) ∙ sym z ∙ this k e);
     shows = λ k e. inl (ap fits (this k e) ∙ marred-unfit);
     marked = λ k e. ap zeros (this k e) ∙ marred-used;
-    none-waits = refl;
+    none-waits = rests-with L rests (splice n marred (L .log));
   }
     where
-      inside : n < sectors (length log)
-      inside = rw size h
+      inside : n < sectors (length (L .log))
+      inside = omega (arith, h, ap (λ (y : Extent). y .size) size)
 
-      here : (k : ℕ) → at (splice n marred log) k ≡ cond (eqb k n) marred (at log k)
-      here k = at-splice n marred log inside length-marred k
+      hurt : Lent
+      hurt = withLog (splice n marred (L .log)) L
 
-      this : (k : ℕ) → has k (n ∷ []) ≡ true → at (splice n marred log) k ≡ marred
-      this k e = here k ∙ go (eqb k n) refl e
-        where
-          go : (b : Bool) → eqb k n ≡ b → has k (n ∷ []) ≡ true → cond (eqb k n) marred (at log k) ≡ marred
-          go true q z = rw q
-          go false q z = absurd (false≢true (rw q at z))
+      here : (k : ℕ) → at (oneLog hurt) k ≡ cond (eqb k n) marred (at (oneLog L) k)
+      here k = at-spliced L rests n marred inside length-marred k
+
+      this : (k : ℕ) → has k (n ∷ []) ≡ true → at (oneLog hurt) k ≡ marred
+      this k e = here k ∙ rw (eq-eqb k n (only n k e))
 
 -- what rows put in a sector has its length, and is not marred
 module _ (rows : List Row) (ok : (r : Row) → List·Memᴰ r rows → valid r ≡ true) where

@@ -3,10 +3,10 @@ use mathlib.Core.Path.{_≡_, refl, ap, _∙_}
 use mathlib.Core.Bool.{Bool, true, false}
 use mathlib.Core.List.{List, [], _∷_}
 use mathlib.Core.Logic.{_⊎_, inl, inr}
-use mathlib.Core.Option.{none, some}
-use Prim.Native.Nat.{ℕ, _+_}
+use mathlib.Core.Option.{Option, none, some}
+use Prim.Native.Nat.{ℕ}
 use native.Mathlib.Omega.{arith}
-use lib.Dec.{ltb, eqb}
+use lib.Dec.{eqb}
 use lib.ListN.{length}
 use borrow.Author.Tests.{eqb-true, eq-eqb, le-leb}
 use Rattle.ground.proofs.Cases.{cond-ind, on-ind}
@@ -16,10 +16,11 @@ use Rattle.sha1.specs.Sha1.{sha1Of}
 use Rattle.message.specs.Message.{tagOf}
 use Rattle.kind.specs.Kind.{longest, zeroScore}
 use Rattle.block.specs.Block.{Row, partsOf}
-use Rattle.block.specs.Log.{sectors}
-use Rattle.archive.specs.Step.{replyRoom}
-use Rattle.archive.specs.declared.Session.{Session}
-use Rattle.archive.specs.declared.Session.the-variants.{Greeted}
+use Rattle.log.specs.Parts.{Lent}
+use Rattle.request.specs.Step as steps
+use Rattle.request.specs.Step.{replyRoom}
+use Rattle.request.specs.declared.Session.{Session}
+use Rattle.request.specs.declared.Session.the-variants.{Greeted}
 use Rattle.ledger.specs.Archive.{Effect, stays, adds, settles, Ruling}
 use Rattle.ledger.specs.Ledger.{Ledger, has, covers, hit, intactOf, intact, enter, end, note, next}
 use Rattle.ledger.specs.Trace.{trace}
@@ -27,8 +28,8 @@ use Rattle.ledger.specs.History.{Item, AllOfBytes, Books, ruling, recount}
 use Rattle.ledger.proofs.Trace.{trace-keeps}
 use Rattle.ledger.proofs.Covers.{covers-reads, hit-not}
 use Rattle.ledger.proofs.Ends.{end-changed}
-use Rattle.demands.specs.Ledger.{Answer, Decision, rulingOf, firstRow, writeRow, decision, tell}
-use Rattle.demands.specs.Instance.{archive}
+use Rattle.demands.specs.Ledger.{Answer, Extent, allowed, roomFrom, Decision, rulingOf, firstRow, writeRow, decision, tell}
+use Rattle.demands.specs.Instance.{extentOf, archive}
 use Rattle.demands.specs.Requests.{Writes}
 use Rattle.demands.proofs.First.{first-front, first-behind, intact-append}
 use Rattle.demands.proofs.TellAdds.{rowOf}
@@ -41,6 +42,14 @@ hit-end L r e = hit-not archive (L .changed) r (λ n c. go n c (has n (L .change
     go n c true q = let p = covers-reads archive r n c in absurd (omega (arith, end-changed archive (L .changed) n q))
     go n c false q = q
 
+-- whether a waiting part is lent
+abbrev waiting : Extent → Bool
+waiting = archive .waits
+
+pub same-allowed : (log : Bytes) (o : Option Bytes) → let L : Lent = record { log = log; waiting = o } in steps.allowed L ≡ true → allowed (extentOf L) ≡ true
+same-allowed log none q = q
+same-allowed log (some w) q = q
+
 module _ (t : ℕ) (d : Bytes) where
   -- the ledger has this data under this type: it is empty, or the first intact row of the type and score has it
   abbrev pub Known : Ledger archive → Type 0
@@ -50,19 +59,19 @@ module _ (t : ℕ) (d : Bytes) where
   known-enter L r (inl e) = inl e
   known-enter L r (inr k) = inr (k .0, rw (intact-append (L .changed) (L .rows) (r ∷ [])) (first-front t (sha1Of d) (intact archive L) (intactOf archive (L .changed) (r ∷ [])) (k .0) (k .1)), k .2)
 
-  known-next : (size : ℕ) (L : Ledger archive) (o : Ruling Answer Session Row) → Known L → Known (next archive size L o)
-  known-next size L o k = go (o .effect)
+  known-next : (x : Extent) (L : Ledger archive) (o : Ruling Answer Session Row) → Known L → Known (next archive x L o)
+  known-next x L o k = go (o .effect)
     where
-      go : (a : Effect Row) → Known (note archive size a L)
+      go : (a : Effect Row) → Known (note archive x a L)
       go stays = k
-      go (adds r) = known-enter L r k
+      go (adds r) = cond-ind Known (waiting x) _ _ (λ _. known-enter L r k) (λ _. known-enter L r k)
       go settles = k
 
   -- requests leave it so
   pub known-after : (b : Books archive) (qs : List (Item archive)) → AllOfBytes archive qs → Known (b .ledger) → Known (trace (recount archive) b qs .left .ledger)
   known-after =
       trace-keeps (recount archive) (λ b. Known (b .ledger)) (λ q. archive .OfBytes (q .request))
-      (λ b q _. known-next (length (b .begin)) (b .ledger) (ruling archive b q))
+      (λ b q _. known-next (extentOf (b .begin)) (b .ledger) (ruling archive b q))
 
   known-new : (L : Ledger archive) → firstRow t (sha1Of d) (intact archive L) ≡ none → Known (enter archive (rowOf t d (end archive L)) L)
   unfolding firstRow
@@ -72,30 +81,30 @@ module _ (t : ℕ) (d : Bytes) where
       inr (r, ap (firstRow t (sha1Of d)) (intact-append (L .changed) (L .rows) (r ∷ [])) ∙ first-behind t (sha1Of d) (intact archive L) (intactOf archive (L .changed) (r ∷ [])) e ∙ found, refl)
 
   -- a write that is answered leaves it so
-  module _ (L : Ledger archive) (size : ℕ) (m buffer : Bytes) where
+  module _ (L : Ledger archive) (x : Extent) (m buffer : Bytes) where
     -- if a decision is answered, the ledger has the data afterwards
     abbrev Kept : Decision → Type 0
-    Kept w = (rulingOf Greeted m buffer w) .answer .number ≡ 0 → Known (next archive size L (rulingOf Greeted m buffer w))
+    Kept w = (rulingOf Greeted m buffer w) .answer .number ≡ 0 → Known (next archive x L (rulingOf Greeted m buffer w))
 
-    write-kept : Kept (writeRow (intact archive L) (end archive L) size t d (tagOf m))
+    write-kept : Kept (writeRow (intact archive L) (end archive L) (L .start) x t d (tagOf m))
     write-kept =
         cond-ind Kept (eqb (length d) 0) _ _ (λ q _. inl (none-of d (eqb-true (length d) 0 q))) (λ _.
         on-ind Kept (firstRow t (sha1Of d) (intact archive L)) _ _
         (λ e. cond-ind Kept (same (sha1Of d) zeroScore) _ _ (λ _ n. absurd (omega arith)) (λ _.
-        cond-ind Kept (ltb (sectors size) (end archive L + partsOf (length d))) _ _ (λ _ n. absurd (omega arith)) (λ _ n. known-new L e)))
+        cond-ind Kept (roomFrom x (L .start) (end archive L) (partsOf (length d))) _ _ (λ _ n. cond-ind Known (waiting x) _ _ (λ _. known-new L e) (λ _. known-new L e)) (λ _ n. absurd (omega arith))))
         (λ r e. cond-ind Kept (same (r .bytes) d) _ _ (λ q n. inr (r, e, same-true (r .bytes) d q)) (λ _ n. absurd (omega arith))))
       where
         none-of : (b : Bytes) → length b ≡ 0 → b ≡ []
         none-of [] e = refl
         none-of (a ∷ b) e = absurd (omega arith)
 
-  pub write-decision : (rows : List Row) (e : ℕ) (m buffer log : Bytes) → Writes m buffer log t d
-      → decision rows e (length log) Greeted (record { message = m; buffer = buffer }) ≡ writeRow rows e (length log) t d (tagOf m)
+  pub write-decision : (rows : List Row) (e st : ℕ) (m buffer : Bytes) (log : Lent) → Writes m buffer log t d
+      → decision rows e st (extentOf log) Greeted (record { message = m; buffer = buffer }) ≡ writeRow rows e st (extentOf log) t d (tagOf m)
   unfolding decision
-  write-decision rows e m buffer log W =
-      rw (W .asks .frame, le-leb replyRoom (length buffer) (W .asks .buffer-room), W .asks .log-length, W .asks .request, W .content, W .lawful-type, le-leb (length d) longest (W .not-long))
+  write-decision rows e st m buffer log W =
+      rw (W .asks .frame, le-leb replyRoom (length buffer) (W .asks .buffer-room), same-allowed (log .log) (log .waiting) (W .asks .lent-allowed), W .asks .request, W .content, W .lawful-type, le-leb (length d) longest (W .not-long))
 
-  pub known-told : (L : Ledger archive) (m buffer log : Bytes) → Writes m buffer log t d
-      → (tell (L .rows) (L .changed) (L .start) (length log) Greeted (record { message = m; buffer = buffer })) .answer .number ≡ 0
-      → Known (next archive (length log) L (tell (L .rows) (L .changed) (L .start) (length log) Greeted (record { message = m; buffer = buffer })))
-  known-told L m buffer log W = rw (write-decision (intact archive L) (end archive L) m buffer log W) (write-kept L (length log) m buffer)
+  pub known-told : (L : Ledger archive) (m buffer : Bytes) (log : Lent) → Writes m buffer log t d
+      → (tell (L .rows) (L .changed) (L .start) (extentOf log) Greeted (record { message = m; buffer = buffer })) .answer .number ≡ 0
+      → Known (next archive (extentOf log) L (tell (L .rows) (L .changed) (L .start) (extentOf log) Greeted (record { message = m; buffer = buffer })))
+  known-told L m buffer log W = rw (write-decision (intact archive L) (end archive L) (L .start) m buffer log W) (write-kept L (extentOf log) m buffer)

@@ -8,6 +8,7 @@ pub mod Write
 pub mod Step
 pub mod TellAdds
 pub mod LogLaws
+pub mod LentLaws
 pub mod Laws
 pub mod Theorem
 pub mod Greeted

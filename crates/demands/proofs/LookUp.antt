@@ -14,14 +14,15 @@ use Rattle.refusal.specs.declared.Refusal.the-variants.{NotHeld}
 use Rattle.block.specs.Block.{Row, parts}
 use Rattle.block.specs.Log.{used}
 use Rattle.log.specs.LookUp as look
+use Rattle.log.specs.Parts.{Lent, oneLog}
 use Rattle.log.proofs.Blocks.{blocks-used}
 use Rattle.ledger.specs.Ledger.{blocks}
 use Rattle.demands.specs.Ledger.{coveredBy, anyUncovered, firstUncovered, absent, firstRow}
 use Rattle.demands.specs.Instance.{archive}
 
-pub blocks-same : (log : Bytes) → look.blocks log ≡ blocks archive log
+pub blocks-same : (L : Lent) → look.blocks (oneLog L) ≡ blocks archive L
 unfolding blocks
-blocks-same log = sym (blocks-used log)
+blocks-same L = sym (blocks-used (oneLog L))
 
 pub first-same : (t : ℕ) (s : Bytes) (rows : List Row) → look.firstOf t s rows ≡ firstRow t s rows
 unfolding look.firstOf firstRow

@@ -23,10 +23,11 @@ use Rattle.kind.specs.Kind.{zeroScore}
 use Rattle.block.specs.Block.{Row}
 use Rattle.block.specs.Log.{used}
 use Rattle.log.specs.LookUp as look
+use Rattle.log.specs.Parts.{Lent, oneLog}
 use Rattle.log.specs.Store as stores
-use Rattle.archive.specs.Step.{Outcome, step, granted, refused}
-use Rattle.archive.specs.declared.Session.{Session}
-use Rattle.archive.specs.declared.Session.the-variants.{Greeted}
+use Rattle.request.specs.Step.{Outcome, step, granted, refused}
+use Rattle.request.specs.declared.Session.{Session}
+use Rattle.request.specs.declared.Session.the-variants.{Greeted}
 use Rattle.ledger.specs.Ledger.{Ledger, intact, end, next}
 use Rattle.ledger.specs.Reflects.{Reflects, Waits}
 use Rattle.ledger.specs.Trace.{trace}
@@ -35,10 +36,10 @@ use Rattle.ledger.proofs.Trace.{Agree}
 use Rattle.ledger.proofs.Steps.{serve-tell, reflects-serve, waits-serve}
 use Rattle.ledger.proofs.Lists.{Stands, begins, follows}
 use Rattle.demands.specs.Ledger.{Asked, anyUncovered, firstUncovered, absent, firstRow, tell}
-use Rattle.demands.specs.Instance.{archive}
+use Rattle.demands.specs.Instance.{extentOf, archive}
 use Rattle.demands.specs.Requests.{Writes, Reads}
 use Rattle.demands.specs.Histories.{afterwards}
-use Rattle.demands.specs.Corollaries.{AtMostOne, alike, adds}
+use Rattle.demands.specs.Corollaries.{AtMostOne, alike, adds, settles}
 use Rattle.demands.proofs.LookUp.{outside-none}
 use Rattle.demands.proofs.First.{first-in}
 use Rattle.demands.proofs.Seen.{given, storedAs, kept, held-other, absence-is}
@@ -52,40 +53,41 @@ use Rattle.demands.proofs.Twelve.{step-told}
 -- ---- any log
 
 -- a read that is answered found a block not longer than the count
-pub read-found : (t count : ℕ) (s m log buffer : Bytes) → Reads m buffer log t count s → step Greeted m log buffer .number ≡ 0
-    → (r : Row) × (look.held log t s ≡ some r) × (length (r .bytes) ≤ count) × (step Greeted m log buffer ≡ granted (readReply (tagOf m) (r .bytes)) Greeted log buffer)
+pub read-found : (t count : ℕ) (s m : Bytes) (log : Lent) (buffer : Bytes) → Reads m buffer log t count s → step Greeted m log buffer .number ≡ 0
+    → (r : Row) × (look.held (oneLog log) t s ≡ some r) × (length (r .bytes) ≤ count) × (step Greeted m log buffer ≡ granted (readReply (tagOf m) (r .bytes)) Greeted log buffer)
 unfolding look.absence
-read-found t count s m log buffer Q n = go (look.held log t s) refl (ap (λ (o : Outcome). o .number) (sym (read-step m buffer log t count s Q)) ∙ n)
+read-found t count s m log buffer Q n = go (look.held (oneLog log) t s) refl (ap (λ (o : Outcome). o .number) (sym (read-step m buffer log t count s Q)) ∙ n)
   where
     Found : Type 0
-    Found = (r : Row) × (look.held log t s ≡ some r) × (length (r .bytes) ≤ count) × (step Greeted m log buffer ≡ granted (readReply (tagOf m) (r .bytes)) Greeted log buffer)
+    Found = (r : Row) × (look.held (oneLog log) t s ≡ some r) × (length (r .bytes) ≤ count) × (step Greeted m log buffer ≡ granted (readReply (tagOf m) (r .bytes)) Greeted log buffer)
 
-    short : (r : Row) → look.held log t s ≡ some r → (b : Bool) → ltb count (length (r .bytes)) ≡ b → given log m buffer count (some r) .number ≡ 0 → Found
+    short : (r : Row) → look.held (oneLog log) t s ≡ some r → (b : Bool) → ltb count (length (r .bytes)) ≡ b → given log m buffer count (some r) .number ≡ 0 → Found
     short r e true q z = absurd (let w : _≡_ {A = ℕ} 13 0 = rw q at z in omega arith)
     short r e false q z = (r, e, ltb-false count (length (r .bytes)) q, read-step m buffer log t count s Q ∙ ap (given log m buffer count) e ∙ rw q)
 
-    go : (o : Option Row) → look.held log t s ≡ o → given log m buffer count o .number ≡ 0 → Found
-    go none e z = absurd (cond-ind (λ w. numberOf w ≡ 0 → ⊥) (eqb (look.doubtful log) 0) NotHeld (NotKnown (record { 0 = look.firstDoubtful log })) (λ _ x. omega arith) (λ _ x. omega arith) z)
+    go : (o : Option Row) → look.held (oneLog log) t s ≡ o → given log m buffer count o .number ≡ 0 → Found
+    go none e z = absurd (cond-ind (λ w. numberOf w ≡ 0 → ⊥) (eqb (look.doubtful (oneLog log)) 0) NotHeld (NotKnown (record { 0 = look.firstDoubtful (oneLog log) })) (λ _ x. omega arith) (λ _ x. omega arith) z)
     go (some r) e z = short r e (ltb count (length (r .bytes))) refl z
 
 -- 11 is answered only where no sector is doubtful
-not-held-none-doubtful : (s : Session) (m log buffer : Bytes) → small m ≡ true → step s m log buffer .number ≡ 11 → look.doubtful log ≡ 0
+not-held-none-doubtful : (s : Session) (m : Bytes) (log : Lent) (buffer : Bytes) → small m ≡ true → step s m log buffer .number ≡ 11 → look.doubtful (oneLog log) ≡ 0
 not-held-none-doubtful s m log buffer sm = go (step s m log buffer) (appends-at-most-one s m log buffer sm)
   where
-    go : (o : Outcome) → AtMostOne log o → o .number ≡ 11 → look.doubtful log ≡ 0
+    go : (o : Outcome) → AtMostOne log o → o .number ≡ 11 → look.doubtful (oneLog log) ≡ 0
     go o (alike e n) q = n q
     go o (adds r e n v f room) q = absurd (omega arith)
+    go o (settles e n f) q = absurd (omega arith)
 
 -- ---- a log that reflects a ledger
 
-module _ (log : Bytes) (L : Ledger archive) (R : Reflects archive log L) where
+module _ (log : Lent) (L : Ledger archive) (R : Reflects archive log L) where
   -- "not known", with the ledger's first uncovered sector
   abbrev pub unknown : Refusal
   unknown = NotKnown (record { 0 = firstUncovered (intact archive L) (end archive L) 0 })
 
   -- what look-up finds, of another score than the empty block's
-  pub held-row : (t : ℕ) (s : Bytes) → s ≢ zeroScore → look.held log t s ≡ firstRow t s (intact archive L)
-  held-row t s z = held-other log (intact archive L) (end archive L) (mirrored log L R) t s (same-false s zeroScore z)
+  pub held-row : (t : ℕ) (s : Bytes) → s ≢ zeroScore → look.held (oneLog log) t s ≡ firstRow t s (intact archive L)
+  held-row t s z = held-other (oneLog log) (intact archive L) (end archive L) (mirrored log L R) t s (same-false s zeroScore z)
 
   pub read-row : (t count : ℕ) (s m buffer : Bytes) (r : Row) → s ≢ zeroScore → Reads m buffer log t count s → firstRow t s (intact archive L) ≡ some r
       → (length (r .bytes) ≤ count → step Greeted m log buffer ≡ granted (readReply (tagOf m) (r .bytes)) Greeted log buffer)
@@ -106,7 +108,7 @@ module _ (log : Bytes) (L : Ledger archive) (R : Reflects archive log L) where
       → anyUncovered (intact archive L) (end archive L) ≡ true → step Greeted m log buffer ≡ refused unknown (tagOf m) Greeted log buffer
   read-unknown t count s m buffer z Q e u =
       read-step m buffer log t count s Q
-      ∙ rw (held-row t s z ∙ e, absence-is log (intact archive L) (end archive L) (mirrored log L R), u)
+      ∙ rw (held-row t s z ∙ e, absence-is (oneLog log) (intact archive L) (end archive L) (mirrored log L R), u)
 
   pub answers-stored : (t count : ℕ) (s m buffer : Bytes) → Reads m buffer log t count s → s ≢ zeroScore → step Greeted m log buffer .number ≡ 0
       → (r : Row) × List·Memᴰ r (intact archive L) × (r .kind ≡ t) × (r .score ≡ s) × (step Greeted m log buffer ≡ granted (readReply (tagOf m) (r .bytes)) Greeted log buffer)
@@ -123,7 +125,7 @@ module _ (log : Bytes) (L : Ledger archive) (R : Reflects archive log L) where
       none-open =
           let M = mirrored log L R in
           rw (← M .blocks, ← M .ends)
-          (sym (outside-none (look.blocks log) (used log)) ∙ eq-eqb (look.doubtful log) 0 (not-held-none-doubtful s m log buffer sm n))
+          (sym (outside-none (look.blocks (oneLog log)) (used (oneLog log))) ∙ eq-eqb (look.doubtful (oneLog log)) 0 (not-held-none-doubtful s m log buffer sm n))
 
       go : (b : Bool) → anyUncovered (intact archive L) (end archive L) ≡ b → anyUncovered (intact archive L) (end archive L) ≡ false
       go true q = absurd (let w : false ≡ true = rw q at none-open in let z : _≡_ {A = ℕ} 0 1 = cc in omega arith)
@@ -134,7 +136,7 @@ module _ (log : Bytes) (L : Ledger archive) (R : Reflects archive log L) where
   twelve-first s m buffer n =
       let rows = intact archive L in
       let last = end archive L in
-      let why = absence-is log rows last (mirrored log L R) in
+      let why = absence-is (oneLog log) rows last (mirrored log L R) in
       let o = step-told log m buffer s n ∙ ap (λ (w : Refusal). refused w (tagOf m) s log buffer) why in
       let twelve : numberOf (absent rows last) ≡ 12 = ap (λ (x : Outcome). x .number) (sym o) ∙ n in
       go (anyUncovered rows last) refl twelve o
@@ -146,20 +148,20 @@ module _ (log : Bytes) (L : Ledger archive) (R : Reflects archive log L) where
       go false q k o = let z : _≡_ {A = ℕ} 11 12 = rw q at k in absurd (omega arith)
 
 -- a write that was answered, and any requests after it: the log reflects a ledger that knows the data
-module _ (log : Bytes) (L : Ledger archive) (R : Reflects archive log L) (S : Waits archive log L)
+module _ (log : Lent) (L : Ledger archive) (R : Reflects archive log L) (S : Waits archive log L)
     (t : ℕ) (d m buffer : Bytes) (sm : small m ≡ true) (W : Writes m buffer log t d) (answered : step Greeted m log buffer .number ≡ 0)
     (past : List Session) (qs : List (Item archive)) (b : AllOfBytes archive qs) where
   asked : Asked
   asked = record { message = m; buffer = buffer }
 
   start : Standing archive
-  start = record { log = step Greeted m log buffer .log; past = past }
+  start = record { log = step Greeted m log buffer .lent; past = past }
 
   books : Books archive
   books = record {
-    begin = step Greeted m log buffer .log;
+    begin = step Greeted m log buffer .lent;
     done = [];
-    ledger = next archive (length log) L (tell (L .rows) (L .changed) (L .start) (length log) Greeted asked);
+    ledger = next archive (extentOf log) L (tell (L .rows) (L .changed) (L .start) (extentOf log) Greeted asked);
     past = past;
   }
 
@@ -173,14 +175,14 @@ module _ (log : Bytes) (L : Ledger archive) (R : Reflects archive log L) (S : Wa
   knows = known-after t d books qs b
       (known-told t d L m buffer log W (sym (ap (λ o. o .answer .number) (serve-tell archive laws log L R S Greeted asked sm)) ∙ answered))
 
-  pub then-reads : (count : ℕ) (m′ buffer′ : Bytes) → length d ≤ count → let later = afterwards (step Greeted m log buffer .log) past qs in
+  pub then-reads : (count : ℕ) (m′ buffer′ : Bytes) → length d ≤ count → let later = afterwards (step Greeted m log buffer .lent) past qs in
       Reads m′ buffer′ later t count (sha1Of d) → step Greeted m′ later buffer′ ≡ granted (readReply (tagOf m′) d) Greeted later buffer′
   unfolding start
   then-reads count m′ buffer′ le Q =
-      known-reads (afterwards (step Greeted m log buffer .log) past qs) (trace (recount archive) books qs .left .ledger) (goes-so .left .mirrors) t count d m′ buffer′ knows Q le
+      known-reads (afterwards (step Greeted m log buffer .lent) past qs) (trace (recount archive) books qs .left .ledger) (goes-so .left .mirrors) t count d m′ buffer′ knows Q le
 
-  pub then-writes : (m′ buffer′ : Bytes) → let later = afterwards (step Greeted m log buffer .log) past qs in
+  pub then-writes : (m′ buffer′ : Bytes) → let later = afterwards (step Greeted m log buffer .lent) past qs in
       Writes m′ buffer′ later t d → step Greeted m′ later buffer′ ≡ granted (writeReply (tagOf m′) (sha1Of d)) Greeted later buffer′
   unfolding start
   then-writes m′ buffer′ W′ =
-      known-writes (afterwards (step Greeted m log buffer .log) past qs) (trace (recount archive) books qs .left .ledger) (goes-so .left .mirrors) t d m′ buffer′ knows W′
+      known-writes (afterwards (step Greeted m log buffer .lent) past qs) (trace (recount archive) books qs .left .ledger) (goes-so .left .mirrors) t d m′ buffer′ knows W′

@@ -1,13 +1,14 @@
--- Every request, in any log: the log stays as it was, and 11 is answered only where nothing is doubtful; or a valid row is written right after the used part.
+-- Every request, in any log: what is lent stays as it was, and 11 is answered only where nothing is doubtful; or a valid row is written right after the used
+-- part of both parts, or all that waited is settled.
 use mathlib.Core.Path.{_≡_, refl}
 use mathlib.Core.Bool.{Bool, true, false, cond, not}
 use mathlib.Core.List.{[], _∷_}
 use mathlib.Core.Option.{Option, none, some}
-use Prim.Native.Nat.{ℕ, _+_, _≤_}
+use Prim.Native.Nat.{ℕ, _≤_}
 use native.Mathlib.Omega.{arith}
-use lib.Dec.{leb, ltb, eqb}
+use lib.Dec.{ltb, eqb}
 use lib.ListN.{length}
-use borrow.Author.Tests.{leb-true, ltb-false, eqb-true, not-false}
+use borrow.Author.Tests.{ltb-false, eqb-true, not-false}
 use Rattle.ground.specs.Choice.{on}
 use Rattle.buffer.specs.Bytes.{Bytes, same}
 use Rattle.buffer.proofs.Bytes.{small-drop}
@@ -20,81 +21,85 @@ use Rattle.message.specs.declared.Request.{Request}
 use Rattle.message.specs.declared.Request.the-variants.{Ping, Hello, Goodbye, Read, Write, Sync, Unknown, Ill}
 use Rattle.kind.specs.Kind.{lawful, longest}
 use Rattle.block.specs.Block.{Row, partsOf}
-use Rattle.block.specs.Log.{sectors, used}
+use Rattle.block.specs.Log.{used}
 use Rattle.log.specs.LookUp as look
 use Rattle.log.specs.Store as stores
 use Rattle.log.specs.declared.Stored.the-variants.{Duplicate, Refused}
-use Rattle.log.specs.LookUp.{logAllowed}
-use Rattle.archive.specs.Step as steps
-use Rattle.archive.specs.declared.Session.{Session}
-use Rattle.archive.specs.declared.Session.the-variants.{Fresh, Greeted, Closed as Shut}
-use Rattle.demands.specs.Corollaries.{AtMostOne, alike, AppendsAtMostOne, adds}
-use Rattle.demands.proofs.TellAdds.{rowOf, row-valid}
+use Rattle.log.specs.Parts.{Lent, oneLog, roomFor, canSettle}
+use Rattle.request.specs.Step as steps
+use Rattle.request.specs.declared.Session.{Session}
+use Rattle.request.specs.declared.Session.the-variants.{Fresh, Greeted, Closed as Shut}
+use Rattle.demands.specs.Corollaries.{AtMostOne, alike, adds, settles, AppendsAtMostOne}
+use Rattle.demands.proofs.LentLaws.{room-one}
+use Rattle.demands.proofs.TellAdds.{rowOf, row-valid, log-allowed-of}
 use Rattle.demands.proofs.Seen.{storedAs, kept, held-zero, empty-score}
 
-module _ {log : Bytes} where
-  plain : {o : steps.Outcome} → o .log ≡ log → (o .number ≡ 11 → ⊥) → AtMostOne log o
+module _ {L : Lent} where
+  plain : {o : steps.Outcome} → o .lent ≡ L → (o .number ≡ 11 → ⊥) → AtMostOne L o
   plain e n = alike e (λ f. absurd (n f))
 
-  by-test : (b : Bool) {x y : steps.Outcome} → (b ≡ true → AtMostOne log x) → (b ≡ false → AtMostOne log y) → AtMostOne log (cond b x y)
+  by-test : (b : Bool) {x y : steps.Outcome} → (b ≡ true → AtMostOne L x) → (b ≡ false → AtMostOne L y) → AtMostOne L (cond b x y)
   by-test true f g = f refl
   by-test false f g = g refl
 
-  by-row : (o : Option Row) {x : steps.Outcome} {f : Row → steps.Outcome} → (o ≡ none → AtMostOne log x) → ((r : Row) → o ≡ some r → AtMostOne log (f r)) → AtMostOne log (on o x f)
+  by-row : (o : Option Row) {x : steps.Outcome} {f : Row → steps.Outcome} → (o ≡ none → AtMostOne L x) → ((r : Row) → o ≡ some r → AtMostOne L (f r)) → AtMostOne L (on o x f)
   by-row none g h = g refl
   by-row (some r) g h = h r refl
 
-module _ (log m buffer : Bytes) where
-  absent : AtMostOne log (steps.refused (look.absence log) (tagOf m) Greeted log buffer)
+module _ (L : Lent) (m buffer : Bytes) where
+  absent : AtMostOne L (steps.refused (look.absence (oneLog L)) (tagOf m) Greeted L buffer)
   unfolding look.absence
-  absent = alike refl (go (eqb (look.doubtful log) 0) refl)
+  absent = alike refl (go (eqb (look.doubtful (oneLog L)) 0) refl)
     where
-      go : (b : Bool) → eqb (look.doubtful log) 0 ≡ b → numberOf (cond b NotHeld (NotKnown (record { 0 = look.firstDoubtful log }))) ≡ 11 → look.doubtful log ≡ 0
-      go true q e = eqb-true (look.doubtful log) 0 q
+      go : (b : Bool) → eqb (look.doubtful (oneLog L)) 0 ≡ b → numberOf (cond b NotHeld (NotKnown (record { 0 = look.firstDoubtful (oneLog L) }))) ≡ 11 → look.doubtful (oneLog L) ≡ 0
+      go true q e = eqb-true (look.doubtful (oneLog L)) 0 q
       go false q e = absurd (omega arith)
 
-  read-ways : (t count : ℕ) → AtMostOne log (steps.read t count (tagOf m) (scoreOf m) log buffer)
+  read-ways : (t count : ℕ) → AtMostOne L (steps.read t count (tagOf m) (scoreOf m) L buffer)
   unfolding steps.read
   read-ways t count =
       by-test (not (lawful t)) (λ _. plain refl (λ e. omega arith)) (λ _.
-      by-row (look.held log t (scoreOf m)) (λ _. absent)
+      by-row (look.held (oneLog L) t (scoreOf m)) (λ _. absent)
       (λ r _. by-test (ltb count (length (r .bytes))) (λ _. plain refl (λ e. omega arith)) (λ _. plain refl (λ e. omega arith))))
 
   -- data that is not found
-  new-ways : (t : ℕ) (d : Bytes) → logAllowed (length log) ≡ true → lawful t ≡ true → length d ≤ longest → small d ≡ true → (length d ≡ 0 → ⊥) → AtMostOne log (kept m buffer (storedAs log t d none))
-  unfolding stores.roomFor
-  new-ways t d a l le sm n = go (leb (used log + partsOf (length d)) (sectors (length log))) refl
+  new-ways : (t : ℕ) (d : Bytes) → steps.allowed L ≡ true → lawful t ≡ true → length d ≤ longest → small d ≡ true → (length d ≡ 0 → ⊥) → AtMostOne L (kept m buffer (storedAs L t d none))
+  new-ways t d a l le sm n = go (roomFor L (partsOf (length d))) refl
     where
-      go : (b : Bool) → leb (used log + partsOf (length d)) (sectors (length log)) ≡ b → AtMostOne log (kept m buffer (storedAs log t d none))
+      go : (b : Bool) → roomFor L (partsOf (length d)) ≡ b → AtMostOne L (kept m buffer (storedAs L t d none))
       go true q =
-          let room : used log + partsOf (length d) ≤ sectors (length log) = leb-true (used log + partsOf (length d)) (sectors (length log)) q in
-          rw q (adds (rowOf t d (used log)) refl refl (row-valid t d (used log) (length log) a l le n sm room) refl room)
+          let room = room-one (L .log) (L .waiting) (partsOf (length d)) q in
+          rw q (adds (rowOf t d (used (oneLog L))) refl refl (row-valid t d (used (oneLog L)) (length (L .log)) (log-allowed-of (L .log) (L .waiting) a) l le n sm (room .1)) refl q)
       go false q = rw q (plain refl (λ e. omega arith))
 
-  held-ways : (t : ℕ) (d : Bytes) (r : Row) → AtMostOne log (kept m buffer (storedAs log t d (some r)))
+  held-ways : (t : ℕ) (d : Bytes) (r : Row) → AtMostOne L (kept m buffer (storedAs L t d (some r)))
   held-ways t d r = go (same (r .bytes) d)
     where
-      go : (b : Bool) → AtMostOne log (kept m buffer (cond b (stores.afterStore (stores.receipt (sha1Of d) (Duplicate (record { 0 = r .first }))) log) (stores.afterStore (stores.receipt (sha1Of d) (Refused Clash)) log)))
+      go : (b : Bool) → AtMostOne L (kept m buffer (cond b (stores.afterStore (stores.receipt (sha1Of d) (Duplicate (record { 0 = r .first }))) L) (stores.afterStore (stores.receipt (sha1Of d) (Refused Clash)) L)))
       go true = plain refl (λ e. omega arith)
       go false = plain refl (λ e. omega arith)
 
-  store-ways : (t : ℕ) (d : Bytes) → logAllowed (length log) ≡ true → lawful t ≡ true → length d ≤ longest → small d ≡ true → AtMostOne log (kept m buffer (stores.store log t d))
+  store-ways : (t : ℕ) (d : Bytes) → steps.allowed L ≡ true → lawful t ≡ true → length d ≤ longest → small d ≡ true → AtMostOne L (kept m buffer (stores.store L t d))
   unfolding stores.store
-  store-ways t [] a l le sm = rw (held-zero log t (sha1Of []) l empty-score) (held-ways t [] (look.emptyRow t))
-  store-ways t (c ∷ x) a l le sm = go (look.held log t (sha1Of (c ∷ x)))
+  store-ways t [] a l le sm = rw (held-zero (oneLog L) t (sha1Of []) l empty-score) (held-ways t [] (look.emptyRow t))
+  store-ways t (c ∷ x) a l le sm = go (look.held (oneLog L) t (sha1Of (c ∷ x)))
     where
-      go : (o : Option Row) → AtMostOne log (kept m buffer (storedAs log t (c ∷ x) o))
+      go : (o : Option Row) → AtMostOne L (kept m buffer (storedAs L t (c ∷ x) o))
       go none = new-ways t (c ∷ x) a l le sm (λ e. omega arith)
       go (some r) = held-ways t (c ∷ x) r
 
-  write-ways : (t : ℕ) → logAllowed (length log) ≡ true → small m ≡ true → AtMostOne log (steps.write t (tagOf m) (dataOf m) log buffer)
+  write-ways : (t : ℕ) → steps.allowed L ≡ true → small m ≡ true → AtMostOne L (steps.write t (tagOf m) (dataOf m) L buffer)
   unfolding steps.write
   write-ways t a sm =
       by-test (not (lawful t)) (λ _. plain refl (λ e. omega arith)) (λ l.
       by-test (ltb longest (length (dataOf m))) (λ _. plain refl (λ e. omega arith)) (λ le.
       store-ways t (dataOf m) a (not-false (lawful t) l) (ltb-false longest (length (dataOf m)) le) (small-drop 8 m sm)))
 
-  fresh-ways : (q : Request) → AtMostOne log (steps.fresh q (tagOf m) m log buffer)
+  sync-ways : AtMostOne L (steps.sync (tagOf m) L buffer)
+  unfolding steps.sync
+  sync-ways = by-test (canSettle L) (λ q. settles refl refl q) (λ _. plain refl (λ e. omega arith))
+
+  fresh-ways : (q : Request) → AtMostOne L (steps.fresh q (tagOf m) m L buffer)
   unfolding steps.fresh
   fresh-ways Unknown = plain refl (λ e. omega arith)
   fresh-ways Ill = plain refl (λ e. omega arith)
@@ -105,30 +110,30 @@ module _ (log m buffer : Bytes) where
   fresh-ways (Read t c) = plain refl (λ e. omega arith)
   fresh-ways (Write t) = plain refl (λ e. omega arith)
 
-  greeted-ways : (q : Request) → logAllowed (length log) ≡ true → small m ≡ true → AtMostOne log (steps.greeted q (tagOf m) m log buffer)
+  greeted-ways : (q : Request) → steps.allowed L ≡ true → small m ≡ true → AtMostOne L (steps.greeted q (tagOf m) m L buffer)
   unfolding steps.greeted
   greeted-ways Unknown a sm = plain refl (λ e. omega arith)
   greeted-ways Ill a sm = plain refl (λ e. omega arith)
   greeted-ways Goodbye a sm = plain refl (λ e. omega arith)
   greeted-ways Hello a sm = plain refl (λ e. omega arith)
   greeted-ways Ping a sm = plain refl (λ e. omega arith)
-  greeted-ways Sync a sm = plain refl (λ e. omega arith)
+  greeted-ways Sync a sm = sync-ways
   greeted-ways (Read t c) a sm = read-ways t c
   greeted-ways (Write t) a sm = write-ways t a sm
 
-  session-ways : (s : Session) → logAllowed (length log) ≡ true → small m ≡ true → AtMostOne log (steps.inSession s m log buffer)
+  session-ways : (s : Session) → steps.allowed L ≡ true → small m ≡ true → AtMostOne L (steps.inSession s m L buffer)
   unfolding steps.inSession
   session-ways Shut a sm = plain refl (λ e. omega arith)
   session-ways Fresh a sm = fresh-ways (requestOf m)
   session-ways Greeted a sm = greeted-ways (requestOf m) a sm
 
-  step-ways : (s : Session) → small m ≡ true → AtMostOne log (steps.step s m log buffer)
+  step-ways : (s : Session) → small m ≡ true → AtMostOne L (steps.step s m L buffer)
   unfolding steps.step
   step-ways s sm =
       by-test (not (framed m)) (λ _. plain refl (λ e. omega arith)) (λ _.
       by-test (ltb (length buffer) steps.replyRoom) (λ _. plain refl (λ e. omega arith)) (λ _.
-      by-test (not (logAllowed (length log))) (λ _. plain refl (λ e. omega arith)) (λ a.
-      session-ways s (not-false (logAllowed (length log)) a) sm)))
+      by-test (not (steps.allowed L)) (λ _. plain refl (λ e. omega arith)) (λ a.
+      session-ways s (not-false (steps.allowed L) a) sm)))
 
 pub appends-at-most-one : AppendsAtMostOne
-appends-at-most-one s m log buffer sm = step-ways log m buffer s sm
+appends-at-most-one s m L buffer sm = step-ways L m buffer s sm

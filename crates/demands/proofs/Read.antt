@@ -16,32 +16,34 @@ use Rattle.message.specs.Reply.{readReply}
 use Rattle.kind.specs.Kind.{lawful, zeroScore}
 use Rattle.block.specs.Block.{Row}
 use Rattle.log.specs.LookUp as look
-use Rattle.archive.specs.Step as steps
-use Rattle.archive.specs.declared.Session.the-variants.{Greeted}
+use Rattle.log.specs.Parts.{Lent, oneLog}
+use Rattle.request.specs.Step as steps
+use Rattle.request.specs.declared.Session.the-variants.{Greeted}
 use Rattle.ledger.specs.Archive.{stays}
 use Rattle.demands.specs.Ledger.{Decision, refusal, reply, absent, firstRow, readRow}
+use Rattle.demands.specs.Instance.{extentOf}
 use Rattle.demands.proofs.Tests.{contrary, ltb-not}
 use Rattle.demands.proofs.Seen.{given, seen, view, Mirrors, held-zero, held-other, absence-is}
 
-module _ (log : Bytes) (rows : List Row) (end : ℕ) (M : Mirrors log rows end) (m buffer : Bytes) (t count : ℕ) (score : Bytes) where
+module _ (L : Lent) (rows : List Row) (end start : ℕ) (M : Mirrors (oneLog L) rows end) (m buffer : Bytes) (t count : ℕ) (score : Bytes) where
   -- what the ledger decides, by its first row
   abbrev decided : Option Row → Decision
   decided o =
       on o (refusal (absent rows end))
       (λ r. cond (leb (length (r .bytes)) count) (reply (readReply (tagOf m) (r .bytes)) Greeted stays) (refusal OverCount))
 
-  by-row : (o : Option Row) → seen (given log m buffer count o) ≡ view log Greeted m buffer (decided o)
-  by-row none = rw (absence-is log rows end M)
+  by-row : (o : Option Row) → seen (given L m buffer count o) ≡ view L Greeted m buffer (decided o)
+  by-row none = rw (absence-is (oneLog L) rows end M)
   by-row (some r) =
-      contrary seen (view log Greeted m buffer) (ltb count (length (r .bytes))) (leb (length (r .bytes)) count) (ltb-not count (length (r .bytes))) (λ _. refl) (λ _. refl)
+      contrary seen (view L Greeted m buffer) (ltb count (length (r .bytes))) (leb (length (r .bytes)) count) (ltb-not count (length (r .bytes))) (λ _. refl) (λ _. refl)
 
-  found : lawful t ≡ true → seen (given log m buffer count (look.held log t score)) ≡ view log Greeted m buffer (readRow rows end (length log) t count score (tagOf m))
+  found : lawful t ≡ true → seen (given L m buffer count (look.held (oneLog L) t score)) ≡ view L Greeted m buffer (readRow rows end start (extentOf L) t count score (tagOf m))
   found l = go (same score zeroScore) refl
     where
-      go : (b : Bool) → same score zeroScore ≡ b → seen (given log m buffer count (look.held log t score)) ≡ view log Greeted m buffer (readRow rows end (length log) t count score (tagOf m))
-      go true q = rw (held-zero log t score l q, q, le-ltb count 0 (omega arith))
-      go false q = rw (held-other log rows end M t score q, q) (by-row (firstRow t score rows))
+      go : (b : Bool) → same score zeroScore ≡ b → seen (given L m buffer count (look.held (oneLog L) t score)) ≡ view L Greeted m buffer (readRow rows end start (extentOf L) t count score (tagOf m))
+      go true q = rw (held-zero (oneLog L) t score l q, q, le-ltb count 0 (omega arith))
+      go false q = rw (held-other (oneLog L) rows end M t score q, q) (by-row (firstRow t score rows))
 
-  pub read-agrees : seen (steps.read t count (tagOf m) score log buffer) ≡ view log Greeted m buffer (cond (lawful t) (readRow rows end (length log) t count score (tagOf m)) (refusal BlockType))
+  pub read-agrees : seen (steps.read t count (tagOf m) score L buffer) ≡ view L Greeted m buffer (cond (lawful t) (readRow rows end start (extentOf L) t count score (tagOf m)) (refusal BlockType))
   unfolding steps.read
-  read-agrees = contrary seen (view log Greeted m buffer) (not (lawful t)) (lawful t) refl found (λ _. refl)
+  read-agrees = contrary seen (view L Greeted m buffer) (not (lawful t)) (lawful t) refl found (λ _. refl)

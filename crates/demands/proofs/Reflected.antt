@@ -15,9 +15,10 @@ use Rattle.message.specs.Reply.{readReply, writeReply}
 use Rattle.kind.specs.Kind.{lawful, zeroScore}
 use Rattle.block.specs.Block.{Row}
 use Rattle.log.specs.LookUp as look
+use Rattle.log.specs.Parts.{Lent, oneLog}
 use Rattle.log.specs.Store as stores
-use Rattle.archive.specs.Step as steps
-use Rattle.archive.specs.declared.Session.the-variants.{Greeted}
+use Rattle.request.specs.Step as steps
+use Rattle.request.specs.declared.Session.the-variants.{Greeted}
 use Rattle.ledger.specs.Ledger.{Ledger, intact, end}
 use Rattle.ledger.specs.Reflects.{Reflects}
 use Rattle.ledger.proofs.Reflects.{used-end, blocks-intact}
@@ -30,14 +31,14 @@ use Rattle.demands.proofs.Laws.{lawful as laws}
 use Rattle.demands.proofs.Greeted.{write-step, read-step}
 use Rattle.demands.proofs.Known.{Known}
 
-module _ (log : Bytes) (L : Ledger archive) (R : Reflects archive log L) where
-  pub mirrored : Mirrors log (intact archive L) (end archive L)
+module _ (log : Lent) (L : Ledger archive) (R : Reflects archive log L) where
+  pub mirrored : Mirrors (oneLog log) (intact archive L) (end archive L)
   mirrored = mirrors log L (R .owneds) (blocks-intact archive laws log L R) (used-end archive laws log L R)
 
   -- what is found of data that the ledger knows
-  known-held : (t : ℕ) (d : Bytes) → lawful t ≡ true → Known t d L → (r : Row) × (look.held log t (sha1Of d) ≡ some r) × (r .bytes ≡ d)
-  known-held t d l (inl e) = (look.emptyRow t, held-zero log t (sha1Of d) l (rw e empty-score), sym e)
-  known-held t d l (inr k) = (k .0, held-other log (intact archive L) (end archive L) mirrored t (sha1Of d) (other (same (sha1Of d) zeroScore) refl) ∙ k .1, k .2)
+  known-held : (t : ℕ) (d : Bytes) → lawful t ≡ true → Known t d L → (r : Row) × (look.held (oneLog log) t (sha1Of d) ≡ some r) × (r .bytes ≡ d)
+  known-held t d l (inl e) = (look.emptyRow t, held-zero (oneLog log) t (sha1Of d) l (rw e empty-score), sym e)
+  known-held t d l (inr k) = (k .0, held-other (oneLog log) (intact archive L) (end archive L) mirrored t (sha1Of d) (other (same (sha1Of d) zeroScore) refl) ∙ k .1, k .2)
     where
       other : (b : Bool) → same (sha1Of d) zeroScore ≡ b → same (sha1Of d) zeroScore ≡ false
       other true q =

@@ -14,14 +14,15 @@ use Rattle.refusal.specs.declared.Refusal.the-variants.{OverCount, NoRoom, Clas
 use Rattle.message.specs.Message.{tagOf}
 use Rattle.message.specs.Reply.{readReply}
 use Rattle.kind.specs.Kind.{lawful, zeroScore}
-use Rattle.block.specs.Block.{Row, written}
+use Rattle.block.specs.Block.{Row, partsOf}
 use Rattle.block.specs.Log.{used}
 use Rattle.log.specs.LookUp as look
+use Rattle.log.specs.Parts.{Lent, oneLog, roomFor, appendRow}
 use Rattle.log.specs.Store as stores
 use Rattle.log.specs.declared.Stored.the-variants.{New, Duplicate, Refused}
-use Rattle.archive.specs.Step as steps
-use Rattle.archive.specs.declared.Session.{Session}
-use Rattle.archive.specs.declared.Session.the-variants.{Greeted}
+use Rattle.request.specs.Step as steps
+use Rattle.request.specs.declared.Session.{Session}
+use Rattle.request.specs.declared.Session.the-variants.{Greeted}
 use Rattle.ledger.specs.Archive.{Seen}
 use Rattle.ledger.specs.Ledger.{shown}
 use Rattle.demands.specs.Ledger.{Answer, Decision, rulingOf, absent, firstRow}
@@ -29,33 +30,33 @@ use Rattle.demands.specs.Instance.{archive}
 use Rattle.demands.proofs.LookUp.{first-same, absence-same}
 
 -- what the archive answers of a read, by what is held
-abbrev pub given : Bytes → Bytes → Bytes → ℕ → Option Row → steps.Outcome
-given log m buffer count o =
-    on o (steps.refused (look.absence log) (tagOf m) Greeted log buffer)
-    (λ r. cond (ltb count (length (r .bytes))) (steps.refused OverCount (tagOf m) Greeted log buffer) (steps.granted (readReply (tagOf m) (r .bytes)) Greeted log buffer))
+abbrev pub given : Lent → Bytes → Bytes → ℕ → Option Row → steps.Outcome
+given L m buffer count o =
+    on o (steps.refused (look.absence (oneLog L)) (tagOf m) Greeted L buffer)
+    (λ r. cond (ltb count (length (r .bytes))) (steps.refused OverCount (tagOf m) Greeted L buffer) (steps.granted (readReply (tagOf m) (r .bytes)) Greeted L buffer))
 
 -- what a store gives, by what is held
-abbrev pub storedAs : Bytes → ℕ → Bytes → Option Row → stores.AfterStore
-storedAs log t d o =
+abbrev pub storedAs : Lent → ℕ → Bytes → Option Row → stores.AfterStore
+storedAs L t d o =
     on o
-    (cond (stores.roomFor log d)
-    (stores.afterStore (stores.receipt (sha1Of d) (New (record { 0 = used log }))) (written log (stores.newRow log t d)))
-    (stores.afterStore (stores.receipt (sha1Of d) (Refused NoRoom)) log))
+    (cond (roomFor L (partsOf (length d)))
+    (stores.afterStore (stores.receipt (sha1Of d) (New (record { 0 = used (oneLog L) }))) (appendRow L (stores.newRow L t d)))
+    (stores.afterStore (stores.receipt (sha1Of d) (Refused NoRoom)) L))
     (λ r. cond (same (r .bytes) d)
-    (stores.afterStore (stores.receipt (sha1Of d) (Duplicate (record { 0 = r .first }))) log)
-    (stores.afterStore (stores.receipt (sha1Of d) (Refused Clash)) log))
+    (stores.afterStore (stores.receipt (sha1Of d) (Duplicate (record { 0 = r .first }))) L)
+    (stores.afterStore (stores.receipt (sha1Of d) (Refused Clash)) L))
 
 -- what the archive answers of a store
 abbrev pub kept : Bytes → Bytes → stores.AfterStore → steps.Outcome
-kept m buffer a = steps.written (a .receipt .stored) (tagOf m) (a .receipt .score) (a .log) buffer
+kept m buffer a = steps.written (a .receipt .stored) (tagOf m) (a .receipt .score) (a .lent) buffer
 
 -- what is seen of the archive's outcome
-abbrev pub seen : steps.Outcome → Seen Answer Session Bytes
-seen o = record { answer = record { number = o .number; buffer = o .reply }; session = o .session; log = o .log }
+abbrev pub seen : steps.Outcome → Seen Answer Session Lent
+seen o = record { answer = record { number = o .number; buffer = o .reply }; session = o .session; log = o .lent }
 
 -- what is seen of the ledger's decision
-abbrev pub view : Bytes → Session → Bytes → Bytes → Decision → Seen Answer Session Bytes
-view log s m buffer d = shown archive log (rulingOf s m buffer d)
+abbrev pub view : Lent → Session → Bytes → Bytes → Decision → Seen Answer Session Lent
+view L s m buffer d = shown archive L (rulingOf s m buffer d)
 
 -- a log's sound blocks are these rows, none of them of the zero score, and its used part ends here
 pub record Mirrors (log : Bytes) (rows : List Row) (end : ℕ) : Type 0 where

@@ -1,8 +1,9 @@
--- A log with other bytes in some of its sectors.
+-- A log with other bytes in some of its sectors, alone and before a waiting part in which nothing waits.
 use mathlib.Core.Path.{_≡_, refl, sym, ap, _∙_}
 use mathlib.Core.Bool.{Bool, true, false, cond}
 use mathlib.Core.List.{List, [], _∷_, _++_}
 use mathlib.Core.Logic.{_⊎_, inl, inr}
+use mathlib.Core.Option.{Option, none, some}
 use Prim.Native.Nat.{ℕ, _+_, _-_, _*_, _≤_, _<_}
 use native.Mathlib.Omega.{arith}
 use lib.Dec.{eqb, ltb}
@@ -10,9 +11,15 @@ use lib.ListN.{length, take, drop, length-append, length-take, length-drop, take
 use borrow.Author.Tests.{eqb-true, eqb-false, eq-eqb, ltb-true, ltb-false}
 use Rattle.ground.proofs.Cases.{or-right}
 use Rattle.buffer.specs.Bytes.{Bytes}
-use Rattle.block.specs.Log.{sectors, at}
+use Rattle.block.specs.Log.{sectors, at, Alike}
 use Rattle.block.proofs.At.{piece, at-middle, at-aside}
+use Rattle.block.proofs.Joined.{used-joined}
+use Rattle.block.proofs.Alike.{used-alike}
+use Rattle.log.specs.Parts.{Lent, oneLog}
+use Rattle.log.proofs.Parts.{tape-alone}
 use Rattle.ledger.specs.Ledger.{has}
+use Rattle.demands.specs.Instance.{extentOf, lengthOf}
+use Rattle.demands.specs.Histories.{NothingWaits}
 
 -- with the bytes s in sector n
 pub splice : ℕ → Bytes → Bytes → Bytes
@@ -88,3 +95,38 @@ module _ (f : ℕ → Bytes) (l : (k : ℕ) → length (f k) ≡ 512) (log : Byt
       go : (b : Bool) → eqb k c ≡ b → at (spread f cs log) k ≡ cond (has k cs) (f k) (at log k) → cond (eqb k c) (f c) (at (spread f cs log) k) ≡ cond (has k (c ∷ cs)) (f k) (at log k)
       go true q g = rw q (ap f (sym (eqb-true k c q)))
       go false q g = rw q g
+
+-- ---- before a waiting part
+
+-- another log in the place of the log that is lent, the waiting part as it is
+abbrev pub withLog : Bytes → Lent → Lent
+withLog log L = record { log = log; waiting = L .waiting }
+
+-- nothing waits: behind any log whatever the part adds nothing
+blank-after : (log : Bytes) (o : Option Bytes) → NothingWaits (record { log = log; waiting = o }) → (other : Bytes) → Alike (oneLog (record { log = other; waiting = o })) other
+blank-after log none e other n = refl
+blank-after log (some w) e other n = tape-alone other w (omega (arith, e, used-joined log w)) n
+
+module _ (L : Lent) (rests : NothingWaits L) where
+  pub at-with : (log : Bytes) → Alike (oneLog (withLog log L)) log
+  at-with log = blank-after (L .log) (L .waiting) rests log
+
+  pub rests-with : (log : Bytes) → NothingWaits (withLog log L)
+  rests-with log = sym (used-alike (oneLog (withLog log L)) log (at-with log))
+
+  pub extent-with : (log : Bytes) → length log ≡ length (L .log) → extentOf (withLog log L) ≡ extentOf L
+  extent-with log e = λ i. record { size = e i; waiting = lengthOf (L .waiting) }
+
+  pub at-spliced : (n : ℕ) (s : Bytes) → n < sectors (length (L .log)) → length s ≡ 512 → (k : ℕ)
+      → at (oneLog (withLog (splice n s (L .log)) L)) k ≡ cond (eqb k n) s (at (oneLog L) k)
+  at-spliced n s h l k =
+      at-with (splice n s (L .log)) k
+      ∙ at-splice n s (L .log) h l k
+      ∙ ap (λ (b : Bytes). cond (eqb k n) s b) (sym (at-with (L .log) k))
+
+  pub at-spread-with : (f : ℕ → Bytes) (l : (k : ℕ) → length (f k) ≡ 512) (cs : List ℕ) → ((k : ℕ) → has k cs ≡ true → k < sectors (length (L .log))) → (k : ℕ)
+      → at (oneLog (withLog (spread f cs (L .log)) L)) k ≡ cond (has k cs) (f k) (at (oneLog L) k)
+  at-spread-with f l cs h k =
+      at-with (spread f cs (L .log)) k
+      ∙ at-spread f l (L .log) cs h k
+      ∙ ap (λ (b : Bytes). cond (has k cs) (f k) b) (sym (at-with (L .log) k))

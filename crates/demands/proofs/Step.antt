@@ -2,7 +2,9 @@
 use mathlib.Core.Path.{_≡_, refl, sym, _∙_}
 use mathlib.Core.Bool.{true, false, not, true≢false}
 use mathlib.Core.List.{List, List·Memᴰ}
-use Prim.Native.Nat.{ℕ}
+use mathlib.Core.Option.{Option, none, some}
+use Prim.Native.Nat.{ℕ, _≤_}
+use native.Mathlib.Omega.{arith}
 use lib.Dec.{leb, ltb}
 use lib.ListN.{length}
 use borrow.Author.Tests.{not-true}
@@ -14,15 +16,17 @@ use Rattle.message.specs.declared.Request.{Request}
 use Rattle.message.specs.declared.Request.the-variants.{Ping, Hello, Goodbye, Read, Write, Sync, Unknown, Ill}
 use Rattle.kind.specs.Kind.{zeroScore}
 use Rattle.block.specs.Block.{Row}
-use Rattle.block.specs.Log.{used}
-use Rattle.log.specs.LookUp.{logAllowed}
-use Rattle.archive.specs.Step as steps
-use Rattle.archive.specs.declared.Session.{Session}
-use Rattle.archive.specs.declared.Session.the-variants.{Fresh, Greeted, Closed as Shut}
+use Rattle.block.specs.Log.{sectors, used}
+use Rattle.block.proofs.Joined.{used-joined}
+use Rattle.log.specs.Parts.{Lent, oneLog, canSettle}
+use Rattle.log.proofs.Room.{can-settle}
+use Rattle.request.specs.Step as steps
+use Rattle.request.specs.declared.Session.{Session}
+use Rattle.request.specs.declared.Session.the-variants.{Fresh, Greeted, Closed as Shut}
 use Rattle.ledger.specs.Ledger.{Ledger, intact, end, blocks, shown}
 use Rattle.ledger.proofs.Intact.{intact-out}
-use Rattle.demands.specs.Ledger.{Asked, silence, decide, bySession, decision, tell}
-use Rattle.demands.specs.Instance.{served, archive}
+use Rattle.demands.specs.Ledger.{Asked, allowed, silence, decide, bySession, decision, tell}
+use Rattle.demands.specs.Instance.{served, extentOf, archive}
 use Rattle.demands.proofs.Tests.{alike, contrary, ltb-not}
 use Rattle.demands.proofs.LookUp.{blocks-same}
 use Rattle.demands.proofs.First.{first-none}
@@ -30,48 +34,59 @@ use Rattle.demands.proofs.Seen.{seen, view, Mirrors}
 use Rattle.demands.proofs.Read.{read-agrees}
 use Rattle.demands.proofs.Write.{write-agrees}
 
-module _ (log : Bytes) (rows : List Row) (last : ℕ) (M : Mirrors log rows last) (m buffer : Bytes) where
-  fresh-agrees : (r : Request) → seen (steps.fresh r (tagOf m) m log buffer) ≡ view log Fresh m buffer (decide rows last (length log) false r m)
+-- test 3, of what is lent and of its lengths
+same-test : (log : Bytes) (o : Option Bytes) → let L : Lent = record { log = log; waiting = o } in not (steps.allowed L) ≡ not (allowed (extentOf L))
+same-test log none = refl
+same-test log (some w) = refl
+
+module _ (L : Lent) (rows : List Row) (last start : ℕ) (M : Mirrors (oneLog L) rows last) (from : used (L .log) ≡ start) (fits : last ≤ sectors (length (L .log))) (m buffer : Bytes) where
+  -- what waits has room: a row was added only where it had
+  sync-agrees : (log : Bytes) (o : Option Bytes) → used (oneLog (record { log = log; waiting = o })) ≤ sectors (length log) → canSettle (record { log = log; waiting = o }) ≡ true
+  unfolding canSettle
+  sync-agrees log none h = refl
+  sync-agrees log (some w) h = can-settle log w (omega (arith, h, used-joined log w))
+
+  fresh-agrees : (r : Request) → seen (steps.fresh r (tagOf m) m L buffer) ≡ view L Fresh m buffer (decide rows last start (extentOf L) false r m)
   unfolding steps.fresh
   fresh-agrees Unknown = refl
   fresh-agrees Ill = refl
   fresh-agrees Goodbye = refl
-  fresh-agrees Hello = alike seen (view log Fresh m buffer) (same (versionOf m) steps.version) (λ _. refl) (λ _. refl)
+  fresh-agrees Hello = alike seen (view L Fresh m buffer) (same (versionOf m) steps.version) (λ _. refl) (λ _. refl)
   fresh-agrees Ping = refl
   fresh-agrees Sync = refl
   fresh-agrees (Read t c) = refl
   fresh-agrees (Write t) = refl
 
-  greeted-agrees : (r : Request) → seen (steps.greeted r (tagOf m) m log buffer) ≡ view log Greeted m buffer (decide rows last (length log) true r m)
-  unfolding steps.greeted
+  greeted-agrees : (r : Request) → seen (steps.greeted r (tagOf m) m L buffer) ≡ view L Greeted m buffer (decide rows last start (extentOf L) true r m)
+  unfolding steps.greeted steps.sync
   greeted-agrees Unknown = refl
   greeted-agrees Ill = refl
   greeted-agrees Goodbye = refl
   greeted-agrees Hello = refl
   greeted-agrees Ping = refl
-  greeted-agrees Sync = refl
-  greeted-agrees (Read t c) = read-agrees log rows last M m buffer t c (scoreOf m)
-  greeted-agrees (Write t) = write-agrees log rows last M m buffer t (dataOf m)
+  greeted-agrees Sync = rw (sync-agrees (L .log) (L .waiting) (omega (arith, M .ends, fits)))
+  greeted-agrees (Read t c) = read-agrees L rows last start M m buffer t c (scoreOf m)
+  greeted-agrees (Write t) = write-agrees L rows last start M from m buffer t (dataOf m)
 
-  session-agrees : (s : Session) → seen (steps.inSession s m log buffer)
-      ≡ view log s m buffer (bySession s (silence Closed) (λ g. decide rows last (length log) g (requestOf m) m))
+  session-agrees : (s : Session) → seen (steps.inSession s m L buffer)
+      ≡ view L s m buffer (bySession s (silence Closed) (λ g. decide rows last start (extentOf L) g (requestOf m) m))
   unfolding steps.inSession
   session-agrees Fresh = fresh-agrees (requestOf m)
   session-agrees Greeted = greeted-agrees (requestOf m)
   session-agrees Shut = refl
 
-  step-agrees : (s : Session) → seen (steps.step s m log buffer) ≡ view log s m buffer (decision rows last (length log) s (record { message = m; buffer = buffer }))
+  step-agrees : (s : Session) → seen (steps.step s m L buffer) ≡ view L s m buffer (decision rows last start (extentOf L) s (record { message = m; buffer = buffer }))
   unfolding steps.step decision
   step-agrees s =
-      contrary seen (view log s m buffer) (not (framed m)) (framed m) refl
-      (λ _. contrary seen (view log s m buffer) (ltb (length buffer) steps.replyRoom) (leb steps.replyRoom (length buffer)) (ltb-not (length buffer) steps.replyRoom)
-      (λ _. contrary seen (view log s m buffer) (not (logAllowed (length log))) (logAllowed (length log)) refl (λ _. session-agrees s) (λ _. refl))
+      contrary seen (view L s m buffer) (not (framed m)) (framed m) refl
+      (λ _. contrary seen (view L s m buffer) (ltb (length buffer) steps.replyRoom) (leb steps.replyRoom (length buffer)) (ltb-not (length buffer) steps.replyRoom)
+      (λ _. contrary seen (view L s m buffer) (not (steps.allowed L)) (allowed (extentOf L)) (same-test (L .log) (L .waiting)) (λ _. session-agrees s) (λ _. refl))
       (λ _. refl))
       (λ _. refl)
 
-module _ (log : Bytes) (L : Ledger archive) (owned : (r : Row) → List·Memᴰ r (L .rows) → not (same (r .score) zeroScore) ≡ true)
-    (b : blocks archive log ≡ intact archive L) (u : used log ≡ end archive L) where
-  pub mirrors : Mirrors log (intact archive L) (end archive L)
+module _ (log : Lent) (L : Ledger archive) (owned : (r : Row) → List·Memᴰ r (L .rows) → not (same (r .score) zeroScore) ≡ true)
+    (b : blocks archive log ≡ intact archive L) (u : used (oneLog log) ≡ end archive L) where
+  pub mirrors : Mirrors (oneLog log) (intact archive L) (end archive L)
   mirrors = record {
     blocks = blocks-same log ∙ b;
     ends = u;
@@ -80,5 +95,6 @@ module _ (log : Bytes) (L : Ledger archive) (owned : (r : Row) → List·Memᴰ 
         true≢false (sym (same-refl zeroScore) ∙ z));
   }
 
-  pub agrees : (s : Session) (q : Asked) → served log s q ≡ shown archive log (tell (L .rows) (L .changed) (L .start) (length log) s q)
-  agrees s q = step-agrees log (intact archive L) (end archive L) mirrors (q .message) (q .buffer) s
+  pub agrees : used (log .log) ≡ L .start → end archive L ≤ sectors (length (log .log)) → (s : Session) (q : Asked)
+      → served log s q ≡ shown archive log (tell (L .rows) (L .changed) (L .start) (extentOf log) s q)
+  agrees from fits s q = step-agrees log (intact archive L) (end archive L) (L .start) mirrors from fits (q .message) (q .buffer) s

@@ -1,8 +1,9 @@
--- A hello and a write of two sectors, byte for byte: the ledger adds a row. So there is a block of which a sector can be zeroed, and an append that can be torn.
-use mathlib.Core.Path.{_≡_, refl, sym, ap, _∙_}
-use mathlib.Core.Bool.{true, false}
+-- A hello and a write of two sectors, byte for byte: the ledger adds a row, which waits where a waiting part is lent. So there is a block of which
+-- a sector can be zeroed, an append that can be torn, and a sync that can be.
+use mathlib.Core.Path.{_≡_, refl, ap, _∙_}
+use mathlib.Core.Bool.{Bool, true, false, cond}
 use mathlib.Core.List.{[], _∷_, _++_, List·Memᴰ, List·Memᴰ·head}
-use mathlib.Core.Option.{none, some}
+use mathlib.Core.Option.{Option, none, some}
 use Prim.Native.Nat.{ℕ, _≤_, _<_}
 use native.Mathlib.Omega.{arith}
 use lib.Dec.{lit<}
@@ -17,28 +18,30 @@ use Rattle.message.specs.Message.{framed, textEnd, countedEnd, bytesEnd, exactl
 use Rattle.message.specs.Reply.{helloReply, writeReply}
 use Rattle.kind.specs.Kind.{lawful, zeroScore}
 use Rattle.block.specs.Block.{Row, partsOf}
-use Rattle.log.specs.LookUp.{logAllowed}
-use Rattle.archive.specs.Step.{replyRoom}
-use Rattle.archive.specs.declared.Session.{Session}
-use Rattle.archive.specs.declared.Session.the-variants.{Fresh, Greeted}
+use Rattle.log.specs.LookUp.{logAllowed, waitingAllowed, lentAllowed}
+use Rattle.request.specs.Step.{replyRoom, allowed}
+use Rattle.request.specs.declared.Session.{Session}
+use Rattle.request.specs.declared.Session.the-variants.{Fresh, Greeted}
 use Rattle.ledger.specs.Archive.{Effect, stays, adds, Ruling}
-use Rattle.ledger.specs.Ledger.{empty, covers, note, next}
+use Rattle.ledger.specs.Ledger.{Ledger, has, empty, covers, enter, settle, note, next}
 use Rattle.ledger.specs.History.{Item, plus, Books, ruling, blank-books}
 use Rattle.ledger.specs.Events.{ask, books-then}
 use Rattle.ledger.proofs.Covers.{covers-in}
 use Rattle.ledger.proofs.Ends.{end-row}
 use Rattle.ledger.proofs.Reflects.{used-end}
-use Rattle.demands.specs.Ledger.{Answer, Decision, reply, rulingOf, firstRow, writeRow, decision}
-use Rattle.demands.specs.Instance.{archive}
+use Rattle.demands.specs.Ledger.{Extent, roomFrom, Answer, Decision, reply, rulingOf, firstRow, decision}
+use Rattle.demands.specs.Instance.{extentOf, void, archive}
 use Rattle.demands.specs.Requests.{Writes}
 use Rattle.demands.specs.Events as claims
-use Rattle.demands.specs.Events.{Past, logThen, ledgerThen}
+use Rattle.demands.specs.Events.{Past, logThen, ledgerThen, OnItsWay}
 use Rattle.demands.proofs.Laws.{lawful as laws}
 use Rattle.demands.proofs.TellAdds.{rowOf}
-use Rattle.demands.proofs.Known.{write-decision}
-use Rattle.demands.proofs.Events.{mirrors}
+use Rattle.demands.proofs.LentLaws.{extent-void, start-none}
+use Rattle.demands.proofs.Known.{same-allowed, write-decision}
+use Rattle.demands.proofs.Events.{stands, mirrors}
 use Rattle.demands.proofs.Hurts.{only}
-use Rattle.demands.proofs.MayBe.{any-sector-may-be-zeroed, any-append-may-be-torn}
+use Rattle.demands.proofs.MayBe.{any-sector-may-be-zeroed, any-write-may-be-torn}
+use Rattle.demands.proofs.Torn.{on-its-way}
 
 -- "hello 00 0b 04 00 00 02 30 32 00 00 00 00 00"; a write of 404 times `a` as a data block, tag 1
 hello : Bytes
@@ -57,19 +60,6 @@ enough : replyRoom ≤ length room
 unfolding room
 enough = omega (arith, length-replicate {A = ℕ} replyRoom 0)
 
-hello-decides : decision [] 0 1024 Fresh (record { message = hello; buffer = room }) ≡ reply (helloReply 0) Greeted stays
-unfolding hello decision framed digits valueFrom follows textEnd countedEnd bytesEnd exactly requestOf logAllowed
-hello-decides = rw (le-leb replyRoom (length room) enough)
-
-well-formed : Writes put room (replicate 1024 0) 13 letters
-unfolding put letters framed digits valueFrom writeOf requestOf logAllowed lawful
-well-formed = record {
-  asks = record { frame = refl; buffer-room = enough; log-length = refl; request = refl };
-  content = refl;
-  lawful-type = refl;
-  not-long = omega arith;
-}
-
 other-score : same (sha1Of letters) zeroScore ≡ false
 unfolding letters digits valueFrom wordsOf snocWord scheduleOf roundOf roundsOf addHash compressOf hashOf padOf paddedMessage digestOf sha1Of zeroScore
 other-score = refl
@@ -86,32 +76,12 @@ two-parts : partsOf (length letters) ≡ 2
 unfolding letters partsOf
 two-parts = refl
 
-put-decides : decision [] 0 1024 Greeted (record { message = put; buffer = room }) ≡ reply (writeReply (tagOf put) (sha1Of letters)) Greeted (adds stored)
-unfolding firstRow
-put-decides =
-    ap (λ (n : ℕ). decision [] 0 n Greeted (record { message = put; buffer = room })) (sym (length-replicate {A = ℕ} 1024 0))
-    ∙ write-decision 13 letters [] 0 put room (replicate 1024 0) well-formed
-    ∙ ap (λ (n : ℕ). writeRow [] 0 n 13 letters (tagOf put)) (length-replicate {A = ℕ} 1024 0)
-    ∙ rw (ne-eqb (length letters) 0 (λ z. omega (arith, z, long)), other-score, two-parts)
-
 asked-hello : Item archive
 asked-hello = record { request = record { message = hello; buffer = room }; left-by = none }
 
 asked-put : Item archive
 asked-put = record { request = record { message = put; buffer = room }; left-by = some 0 }
 
--- a blank log of two sectors, a hello, and the write
-abbrev start : Books archive
-start = blank-books archive 1024
-
-blank-length : length (start .begin) ≡ 1024
-blank-length = length-replicate {A = ℕ} 1024 0
-
-greeted-ruling : ruling archive start asked-hello ≡ rulingOf Fresh hello room (reply (helloReply 0) Greeted stays)
-unfolding asked-hello
-greeted-ruling = ap (λ (n : ℕ). rulingOf Fresh hello room (decision [] 0 n Fresh (record { message = hello; buffer = room }))) blank-length ∙ ap (rulingOf Fresh hello room) hello-decides
-
--- after the hello, and after the write
 hello-small : small hello ≡ true
 unfolding hello
 hello-small = refl
@@ -120,45 +90,128 @@ put-small : small put ≡ true
 unfolding put
 put-small = refl
 
-one : Past
-unfolding asked-hello
-one = record { size = 1024; events = ask asked-hello ∷ []; possible = (hello-small, tt) }
-
-two : Past
-unfolding asked-hello asked-put
-two = record { size = 1024; events = ask asked-hello ∷ ask asked-put ∷ []; possible = (hello-small, (put-small, tt)) }
-
-put-effect : ruling archive (books-then archive one) asked-put .effect ≡ adds stored
-unfolding one asked-put
-put-effect =
-    ap (λ (o : Ruling Answer Session Row). ruling archive (after o) asked-put .effect) greeted-ruling
-    ∙ ap (λ (n : ℕ). rulingOf Greeted put room (decision [] 0 n Greeted (record { message = put; buffer = room })) .effect) blank-length
-    ∙ ap (λ (d : Decision). rulingOf Greeted put room d .effect) put-decides
-  where
-    after : Ruling Answer Session Row → Books archive
-    after o = record { begin = start .begin; done = plus archive [] o; ledger = next archive (length (start .begin)) (empty archive) o; past = o .session ∷ [] }
-
-rows-two : ledgerThen two .rows ≡ stored ∷ []
-unfolding one two
-rows-two =
-    ap (λ (a : Effect Row). (note archive (length (start .begin)) a (ledgerThen one)) .rows) put-effect
-    ∙ ap (λ (o : Ruling Answer Session Row). (next archive (length (start .begin)) (empty archive) o) .rows ++ (stored ∷ [])) greeted-ruling
-
-in-two : List·Memᴰ stored (ledgerThen two .rows)
-in-two = rw rows-two (List·Memᴰ·head refl)
-
 covered : (n : ℕ) → n < 2 → covers archive stored n ≡ true
 covered n h = covers-in archive stored n (omega arith) (omega (arith, h, two-parts))
 
+-- a row that is added is the last one
+note-rows : (x : Extent) (L : Ledger archive) (r : Row) → (note archive x (adds r) L) .rows ≡ L .rows ++ (r ∷ [])
+note-rows x L r = go (archive .waits x)
+  where
+    go : (b : Bool) → (cond b (enter archive r L) (settle archive (enter archive r L))) .rows ≡ L .rows ++ (r ∷ [])
+    go true = refl
+    go false = refl
+
+-- a blank log of two sectors, with a waiting part or none, in which there is room for both
+abbrev lengths : Option ℕ → Extent
+lengths o = record { size = 1024; waiting = o }
+
+module _ (o : Option ℕ) (ok : allowed (void (lengths o)) ≡ true) (fit : roomFrom (extentOf (void (lengths o))) 0 0 2 ≡ true) where
+  abbrev start : Books archive
+  start = blank-books archive (lengths o)
+
+  abbrev size : Extent
+  size = extentOf (start .begin)
+
+  hello-decides : decision [] 0 0 size Fresh (record { message = hello; buffer = room }) ≡ reply (helloReply 0) Greeted stays
+  unfolding hello decision framed digits valueFrom follows textEnd countedEnd bytesEnd exactly requestOf
+  hello-decides = rw (le-leb replyRoom (length room) enough, same-allowed (start .begin .log) (start .begin .waiting) ok)
+
+  well-formed : Writes put room (start .begin) 13 letters
+  unfolding put letters framed digits valueFrom writeOf requestOf lawful
+  well-formed = record {
+    asks = record { frame = refl; buffer-room = enough; lent-allowed = ok; request = refl };
+    content = refl;
+    lawful-type = refl;
+    not-long = omega arith;
+  }
+
+  put-decides : decision [] 0 0 size Greeted (record { message = put; buffer = room }) ≡ reply (writeReply (tagOf put) (sha1Of letters)) Greeted (adds stored)
+  unfolding firstRow
+  put-decides =
+      write-decision 13 letters [] 0 0 put room (start .begin) well-formed
+      ∙ rw (ne-eqb (length letters) 0 (λ z. omega (arith, z, long)), other-score, two-parts, fit)
+
+  greeted-ruling : ruling archive start asked-hello ≡ rulingOf Fresh hello room (reply (helloReply 0) Greeted stays)
+  unfolding asked-hello
+  greeted-ruling = ap (rulingOf Fresh hello room) hello-decides
+
+  -- after the hello, and after the write
+  one : Past
+  unfolding asked-hello
+  one = record { size = lengths o; events = ask asked-hello ∷ []; possible = (hello-small, tt) }
+
+  two : Past
+  unfolding asked-hello asked-put
+  two = record { size = lengths o; events = ask asked-hello ∷ ask asked-put ∷ []; possible = (hello-small, (put-small, tt)) }
+
+  put-effect : ruling archive (books-then archive one) asked-put .effect ≡ adds stored
+  unfolding one asked-put
+  put-effect =
+      ap (λ (u : Ruling Answer Session Row). ruling archive (after u) asked-put .effect) greeted-ruling
+      ∙ ap (λ (d : Decision). rulingOf Greeted put room d .effect) put-decides
+    where
+      after : Ruling Answer Session Row → Books archive
+      after u = record { begin = start .begin; done = plus archive [] u; ledger = next archive size (empty archive) u; past = u .session ∷ [] }
+
+  -- a property of the ledger after the write is one of the row added to an empty ledger
+  ledger-two : ledgerThen two ≡ note archive size (adds stored) (empty archive)
+  unfolding one two
+  ledger-two =
+      ap (λ (a : Effect Row). note archive size a (ledgerThen one)) put-effect
+      ∙ ap (λ (u : Ruling Answer Session Row). note archive size (adds stored) (next archive size (empty archive) u)) greeted-ruling
+
+  in-two : List·Memᴰ stored (ledgerThen two .rows)
+  in-two = rw (ledger-two, note-rows size (empty archive) stored) (List·Memᴰ·head refl)
+
+  size-two : extentOf (logThen two) ≡ lengths o
+  unfolding two
+  size-two = stands two .size ∙ extent-void (lengths o)
+
+-- without a waiting part, and with one of two sectors
+alone-allowed : allowed (void (lengths none)) ≡ true
+unfolding logAllowed
+alone-allowed = refl
+
+alone-fit : roomFrom (extentOf (void (lengths none))) 0 0 2 ≡ true
+unfolding roomFrom
+alone-fit = refl
+
+beside-allowed : allowed (void (lengths (some 1024))) ≡ true
+unfolding lentAllowed logAllowed waitingAllowed
+beside-allowed = refl
+
+beside-fit : roomFrom (extentOf (void (lengths (some 1024)))) 0 0 2 ≡ true
+unfolding roomFrom
+beside-fit = refl
+
 pub zeroed-can-be : claims.ZeroedCanBe
 zeroed-can-be =
-    let u = used-end archive laws (logThen two) (ledgerThen two) (mirrors two) in
-    let z = any-sector-may-be-zeroed two 0 (omega (arith, u, two-parts, end-row archive (ledgerThen two .rows) stored in-two)) in
-    (two, stored, 0, z .0, in-two, covered 0 (lit< tt), z .1, z .2)
+    let h = two none alone-allowed alone-fit in
+    let m = in-two none alone-allowed alone-fit in
+    let rests = start-none (logThen h .log) (logThen h .waiting) (ap (archive .waits) (size-two none alone-allowed alone-fit)) in
+    let u = used-end archive laws (logThen h) (ledgerThen h) (mirrors h) in
+    let z = any-sector-may-be-zeroed h 0 rests (omega (arith, u, two-parts, end-row archive (ledgerThen h .rows) stored m)) in
+    (h, stored, 0, z .0, m, covered 0 (lit< tt), z .1, z .2)
+
+-- the second sector arrived and the first is torn
+apart : (n : ℕ) → has n (0 ∷ []) ≡ true → has n (1 ∷ []) ≡ false
+apart n e = rw (only 0 n e)
 
 pub torn-can-be : claims.TornCanBe
 unfolding asked-put
 torn-can-be =
-    let t = any-append-may-be-torn one asked-put stored put-small put-effect (1 ∷ []) (0 ∷ [])
-    (λ n e. covered n (omega (arith, only 1 n e))) (λ n e. covered n (omega (arith, only 0 n e))) (λ n e. rw (only 0 n e)) in
-    (one, asked-put, stored, t .0, put-effect, two-parts, t .1)
+    let h = one none alone-allowed alone-fit in
+    let e = put-effect none alone-allowed alone-fit in
+    let way = on-its-way h asked-put stored put-small e in
+    let t = any-write-may-be-torn h (some asked-put) (1 ∷ []) (0 ∷ []) none put-small
+    (λ n i. (stored, way, covered n (omega (arith, only 1 n i)))) (λ n i. (stored, way, covered n (omega (arith, only 0 n i)))) apart in
+    (h, asked-put, stored, t .0, e, two-parts, t .1)
+
+pub torn-sync-can-be : claims.TornSyncCanBe
+torn-sync-can-be =
+    let h = two (some 1024) beside-allowed beside-fit in
+    let starts : ledgerThen h .start ≡ 0 = ap (λ (L : Ledger archive). L .start) (ledger-two (some 1024) beside-allowed beside-fit) in
+    let way : OnItsWay h none stored = (in-two (some 1024) beside-allowed beside-fit, omega (arith, starts)) in
+    let t = any-write-may-be-torn h none (1 ∷ []) (0 ∷ []) none tt
+    (λ n i. (stored, way, covered n (omega (arith, only 1 n i)))) (λ n i. (stored, way, covered n (omega (arith, only 0 n i)))) apart in
+    (h, stored, t .0, way, two-parts, t .1)

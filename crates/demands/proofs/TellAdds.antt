@@ -1,14 +1,15 @@
 -- A row that the ledger adds can be written, stands at the end, has room, is not of the zero score, and is what a write asked for.
-use mathlib.Core.Path.{_≡_, refl, ap, _∙_, sym}
+use mathlib.Core.Path.{_≡_, refl, ap, _∙_, sym, subst}
 use mathlib.Core.Bool.{Bool, true, false, cond, not, false≢true}
 use mathlib.Core.List.{List}
-use mathlib.Core.Option.{none}
+use mathlib.Core.Option.{Option, none, some}
 use Prim.Native.Nat.{ℕ, _+_, _%_, _/_, _≤_}
 use native.Mathlib.Omega.{arith}
 use lib.Dec.{leb, ltb, eqb}
 use lib.ListN.{length}
 use borrow.Author.Tests.{ltb-false, leb-true, le-leb, eqb-false}
-use Rattle.ground.proofs.Cases.{on-ind}
+use Rattle.ground.specs.Choice.{on}
+use Rattle.ground.proofs.Cases.{on-ind, and-true}
 use Rattle.buffer.specs.Bytes.{Bytes, same}
 use Rattle.buffer.proofs.Bytes.{small-drop}
 use Rattle.word.specs.Number.{small}
@@ -21,14 +22,16 @@ use Rattle.kind.specs.Kind.{lawful, longest, zeroScore}
 use Rattle.block.specs.Block.{Row, parts, partsOf, valid}
 use Rattle.block.specs.Log.{sectors}
 use Rattle.block.proofs.Facts.{facts-valid}
-use Rattle.log.specs.LookUp.{logAllowed, mostSectors}
-use Rattle.archive.specs.Step.{replyRoom, version}
-use Rattle.archive.specs.declared.Session.{Session}
-use Rattle.archive.specs.declared.Session.the-variants.{Fresh, Greeted, Closed as Shut}
-use Rattle.ledger.specs.Archive.{Effect, stays, adds}
+use Rattle.log.specs.LookUp.{logAllowed, waitingAllowed, lentAllowed, mostSectors}
+use Rattle.request.specs.Step as steps
+use Rattle.request.specs.Step.{replyRoom, version}
+use Rattle.request.specs.declared.Session.{Session}
+use Rattle.request.specs.declared.Session.the-variants.{Fresh, Greeted, Closed as Shut}
+use Rattle.ledger.specs.Archive.{Effect, stays, adds, settles}
 use Rattle.ledger.specs.Ledger.{Ledger, intact, end}
-use Rattle.demands.specs.Ledger.{Asked, Decision, silence, refusal, reply, close, rulingOf, firstRow, writeRow, readRow, decide, bySession, decision, tell}
+use Rattle.demands.specs.Ledger.{Asked, Extent, allowed, roomFrom, Decision, silence, refusal, reply, close, rulingOf, firstRow, writeRow, readRow, decide, bySession, decision, tell}
 use Rattle.demands.specs.Instance.{archive}
+use Rattle.demands.proofs.LentLaws.{room-inside}
 
 log-allowed : (m : ℕ) → logAllowed m ≡ true → sectors m ≤ mostSectors
 unfolding logAllowed
@@ -37,6 +40,20 @@ log-allowed m e = go (eqb (m % 512) 0) e
     go : (b : Bool) → cond b (leb (m / 512) mostSectors) false ≡ true → sectors m ≤ mostSectors
     go true q = leb-true (m / 512) mostSectors q
     go false q = absurd (false≢true q)
+
+-- test 3 of all that is lent is that of the log, too
+allowed-log : (x : Extent) → allowed x ≡ true → logAllowed (x .size) ≡ true
+unfolding lentAllowed
+allowed-log x a = go (x .waiting) a
+  where
+    go : (o : Option ℕ) → on o (logAllowed (x .size)) (lentAllowed (x .size)) ≡ true → logAllowed (x .size) ≡ true
+    go none q = q
+    go (some k) q = and-true (logAllowed (x .size)) (waitingAllowed k) q .0
+
+pub log-allowed-of : (log : Bytes) (o : Option Bytes) → steps.allowed (record { log = log; waiting = o }) ≡ true → logAllowed (length log) ≡ true
+unfolding lentAllowed
+log-allowed-of log none q = q
+log-allowed-of log (some w) q = and-true (logAllowed (length log)) (waitingAllowed (length w)) q .0
 
 -- the row that a write of type t and data d makes, where the end is e
 abbrev pub rowOf : ℕ → Bytes → ℕ → Row
@@ -54,11 +71,11 @@ row-valid t d e m a l le n sm room = facts-valid (rowOf t d e) (record {
   place = omega (arith, log-allowed m a);
 })
 
--- what holds of a row that is added: rows are the intact ones, e is the end, size the log's length, q and m the request
-pub record Fits (rows : List Row) (e size : ℕ) (q : Request) (m : Bytes) (r : Row) : Type 0 where
+-- what holds of a row that is added: rows are the intact ones, e is the end, the rows wait from st on, x is what is lent, q and m the request
+pub record Fits (rows : List Row) (e st : ℕ) (x : Extent) (q : Request) (m : Bytes) (r : Row) : Type 0 where
   pub ok : valid r ≡ true
   pub here : r .first ≡ e
-  pub room : r .first + parts r ≤ sectors size
+  pub room : roomFrom x st (r .first) (parts r) ≡ true
   pub owned : not (same (r .score) zeroScore) ≡ true
   pub asked : q ≡ Write (r .kind)
   pub scored : r .score ≡ sha1Of (dataOf m)
@@ -71,6 +88,12 @@ added (refusal w) = stays
 added (reply b s a) = a
 added close = stays
 
+-- no row is added
+abbrev Quiet : Effect Row → Type 0
+Quiet stays = Unit {0}
+Quiet (adds r) = ⊥
+Quiet settles = Unit {0}
+
 outcome-added : (s : Session) (m buffer : Bytes) (d : Decision) → (rulingOf s m buffer d) .effect ≡ added d
 outcome-added s m buffer (silence w) = refl
 outcome-added s m buffer (refusal w) = refl
@@ -78,31 +101,33 @@ outcome-added s m buffer (reply b s′ a) = refl
 outcome-added s m buffer close = refl
 
 -- if a decision adds a row, it fits
-record Good (rows : List Row) (e size : ℕ) (q : Request) (m : Bytes) (d : Decision) : Type 0 where
-  fits : (r : Row) → added d ≡ adds r → Fits rows e size q m r
+record Good (rows : List Row) (e st : ℕ) (x : Extent) (q : Request) (m : Bytes) (d : Decision) : Type 0 where
+  fits : (r : Row) → added d ≡ adds r → Fits rows e st x q m r
 
-module _ {rows : List Row} {e size : ℕ} {q : Request} {m : Bytes} where
-  nothing : {d : Decision} → added d ≡ stays → Good rows e size q m d
-  nothing n = record { fits = λ r g. let z : _≡_ {A = ℕ} 0 1 = cc in absurd (omega arith) }
+module _ {rows : List Row} {e st : ℕ} {x : Extent} {q : Request} {m : Bytes} where
+  nothing : {d : Decision} → Quiet (added d) → Good rows e st x q m d
+  nothing n = record { fits = λ r g. absurd (subst Quiet g n) }
 
-  by-test : (b : Bool) {x y : Decision} → (b ≡ true → Good rows e size q m x) → (b ≡ false → Good rows e size q m y) → Good rows e size q m (cond b x y)
+  by-test : (b : Bool) {c d : Decision} → (b ≡ true → Good rows e st x q m c) → (b ≡ false → Good rows e st x q m d) → Good rows e st x q m (cond b c d)
   by-test true f g = f refl
   by-test false f g = g refl
 
-module _ (rows : List Row) (e size : ℕ) where
-  write-good : (t : ℕ) (m : Bytes) → logAllowed size ≡ true → lawful t ≡ true → leb (length (dataOf m)) longest ≡ true → small (dataOf m) ≡ true
-      → Good rows e size (Write t) m (writeRow rows e size t (dataOf m) (tagOf m))
+module _ (rows : List Row) (e st : ℕ) (x : Extent) where
+  write-good : (t : ℕ) (m : Bytes) → allowed x ≡ true → lawful t ≡ true → leb (length (dataOf m)) longest ≡ true → small (dataOf m) ≡ true
+      → Good rows e st x (Write t) m (writeRow rows e st x t (dataOf m) (tagOf m))
   write-good t m a l le sm =
-      by-test (eqb (length (dataOf m)) 0) (λ _. nothing refl) (λ n.
-      on-ind (λ d. Good rows e size (Write t) m d) (firstRow t (sha1Of (dataOf m)) rows) _ _
-      (λ f. by-test (same (sha1Of (dataOf m)) zeroScore) (λ _. nothing refl) (λ z.
-      by-test (ltb (sectors size) (e + partsOf (length (dataOf m)))) (λ _. nothing refl) (λ room.
-      record { fits = λ r q. let eq : rowOf t (dataOf m) e ≡ r = cc in rw (← eq) (new f n z (ltb-false (sectors size) (e + partsOf (length (dataOf m))) room)) })))
-      (λ r _. by-test (same (r .bytes) (dataOf m)) (λ _. nothing refl) (λ _. nothing refl)))
+      by-test (eqb (length (dataOf m)) 0) (λ _. nothing tt) (λ n.
+      on-ind (λ d. Good rows e st x (Write t) m d) (firstRow t (sha1Of (dataOf m)) rows) _ _
+      (λ f. by-test (same (sha1Of (dataOf m)) zeroScore) (λ _. nothing tt) (λ z.
+      by-test (roomFrom x st e (partsOf (length (dataOf m))))
+      (λ room. record { fits = λ r q. let eq : rowOf t (dataOf m) e ≡ r = cc in rw (← eq) (new f n z room) })
+      (λ _. nothing tt)))
+      (λ r _. by-test (same (r .bytes) (dataOf m)) (λ _. nothing tt) (λ _. nothing tt)))
     where
-      new : firstRow t (sha1Of (dataOf m)) rows ≡ none → eqb (length (dataOf m)) 0 ≡ false → same (sha1Of (dataOf m)) zeroScore ≡ false → e + partsOf (length (dataOf m)) ≤ sectors size → Fits rows e size (Write t) m (rowOf t (dataOf m) e)
+      new : firstRow t (sha1Of (dataOf m)) rows ≡ none → eqb (length (dataOf m)) 0 ≡ false → same (sha1Of (dataOf m)) zeroScore ≡ false → roomFrom x st e (partsOf (length (dataOf m))) ≡ true → Fits rows e st x (Write t) m (rowOf t (dataOf m) e)
       new f n z room = record {
-        ok = row-valid t (dataOf m) e size a l (leb-true (length (dataOf m)) longest le) (eqb-false (length (dataOf m)) 0 n) sm room;
+        ok = row-valid t (dataOf m) e (x .size) (allowed-log x a) l (leb-true (length (dataOf m)) longest le) (eqb-false (length (dataOf m)) 0 n) sm
+            (room-inside x st e (partsOf (length (dataOf m))) room);
         here = refl;
         room = room;
         owned = ap not z;
@@ -111,54 +136,54 @@ module _ (rows : List Row) (e size : ℕ) where
         alone = f;
       }
 
-  read-good : (q : Request) (m : Bytes) (t count : ℕ) (s : Bytes) (tag : ℕ) → Good rows e size q m (readRow rows e size t count s tag)
+  read-good : (q : Request) (m : Bytes) (t count : ℕ) (s : Bytes) (tag : ℕ) → Good rows e st x q m (readRow rows e st x t count s tag)
   read-good q m t count s tag =
-      by-test (same s zeroScore) (λ _. nothing refl) (λ _.
-      on-ind (λ d. Good rows e size q m d) (firstRow t s rows) _ _
-      (λ _. nothing refl)
-      (λ r _. by-test (leb (length (r .bytes)) count) (λ _. nothing refl) (λ _. nothing refl)))
+      by-test (same s zeroScore) (λ _. nothing tt) (λ _.
+      on-ind (λ d. Good rows e st x q m d) (firstRow t s rows) _ _
+      (λ _. nothing tt)
+      (λ r _. by-test (leb (length (r .bytes)) count) (λ _. nothing tt) (λ _. nothing tt)))
 
-  decide-good : (g : Bool) (q : Request) (m : Bytes) → logAllowed size ≡ true → small m ≡ true → Good rows e size q m (decide rows e size g q m)
-  decide-good g Unknown m a sm = nothing refl
-  decide-good g Ill m a sm = nothing refl
-  decide-good g Goodbye m a sm = nothing refl
-  decide-good false Hello m a sm = by-test (same (versionOf m) version) (λ _. nothing refl) (λ _. nothing refl)
-  decide-good false Ping m a sm = nothing refl
-  decide-good false Sync m a sm = nothing refl
-  decide-good false (Read t c) m a sm = nothing refl
-  decide-good false (Write t) m a sm = nothing refl
-  decide-good true Hello m a sm = nothing refl
-  decide-good true Ping m a sm = nothing refl
-  decide-good true Sync m a sm = nothing refl
-  decide-good true (Read t c) m a sm = by-test (lawful t) (λ _. read-good (Read t c) m t c (scoreOf m) (tagOf m)) (λ _. nothing refl)
+  decide-good : (g : Bool) (q : Request) (m : Bytes) → allowed x ≡ true → small m ≡ true → Good rows e st x q m (decide rows e st x g q m)
+  decide-good g Unknown m a sm = nothing tt
+  decide-good g Ill m a sm = nothing tt
+  decide-good g Goodbye m a sm = nothing tt
+  decide-good false Hello m a sm = by-test (same (versionOf m) version) (λ _. nothing tt) (λ _. nothing tt)
+  decide-good false Ping m a sm = nothing tt
+  decide-good false Sync m a sm = nothing tt
+  decide-good false (Read t c) m a sm = nothing tt
+  decide-good false (Write t) m a sm = nothing tt
+  decide-good true Hello m a sm = nothing tt
+  decide-good true Ping m a sm = nothing tt
+  decide-good true Sync m a sm = nothing tt
+  decide-good true (Read t c) m a sm = by-test (lawful t) (λ _. read-good (Read t c) m t c (scoreOf m) (tagOf m)) (λ _. nothing tt)
   decide-good true (Write t) m a sm =
       by-test (lawful t) (λ l.
-      by-test (leb (length (dataOf m)) longest) (λ le. write-good t m a l le (small-drop 8 m sm)) (λ _. nothing refl))
-      (λ _. nothing refl)
+      by-test (leb (length (dataOf m)) longest) (λ le. write-good t m a l le (small-drop 8 m sm)) (λ _. nothing tt))
+      (λ _. nothing tt)
 
-  by-session : {q : Request} {m : Bytes} (s : Session) {f : Bool → Decision} → ((g : Bool) → Good rows e size q m (f g)) → Good rows e size q m (bySession s (silence Closed) f)
+  by-session : {q : Request} {m : Bytes} (s : Session) {f : Bool → Decision} → ((g : Bool) → Good rows e st x q m (f g)) → Good rows e st x q m (bySession s (silence Closed) f)
   by-session Fresh h = h false
   by-session Greeted h = h true
-  by-session Shut h = nothing refl
+  by-session Shut h = nothing tt
 
-  decision-good : (s : Session) (q : Asked) → small (q .message) ≡ true → Good rows e size (requestOf (q .message)) (q .message) (decision rows e size s q)
+  decision-good : (s : Session) (q : Asked) → small (q .message) ≡ true → Good rows e st x (requestOf (q .message)) (q .message) (decision rows e st x s q)
   unfolding decision
   decision-good s q sm =
       by-test (framed (q .message)) (λ _.
       by-test (leb replyRoom (length (q .buffer))) (λ _.
-      by-test (logAllowed size) (λ a.
+      by-test (allowed x) (λ a.
       by-session s (λ g. decide-good g (requestOf (q .message)) (q .message) a sm))
-      (λ _. nothing refl)) (λ _. nothing refl)) (λ _. nothing refl)
+      (λ _. nothing tt)) (λ _. nothing tt)) (λ _. nothing tt)
 
-pub tell-fits : (L : Ledger archive) (size : ℕ) (s : Session) (q : Asked) (r : Row) → small (q .message) ≡ true → (tell (L .rows) (L .changed) (L .start) size s q) .effect ≡ adds r
-    → Fits (intact archive L) (end archive L) size (requestOf (q .message)) (q .message) r
-tell-fits L size s q r sm g =
-    let d = decision (intact archive L) (end archive L) size s q in
-    decision-good (intact archive L) (end archive L) size s q sm .fits r (sym (outcome-added s (q .message) (q .buffer) d) ∙ g)
+pub tell-fits : (L : Ledger archive) (x : Extent) (s : Session) (q : Asked) (r : Row) → small (q .message) ≡ true → (tell (L .rows) (L .changed) (L .start) x s q) .effect ≡ adds r
+    → Fits (intact archive L) (end archive L) (L .start) x (requestOf (q .message)) (q .message) r
+tell-fits L x s q r sm g =
+    let d = decision (intact archive L) (end archive L) (L .start) x s q in
+    decision-good (intact archive L) (end archive L) (L .start) x s q sm .fits r (sym (outcome-added s (q .message) (q .buffer) d) ∙ g)
 
-pub tell-adds : (L : Ledger archive) (size : ℕ) (s : Session) (q : Asked) (r : Row) → small (q .message) ≡ true → (tell (L .rows) (L .changed) (L .start) size s q) .effect ≡ adds r
-    → (valid r ≡ true) × (r .first ≡ end archive L) × (leb (r .first + parts r) (sectors size) ≡ true) × (not (same (r .score) zeroScore) ≡ true)
-tell-adds L size s q r sm g = let f = tell-fits L size s q r sm g in (f .ok, f .here, le-leb (r .first + parts r) (sectors size) (f .room), f .owned)
+pub tell-adds : (L : Ledger archive) (x : Extent) (s : Session) (q : Asked) (r : Row) → small (q .message) ≡ true → (tell (L .rows) (L .changed) (L .start) x s q) .effect ≡ adds r
+    → (valid r ≡ true) × (r .first ≡ end archive L) × (roomFrom x (L .start) (r .first) (parts r) ≡ true) × (not (same (r .score) zeroScore) ≡ true)
+tell-adds L x s q r sm g = let f = tell-fits L x s q r sm g in (f .ok, f .here, f .room, f .owned)
 
 -- a row is added only with the answer 0
 pub added-answered : (s : Session) (m buffer : Bytes) (d : Decision) (r : Row) → (rulingOf s m buffer d) .effect ≡ adds r → (rulingOf s m buffer d) .answer .number ≡ 0

@@ -1,134 +1,113 @@
--- A stop inside a write: what was stored is there, what arrived whole too, what did not is not known or as if never written. And growth.
+-- A stop: what was settled is there; of what waited what arrived whole is too, what did not is not known or as if never written. And growth.
 use mathlib.Core.Path.{_≡_, refl, sym, ap, subst, _∙_}
 use mathlib.Core.Bool.{Bool, true, false, true≢false}
 use mathlib.Core.List.{List, [], _∷_, _++_, List·Memᴰ, List·Memᴰ·head, List·Memᴰ·tail, List·Memᴰ·append-cases, List·Memᴰ·eq-of-singleton}
 use mathlib.Core.Logic.{_≢_, _⊎_, inl, inr}
-use mathlib.Core.Option.{none, some}
+use mathlib.Core.Option.{Option, none, some}
 use Prim.Native.Nat.{ℕ, _≤_, _<_}
 use native.Mathlib.Omega.{arith}
 use lib.Dec.{ltb}
-use lib.ListN.{length}
-use borrow.Author.Tests.{ltb-true, ltb-false, not-true}
+use borrow.Author.Tests.{ltb-true, ltb-false, lt-ltb, not-true}
 use Rattle.buffer.specs.Bytes.{Bytes, same}
 use Rattle.buffer.proofs.Bytes.{same-refl}
 use Rattle.message.specs.Message.{requestOf}
 use Rattle.kind.specs.Kind.{zeroScore}
 use Rattle.block.specs.Block.{Row, parts}
-use Rattle.block.specs.Log.{at, used}
+use Rattle.block.specs.Log.{at, used, sound}
 use Rattle.block.proofs.Used.{at-beyond}
+use Rattle.log.specs.Parts.{Lent, oneLog}
 use Rattle.ledger.specs.Archive.{Effect, adds}
-use Rattle.ledger.specs.Ledger.{Ledger, has, hasAll, hit, intact, end, there, crashed, enter, Doubtful}
+use Rattle.ledger.specs.Ledger.{Ledger, has, hasAll, hit, intact, end, there, atSettling, enter, Doubtful}
 use Rattle.ledger.specs.Reflects.{Reflects}
 use Rattle.ledger.specs.History.{Item, given, ruling}
-use Rattle.ledger.specs.Events.{crash, begun, beginning, Possible, log-then, books-then}
+use Rattle.ledger.specs.Events.{crash, begun, beginning, log-then, books-then}
 use Rattle.ledger.proofs.Covers.{covers-in, hit-none, hit-not}
-use Rattle.ledger.proofs.Ends.{end-row}
 use Rattle.ledger.proofs.Intact.{intact-in, intact-out}
-use Rattle.ledger.proofs.Kept.{has-neither, keep-out, there-late}
+use Rattle.ledger.proofs.Kept.{has-neither, keep-out, keep-in, there-late}
+use Rattle.ledger.proofs.Doubt.{alone-early}
 use Rattle.ledger.proofs.Reflects.{used-end, row-sound}
-use Rattle.ledger.proofs.Happens.{follows-all}
-use Rattle.ledger.proofs.Aftermath.{stopped, same-start, settled-stays, whole-is-there, torn-is-doubtful, as-if-never-written}
-use Rattle.demands.specs.Ledger.{coveredBy, firstRow}
-use Rattle.demands.specs.Instance.{archive}
+use Rattle.ledger.proofs.Crash.{Pending}
+use Rattle.ledger.proofs.Stop.{reflects-stop}
+use Rattle.ledger.proofs.Happens.{pending, follows-all}
+use Rattle.ledger.proofs.Aftermath.{stopped, same-start, settled-stays, whole-is-there, torn-is-doubtful, nothing-behind}
+use Rattle.demands.specs.Ledger.{Extent, coveredBy}
+use Rattle.demands.specs.Instance.{extentOf, relent, archive}
 use Rattle.demands.specs.Events as claims
-use Rattle.demands.specs.Events.{Past, logThen, ledgerThen}
+use Rattle.demands.specs.Events.{Past, logThen, ledgerThen, Unchanged, OnItsWay, tornLedger, Torn}
 use Rattle.demands.proofs.Laws.{lawful}
 use Rattle.demands.proofs.LogLaws.{length-grown, at-grown}
+use Rattle.demands.proofs.LentLaws.{blank-behind}
 use Rattle.demands.proofs.First.{first-none}
 use Rattle.demands.proofs.TellAdds.{Fits, tell-fits}
 use Rattle.demands.proofs.Uncovered.{uncovered-at}
 use Rattle.demands.proofs.Doubt.{covering}
 use Rattle.demands.proofs.Moment.{read-unknown}
 use Rattle.demands.proofs.Events.{stands, mirrors, least, from-intact}
-use Rattle.demands.proofs.MayBe.{idle}
 
 pub growth-adds-blanks : claims.GrowthAddsBlanks
 growth-adds-blanks k log w = (length-grown k log, λ n. at-grown k log n w)
 
--- every row stands before the sector from which on rows wait
-early : (h : Past) (r : Row) → List·Memᴰ r (ledgerThen h .rows) → r .first < ledgerThen h .start
-early h r m =
-    omega (arith, idle (log-then archive h) (books-then archive h) (stands h), end-row archive (ledgerThen h .rows) r m, lawful .parts-pos r (mirrors h .valids r m))
+-- ---- what was settled
 
-pub torn-keeps-stored : claims.TornKeepsStored
-torn-keeps-stored h q arrived torn hurt t s r ok u =
-    settled-stays archive lawful h q arrived torn tt hurt ok r
-    (row-sound archive lawful (logThen h) (ledgerThen h) (mirrors h) r (u .stored) (hit-not archive (ledgerThen h .changed) r (u .wholly)))
-    (early h r (u .stored))
+start-used : (h : Past) → used (logThen h .log) ≡ ledgerThen h .start
+start-used h = stands h .waiting .starts
+
+-- an unchanged copy is sound in the log as it stands
+stands-sound : (h : Past) (t : ℕ) (s : Bytes) (r : Row) → Unchanged h t s r → sound (oneLog (logThen h)) (r .first) ≡ some r
+stands-sound h t s r u = row-sound archive lawful (logThen h) (ledgerThen h) (mirrors h) r (u .stored) (hit-not archive (ledgerThen h .changed) r (u .wholly))
+
+pub torn-keeps-settled : claims.TornKeepsSettled
+torn-keeps-settled h q arrived torn lend hurt t s r ok u early = settled-stays archive lawful h q arrived torn lend hurt ok r (stands-sound h t s r u) early
+
+pub stop-keeps-settled : claims.StopKeepsSettled
+stop-keeps-settled h lend t s r u early =
+    let L = ledgerThen h in
+    row-sound archive lawful (relent lend (logThen h)) (atSettling archive L) (reflects-stop archive lawful lend (logThen h) L (mirrors h) (stands h .waiting)) r
+    (keep-in archive (λ x. ltb (x .first) (L .start)) (L .rows) r (u .stored) (lt-ltb (r .first) (L .start) early))
+    (hit-not archive (L .changed) r (u .wholly))
+
+pub stop-drops-waiting : claims.StopDropsWaiting
+stop-drops-waiting h lend = (blank-behind (logThen h .log) lend, start-used h)
 
 pub torn-leaves-nothing : claims.TornLeavesNothing
-torn-leaves-nothing h q arrived torn hurt ok le n = go (ltb n (used (logThen h))) refl
+torn-leaves-nothing h q arrived torn lend hurt ok le n = go (ltb n (used (logThen h .log))) refl
   where
-    start-used : ledgerThen h .start ≡ used (logThen h)
-    start-used = sym (stands h .waiting .starts)
-
-    go : (b : Bool) → ltb n (used (logThen h)) ≡ b → at hurt n ≡ at (logThen h) n
-    go true p = stopped archive lawful h q arrived torn tt hurt ok .settled n
-        (omega (arith, ltb-true n (used (logThen h)) p, start-used, same-start archive lawful h q arrived torn tt hurt))
+    go : (b : Bool) → ltb n (used (logThen h .log)) ≡ b → at (oneLog hurt) n ≡ at (logThen h .log) n
+    go true p =
+        let lt = ltb-true n (used (logThen h .log)) p in
+        stopped archive lawful h q arrived torn lend hurt ok .settled n (omega (arith, lt, start-used h, same-start archive lawful h q arrived torn lend hurt))
+        ∙ sym (alone-early archive lawful lend (logThen h) n lt)
+        ∙ blank-behind (logThen h .log) lend n
     go false p =
-        let ge = ltb-false n (used (logThen h)) p in
-        as-if-never-written archive lawful h q arrived torn tt hurt ok n (omega (arith, ge, le)) ∙ sym (at-beyond (logThen h) n ge)
+        let ge = ltb-false n (used (logThen h .log)) p in
+        nothing-behind archive lawful h q arrived torn lend hurt ok n (omega (arith, ge, le)) ∙ sym (at-beyond (logThen h .log) n ge)
 
--- the row that the request had begun to write
-module _ (h : Past) (q : Item archive) (arrived torn : List ℕ) (hurt : Bytes) (r : Row)
-    (ok : Possible archive (books-then archive h) (crash (some q) arrived torn tt hurt)) (e : ruling archive (books-then archive h) q .effect ≡ adds r) where
-  abbrev started : Ledger archive
-  started = beginning archive (books-then archive h) (some q)
+-- ---- what was on its way
 
-  begins-so : started ≡ enter archive r (ledgerThen h)
-  begins-so = ap (λ (x : Effect Row). begun archive x (ledgerThen h)) e
+pub whole-is-read : claims.WholeIsThere
+whole-is-read h q arrived torn lend hurt r ok way all = whole-is-there archive lawful h q arrived torn lend hurt ok r way all
 
-  new : Fits (intact archive (ledgerThen h)) (end archive (ledgerThen h)) (length (books-then archive h .begin)) (requestOf (q .request .message)) (q .request .message) r
-  new = tell-fits (ledgerThen h) (length (books-then archive h .begin)) (given archive (books-then archive h .past) q) (q .request) r (ok .0) e
-
-  on-its-way : List·Memᴰ r (started .rows) × (ledgerThen h .start ≤ r .first)
-  on-its-way = (
-    subst (λ (L : Ledger archive). List·Memᴰ r (L .rows)) (sym begins-so) (last-in (ledgerThen h .rows)),
-    omega (arith, idle (log-then archive h) (books-then archive h) (stands h), new .here),
-  )
-    where
-      last-in : (rows : List Row) → List·Memᴰ r (rows ++ (r ∷ []))
-      last-in [] = List·Memᴰ·head refl
-      last-in (x ∷ rows) = List·Memᴰ·tail (last-in rows)
-
+module _ (h : Past) (q : Option (Item archive)) (arrived torn : List ℕ) (lend : Option ℕ) (hurt : Lent) (ok : Torn h q arrived torn lend hurt) where
   abbrev after : Ledger archive
-  after = crashed archive arrived torn started
+  after = tornLedger h q arrived torn
 
   reflects-after : Reflects archive hurt after
-  reflects-after = follows-all archive lawful (log-then archive h) (books-then archive h) (crash (some q) arrived torn tt hurt ∷ []) (ok, tt) (stands h) .left .mirrors
+  reflects-after = follows-all archive lawful (log-then archive h) (books-then archive h) (crash q arrived torn lend hurt ∷ []) (ok, tt) (stands h) .left .mirrors
 
-  module _ (out : hasAll arrived (r .first) (parts r) ≡ false) where
-    -- no intact row has its type and score: there was none, and it is not there itself
-    none-left : firstRow (r .kind) (r .score) (intact archive after) ≡ none
-    none-left = first-none (r .kind) (r .score) (intact archive after) (λ x m k s.
-        let p = intact-out archive (after .changed) (after .rows) x m in
-        let t = keep-out archive (there archive (started .start) arrived) (started .rows) x (p .0) in
-        which x k s (p .1) (t .1) (List·Memᴰ·append-cases (ledgerThen h .rows) (subst (λ (L : Ledger archive). List·Memᴰ x (L .rows)) begins-so (t .0))))
-      where
-        unhit : (x : Row) → hit archive (after .changed) x ≡ false → hit archive (ledgerThen h .changed) x ≡ false
-        unhit x f = hit-not archive (ledgerThen h .changed) x (λ n c.
-            let w : has n (started .changed) ≡ false =
-            has-neither n (started .changed) _ (hit-none archive (after .changed) x n f c) .0 in
-            ap (λ (L : Ledger archive). has n (L .changed)) (sym begins-so) ∙ w)
+  under-way : Pending archive (logThen h) (beginning archive (books-then archive h) q)
+  under-way = pending archive lawful (log-then archive h) (books-then archive h) (stands h) q (ok .0)
 
-        which : (x : Row) → x .kind ≡ r .kind → x .score ≡ r .score → hit archive (after .changed) x ≡ false
-            → there archive (started .start) arrived x ≡ true → List·Memᴰ x (ledgerThen h .rows) ⊎ List·Memᴰ x (r ∷ []) → ⊥
-        which x k s f t (inl m) =
-            let u = from-intact h (r .kind) (r .score) x (intact-in archive (ledgerThen h .changed) (ledgerThen h .rows) x m (unhit x f)) k s in
-            let l = least h (r .kind) (r .score) x u in
-            let c : none ≡ some (l .0) = sym (new .alone) ∙ l .1 in
-            let z : _≡_ {A = ℕ} 0 1 = cc in omega arith
-        which x k s f t (inr m) =
-            let late : started .start ≤ r .first = omega (arith, on-its-way .1, same-start archive lawful h (some q) arrived torn tt hurt) in
-            true≢false (sym (there-late archive (started .start) arrived r late (ap (there archive (started .start) arrived) (sym (List·Memᴰ·eq-of-singleton m)) ∙ t)) ∙ out)
+  module _ (r : Row) (way : OnItsWay h q r) where
+    not-zero : r .score ≢ zeroScore
+    not-zero z = true≢false (sym (same-refl zeroScore) ∙ ap (λ (s : Bytes). same s zeroScore) (sym z) ∙ not-true (same (r .score) zeroScore) (under-way .owneds r (way .0)))
 
-    -- its first sector is in no intact row
-    bare : r .first < used hurt → coveredBy (intact archive after) (r .first) ≡ false
-    bare u = go (coveredBy (intact archive after) (r .first)) refl
+    -- the first sector of one that did not arrive whole is in no intact row
+    bare : hasAll arrived (r .first) (parts r) ≡ false → r .first < used (oneLog hurt) → coveredBy (intact archive after) (r .first) ≡ false
+    bare out u = go (coveredBy (intact archive after) (r .first)) refl
       where
         doubt : Doubtful archive hurt (r .first)
-        doubt = torn-is-doubtful archive lawful h (some q) arrived torn tt hurt ok r on-its-way out (r .first)
-            (covers-in archive r (r .first) (omega arith) (omega (arith, lawful .parts-pos r (new .ok)))) u
+        doubt = torn-is-doubtful archive lawful h q arrived torn lend hurt ok r way out (r .first)
+            (covers-in archive r (r .first) (omega arith) (omega (arith, lawful .parts-pos r (under-way .valids r (way .0))))) u
 
         go : (b : Bool) → coveredBy (intact archive after) (r .first) ≡ b → coveredBy (intact archive after) (r .first) ≡ false
         go false c = c
@@ -137,15 +116,65 @@ module _ (h : Past) (q : Item archive) (arrived torn : List ℕ) (hurt : Bytes) 
             let p = intact-out archive (after .changed) (after .rows) (x .0) (x .1) in
             absurd (true≢false (sym (x .2) ∙ doubt .1 (x .0 .first) (x .0) (row-sound archive lawful hurt after reflects-after (x .0) (p .0) (p .1))))
 
-  not-zero : r .score ≢ zeroScore
-  not-zero z = true≢false (sym (same-refl zeroScore) ∙ ap (λ (s : Bytes). same s zeroScore) (sym z) ∙ not-true (same (r .score) zeroScore) (new .owned))
-
-pub whole-is-read : claims.WholeIsThere
-whole-is-read h q arrived torn hurt r ok e all = whole-is-there archive lawful h (some q) arrived torn tt hurt ok r (on-its-way h q arrived torn hurt r ok e) all
-
 pub torn-not-known : claims.TornNotKnown
-torn-not-known h q arrived torn hurt r count m buffer ok e out u Q =
-    let L = after h q arrived torn hurt r ok e in
-    let R = reflects-after h q arrived torn hurt r ok e in
-    read-unknown hurt L R (r .kind) count (r .score) m buffer (not-zero h q arrived torn hurt r ok e) Q (none-left h q arrived torn hurt r ok e out)
-    (uncovered-at (intact archive L) (end archive L) (r .first) (omega (arith, u, used-end archive lawful hurt L R)) (bare h q arrived torn hurt r ok e out u))
+torn-not-known h q arrived torn lend hurt r count m buffer ok way out u none-there Q =
+    let L = tornLedger h q arrived torn in
+    let R = reflects-after h q arrived torn lend hurt ok in
+    read-unknown hurt L R (r .kind) count (r .score) m buffer (not-zero h q arrived torn lend hurt ok r way) Q
+    (first-none (r .kind) (r .score) (intact archive L) none-there)
+    (uncovered-at (intact archive L) (end archive L) (r .first) (omega (arith, u, used-end archive lawful hurt L R)) (bare h q arrived torn lend hurt ok r way out u))
+
+-- the row that a request adds which was never answered
+module _ (h : Past) (q : Item archive) (r : Row) (small-so : archive .OfBytes (q .request)) (e : ruling archive (books-then archive h) q .effect ≡ adds r) where
+  abbrev started : Ledger archive
+  started = beginning archive (books-then archive h) (some q)
+
+  begins-so : started ≡ enter archive r (ledgerThen h)
+  begins-so = ap (λ (x : Effect Row). begun archive x (ledgerThen h)) e
+
+  abbrev size : Extent
+  size = extentOf (books-then archive h .begin)
+
+  new : Fits (intact archive (ledgerThen h)) (end archive (ledgerThen h)) (ledgerThen h .start) size (requestOf (q .request .message)) (q .request .message) r
+  new = tell-fits (ledgerThen h) size (given archive (books-then archive h .past) q) (q .request) r small-so e
+
+  pub on-its-way : OnItsWay h (some q) r
+  on-its-way = (
+    subst (λ (L : Ledger archive). List·Memᴰ r (L .rows)) (sym begins-so) (last-in (ledgerThen h .rows)),
+    omega (arith, stands h .waiting .before, new .here),
+  )
+    where
+      last-in : (rows : List Row) → List·Memᴰ r (rows ++ (r ∷ []))
+      last-in [] = List·Memᴰ·head refl
+      last-in (x ∷ rows) = List·Memᴰ·tail (last-in rows)
+
+  -- no intact row has its type and score if it did not arrive whole: there was none, and it is not there itself
+  module _ (arrived torn : List ℕ) (out : hasAll arrived (r .first) (parts r) ≡ false) where
+    abbrev left-so : Ledger archive
+    left-so = tornLedger h (some q) arrived torn
+
+    none-left : (x : Row) → List·Memᴰ x (intact archive left-so) → x .kind ≡ r .kind → x .score ≡ r .score → ⊥
+    none-left x m k s =
+        let p = intact-out archive (left-so .changed) (left-so .rows) x m in
+        let t = keep-out archive (there archive (started .start) arrived) (started .rows) x (p .0) in
+        which (p .1) (t .1) (List·Memᴰ·append-cases (ledgerThen h .rows) (subst (λ (L : Ledger archive). List·Memᴰ x (L .rows)) begins-so (t .0)))
+      where
+        unhit : hit archive (left-so .changed) x ≡ false → hit archive (ledgerThen h .changed) x ≡ false
+        unhit f = hit-not archive (ledgerThen h .changed) x (λ n c.
+            let w : has n (started .changed) ≡ false =
+            has-neither n (started .changed) _ (hit-none archive (left-so .changed) x n f c) .0 in
+            ap (λ (L : Ledger archive). has n (L .changed)) (sym begins-so) ∙ w)
+
+        which : hit archive (left-so .changed) x ≡ false → there archive (started .start) arrived x ≡ true → List·Memᴰ x (ledgerThen h .rows) ⊎ List·Memᴰ x (r ∷ []) → ⊥
+        which f t (inl i) =
+            let u = from-intact h (r .kind) (r .score) x (intact-in archive (ledgerThen h .changed) (ledgerThen h .rows) x i (unhit f)) k s in
+            let l = least h (r .kind) (r .score) x u in
+            let c : none ≡ some (l .0) = sym (new .alone) ∙ l .1 in
+            let z : _≡_ {A = ℕ} 0 1 = cc in omega arith
+        which f t (inr i) =
+            let late : started .start ≤ r .first = omega (arith, on-its-way .1, ap (λ (L : Ledger archive). L .start) begins-so) in
+            true≢false (sym (there-late archive (started .start) arrived r late (ap (there archive (started .start) arrived) (sym (List·Memᴰ·eq-of-singleton i)) ∙ t)) ∙ out)
+
+pub torn-write-not-known : claims.TornWriteNotKnown
+torn-write-not-known h q arrived torn lend hurt r count m buffer ok e out u Q =
+    torn-not-known h (some q) arrived torn lend hurt r count m buffer ok (on-its-way h q r (ok .0) e) out u (none-left h q r (ok .0) e arrived torn out) Q

@@ -13,29 +13,29 @@ use Rattle.message.specs.Message.{framed, tagOf, versionOf, scoreOf, dataOf, re
 use Rattle.message.specs.declared.Request.{Request}
 use Rattle.message.specs.declared.Request.the-variants.{Ping, Hello, Goodbye, Read, Write, Sync, Unknown, Ill}
 use Rattle.kind.specs.Kind.{lawful, longest}
-use Rattle.block.specs.Block.{Row}
+use Rattle.block.specs.Block.{Row, partsOf}
 use Rattle.log.specs.LookUp as look
-use Rattle.log.specs.LookUp.{logAllowed}
+use Rattle.log.specs.Parts.{Lent, oneLog, roomFor, canSettle}
 use Rattle.log.specs.Store as stores
-use Rattle.archive.specs.Step as steps
-use Rattle.archive.specs.declared.Session.{Session}
-use Rattle.archive.specs.declared.Session.the-variants.{Fresh, Greeted, Closed as Shut}
+use Rattle.request.specs.Step as steps
+use Rattle.request.specs.declared.Session.{Session}
+use Rattle.request.specs.declared.Session.the-variants.{Fresh, Greeted, Closed as Shut}
 use Rattle.demands.proofs.Seen.{storedAs, kept}
 
-module _ (log m buffer : Bytes) where
+module _ (log : Lent) (m buffer : Bytes) where
   -- 12 is the refusal of a block that is not found
   abbrev Told : Session → steps.Outcome → Type 0
-  Told s o = o .number ≡ 12 → o ≡ steps.refused (look.absence log) (tagOf m) s log buffer
+  Told s o = o .number ≡ 12 → o ≡ steps.refused (look.absence (oneLog log)) (tagOf m) s log buffer
 
   read-told : (t count : ℕ) → Told Greeted (steps.read t count (tagOf m) (scoreOf m) log buffer)
   unfolding steps.read
   read-told t count =
       cond-ind (Told Greeted) (not (lawful t)) _ _ (λ _ e. absurd (omega arith)) (λ _.
-      on-ind (Told Greeted) (look.held log t (scoreOf m)) _ _ (λ _ e. refl)
+      on-ind (Told Greeted) (look.held (oneLog log) t (scoreOf m)) _ _ (λ _ e. refl)
       (λ r _. cond-ind (Told Greeted) (ltb count (length (r .bytes))) _ _ (λ _ e. absurd (omega arith)) (λ _ e. absurd (omega arith))))
 
   held-told : (t : ℕ) (d : Bytes) (o : Option Row) → Told Greeted (kept m buffer (storedAs log t d o))
-  held-told t d none = cond-ind (λ a. Told Greeted (kept m buffer a)) (stores.roomFor log d) _ _ (λ _ e. absurd (omega arith)) (λ _ e. absurd (omega arith))
+  held-told t d none = cond-ind (λ a. Told Greeted (kept m buffer a)) (roomFor log (partsOf (length d))) _ _ (λ _ e. absurd (omega arith)) (λ _ e. absurd (omega arith))
   held-told t d (some r) = cond-ind (λ a. Told Greeted (kept m buffer a)) (same (r .bytes) d) _ _ (λ _ e. absurd (omega arith)) (λ _ e. absurd (omega arith))
 
   write-told : (t : ℕ) → Told Greeted (steps.write t (tagOf m) (dataOf m) log buffer)
@@ -43,7 +43,11 @@ module _ (log m buffer : Bytes) where
   write-told t =
       cond-ind (Told Greeted) (not (lawful t)) _ _ (λ _ e. absurd (omega arith)) (λ _.
       cond-ind (Told Greeted) (ltb longest (length (dataOf m))) _ _ (λ _ e. absurd (omega arith))
-      (λ _. held-told t (dataOf m) (look.held log t (sha1Of (dataOf m)))))
+      (λ _. held-told t (dataOf m) (look.held (oneLog log) t (sha1Of (dataOf m)))))
+
+  sync-told : Told Greeted (steps.sync (tagOf m) log buffer)
+  unfolding steps.sync
+  sync-told = cond-ind (Told Greeted) (canSettle log) _ _ (λ _ e. absurd (omega arith)) (λ _ e. absurd (omega arith))
 
   fresh-told : (q : Request) → Told Fresh (steps.fresh q (tagOf m) m log buffer)
   unfolding steps.fresh
@@ -63,7 +67,7 @@ module _ (log m buffer : Bytes) where
   greeted-told Goodbye e = absurd (omega arith)
   greeted-told Hello e = absurd (omega arith)
   greeted-told Ping e = absurd (omega arith)
-  greeted-told Sync e = absurd (omega arith)
+  greeted-told Sync e = sync-told e
   greeted-told (Read t c) e = read-told t c e
   greeted-told (Write t) e = write-told t e
 
@@ -78,4 +82,4 @@ module _ (log m buffer : Bytes) where
   step-told s =
       cond-ind (Told s) (not (framed m)) _ _ (λ _ e. absurd (omega arith)) (λ _.
       cond-ind (Told s) (ltb (length buffer) steps.replyRoom) _ _ (λ _ e. absurd (omega arith)) (λ _.
-      cond-ind (Told s) (not (logAllowed (length log))) _ _ (λ _ e. absurd (omega arith)) (λ _. session-told s)))
+      cond-ind (Told s) (not (steps.allowed log)) _ _ (λ _ e. absurd (omega arith)) (λ _. session-told s)))

@@ -3,32 +3,41 @@ use mathlib.Core.Path.{refl, sym, ap, _∙_}
 use mathlib.Core.Bool.{true≢false}
 use mathlib.Core.List.{[], _∷_}
 use mathlib.Core.Logic.{_≢_}
-use Prim.Native.Nat.{ℕ}
+use mathlib.Core.Option.{none}
 use lib.Dec.{lit<}
-use lib.ListN.{replicate, length-replicate}
 use Rattle.buffer.specs.Bytes.{zeros}
 use Rattle.block.specs.Log.{at}
-use Rattle.block.proofs.At.{at-void, blank-is}
-use Rattle.ledger.specs.History.{first-log}
-use Rattle.ledger.proofs.After.{extent-first}
-use Rattle.demands.specs.Instance.{archive}
+use Rattle.block.proofs.At.{blank-is}
+use Rattle.log.specs.Parts.{oneLog}
+use Rattle.demands.specs.Ledger.{Extent}
+use Rattle.demands.specs.Instance.{void}
+use Rattle.demands.specs.Histories.{NothingWaits}
 use Rattle.demands.specs.Corollaries.{DamageCanBe, DamageMayBeNone}
-use Rattle.demands.proofs.Laws.{lawful}
-use Rattle.demands.proofs.Splice.{splice}
+use Rattle.demands.proofs.LentLaws.{extent-void, at-blank, start-alone}
+use Rattle.demands.proofs.Splice.{splice, withLog}
 use Rattle.demands.proofs.Hurts.{marred, marred-used, damage-none, damage-one}
 
-blank-differs : at (replicate 512 0) 0 ≢ marred
-blank-differs e = true≢false (sym blank-is ∙ ap zeros (sym (at-void 512 0) ∙ e) ∙ marred-used)
+-- on a blank log nothing waits
+void-rests : (x : Extent) → NothingWaits (void x)
+void-rests x = start-alone (x .waiting) (void x)
+
+-- of one sector
+abbrev one : Extent
+one = record { size = 512; waiting = none }
+
+blank-differs : at (oneLog (void one)) 0 ≢ marred
+blank-differs e = true≢false (sym blank-is ∙ ap zeros (sym (at-blank one 0) ∙ e) ∙ marred-used)
 
 pub damage-can-be : DamageCanBe
 damage-can-be = (
   record {
-    size = 512;
+    size = one;
     before = [];
     before-of-bytes = tt;
+    rests = void-rests one;
     changed = 0 ∷ [];
-    hurt = splice 0 marred (replicate 512 0);
-    damage = damage-one (at (replicate 512 0)) 512 (replicate 512 0) (length-replicate {A = ℕ} 512 0) (λ k. refl) 0 (lit< tt) blank-differs;
+    hurt = withLog (splice 0 marred (void one .log)) (void one);
+    damage = damage-one (at (oneLog (void one))) one (void one) (extent-void one) (λ k. refl) (void-rests one) 0 (lit< tt) blank-differs;
     later = [];
     later-of-bytes = tt;
   },
@@ -36,17 +45,19 @@ damage-can-be = (
   refl,
 )
 
+-- all of the list comes after damage that changed nothing
 pub damage-may-be-none : DamageMayBeNone
-damage-may-be-none n qs b = (
+damage-may-be-none x qs b = (
   record {
-    size = n;
-    before = qs;
-    before-of-bytes = b;
+    size = x;
+    before = [];
+    before-of-bytes = tt;
+    rests = void-rests x;
     changed = [];
-    hurt = first-log archive n qs .log;
-    damage = damage-none (at (first-log archive n qs .log)) n (first-log archive n qs .log) (extent-first archive lawful n qs b) (λ k. refl);
-    later = [];
-    later-of-bytes = tt;
+    hurt = void x;
+    damage = damage-none (at (oneLog (void x))) x (void x) (extent-void x) (λ k. refl) (void-rests x);
+    later = qs;
+    later-of-bytes = b;
   },
   refl,
   refl,

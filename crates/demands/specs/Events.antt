@@ -1,10 +1,10 @@
 -- Whatever happens to a log, in any order and as often as it likes: requests, damage, stops, stops inside a write, growth. What it means at each
--- moment, in plain terms; the words in quotes are the papers'. No waiting part is lent: a stop between two requests leaves the log as it is.
+-- moment, in plain terms; the words in quotes are the papers'.
 use mathlib.Core.Path.{_≡_}
 use mathlib.Core.Bool.{true, false}
 use mathlib.Core.List.{List, [], _∷_, _++_, map, List·Memᴰ}
 use mathlib.Core.Logic.{_≢_}
-use mathlib.Core.Option.{Option, some}
+use mathlib.Core.Option.{Option, none, some}
 use Prim.Native.Nat.{ℕ, suc, _+_, _*_, _%_, _≤_, _<_}
 use lib.Dec.{eqb}
 use lib.ListN.{length}
@@ -18,19 +18,21 @@ use Rattle.message.specs.Reply.{readReply, writeReply}
 use Rattle.kind.specs.Kind.{zeroScore}
 use Rattle.block.specs.Block.{Row, parts}
 use Rattle.block.specs.Log.{sectors, at, Alike, used, sound}
-use Rattle.archive.specs.Step.{step, granted, refused}
-use Rattle.archive.specs.declared.Session.{Session}
-use Rattle.archive.specs.declared.Session.the-variants.{Greeted}
+use Rattle.log.specs.Parts.{Lent, oneLog}
+use Rattle.request.specs.Step.{step, granted, refused}
+use Rattle.request.specs.declared.Session.{Session}
+use Rattle.request.specs.declared.Session.the-variants.{Greeted}
 use Rattle.ledger.specs.Archive.{adds}
 use Rattle.ledger.specs.Ledger.{Ledger, has, hasAll, covers, intact, end, crashed, Doubtful}
-use Rattle.ledger.specs.Reflects.{Reflects}
+use Rattle.ledger.specs.Reflects.{cell, Reflects}
+use Rattle.ledger.specs.Aftermath as aftermath
 use Rattle.ledger.specs.Trace.{Along}
 use Rattle.ledger.specs.History.{Item, AllOfBytes, Damage, ruling, blank-books}
-use Rattle.ledger.specs.Events.{ask, harm, crash, recountEvent, beginning, Possible, Damaging, AllThatHappens, AnyDamage, AnyZeroing, StopAnswers, EventHistory, log-then, books-then}
+use Rattle.ledger.specs.Events.{ask, harm, crash, recountEvent, beginning, SomeOfBytes, Possible, Damaging, AllThatHappens, AnyDamage, AnyZeroing, StopAnswers, EventHistory, log-then, books-then}
 use Rattle.demands.specs.Ledger.{coveredBy, anyUncovered, firstUncovered}
-use Rattle.demands.specs.Instance.{grown, archive}
+use Rattle.demands.specs.Instance.{relent, grown, archive}
 use Rattle.demands.specs.Requests.{Writes, Reads}
-use Rattle.demands.specs.Histories.{History, logOf, ledgerOf, afterwards}
+use Rattle.demands.specs.Histories.{NothingWaits, History, logOf, ledgerOf, afterwards}
 
 -- ---- the claims of ledger/specs/Events.antt, of our archive
 
@@ -53,7 +55,7 @@ AfterAStop = StopAnswers archive
 abbrev pub Past : Type 0
 Past = EventHistory archive
 
-abbrev pub logThen : Past → Bytes
+abbrev pub logThen : Past → Lent
 logThen h = log-then archive h .log
 
 abbrev pub ledgerThen : Past → Ledger archive
@@ -104,16 +106,16 @@ OthersNotKnown = (h : Past) (t count : ℕ) (s m buffer : Bytes) (k : ℕ) → s
 abbrev pub GapNotKnown : Type 0
 GapNotKnown = (h : Past) (t count : ℕ) (s m buffer : Bytes) (k : ℕ) → s ≢ zeroScore → has k (ledgerThen h .changed) ≡ false
     → k < end archive (ledgerThen h) → coveredBy (ledgerThen h .rows) k ≡ false → ((r : Row) → Unchanged h t s r → ⊥) → Reads m buffer (logThen h) t count s
-    → (zeros (at (logThen h) k) ≡ true) × (step Greeted m (logThen h) buffer ≡ refused (notKnownThen h) (tagOf m) Greeted (logThen h) buffer)
+    → (zeros (at (oneLog (logThen h)) k) ≡ true) × (step Greeted m (logThen h) buffer ≡ refused (notKnownThen h) (tagOf m) Greeted (logThen h) buffer)
 
 -- "A doubtful sector is never written over": in any log, by any request
 abbrev pub NeverWrittenOver : Type 0
-NeverWrittenOver = (s : Session) (m log buffer : Bytes) (k : ℕ) → small m ≡ true → Doubtful archive log k → at (step s m log buffer .log) k ≡ at log k
+NeverWrittenOver = (s : Session) (m : Bytes) (L : Lent) (buffer : Bytes) (k : ℕ) → small m ≡ true → Doubtful archive L k → at (oneLog (step s m L buffer .lent)) k ≡ at (oneLog L) k
 
 -- a healed sector's rows are intact again: whatever was changed before, the rows of which damage told anew leaves every sector are sound blocks
 abbrev pub HealedIsIntact : Type 0
-HealedIsIntact = (h : Past) (cs : List ℕ) (hurt : Bytes) (r : Row) → Possible archive (books-then archive h) (harm cs hurt)
-    → List·Memᴰ r (ledgerThen h .rows) → ((n : ℕ) → covers archive r n ≡ true → has n cs ≡ false) → sound hurt (r .first) ≡ some r
+HealedIsIntact = (h : Past) (cs : List ℕ) (hurt : Lent) (r : Row) → Possible archive (books-then archive h) (harm cs hurt)
+    → List·Memᴰ r (ledgerThen h .rows) → ((n : ℕ) → covers archive r n ≡ true → has n cs ≡ false) → sound (oneLog hurt) (r .first) ≡ some r
 
 -- what is read is what a row holds none of whose sectors is changed
 abbrev pub AnswersAreUnchanged : Type 0
@@ -123,13 +125,13 @@ AnswersAreUnchanged = (h : Past) (t count : ℕ) (s m buffer : Bytes) → Reads 
 -- what a write is answered for reads back after any further requests, and is not stored again: "as if nothing had happened"
 abbrev pub StoredThenReadsBack : Type 0
 StoredThenReadsBack = (h : Past) (t : ℕ) (d m buffer : Bytes) → small m ≡ true → Writes m buffer (logThen h) t d → step Greeted m (logThen h) buffer .number ≡ 0
-    → (past : List Session) (qs : List (Item archive)) → AllOfBytes archive qs → let log = afterwards (step Greeted m (logThen h) buffer .log) past qs in
+    → (past : List Session) (qs : List (Item archive)) → AllOfBytes archive qs → let log = afterwards (step Greeted m (logThen h) buffer .lent) past qs in
     (count : ℕ) (m′ buffer′ : Bytes) → length d ≤ count → Reads m′ buffer′ log t count (sha1Of d)
     → step Greeted m′ log buffer′ ≡ granted (readReply (tagOf m′) d) Greeted log buffer′
 
 abbrev pub DuplicateThenAddsNothing : Type 0
 DuplicateThenAddsNothing = (h : Past) (t : ℕ) (d m buffer : Bytes) → small m ≡ true → Writes m buffer (logThen h) t d → step Greeted m (logThen h) buffer .number ≡ 0
-    → (past : List Session) (qs : List (Item archive)) → AllOfBytes archive qs → let log = afterwards (step Greeted m (logThen h) buffer .log) past qs in
+    → (past : List Session) (qs : List (Item archive)) → AllOfBytes archive qs → let log = afterwards (step Greeted m (logThen h) buffer .lent) past qs in
     (m′ buffer′ : Bytes) → Writes m′ buffer′ log t d → step Greeted m′ log buffer′ ≡ granted (writeReply (tagOf m′) (sha1Of d)) Greeted log buffer′
 
 -- 12 is answered only while a sector is uncovered, and tells the first of them; 11 only while none is
@@ -142,31 +144,78 @@ abbrev pub ElevenThenCovered : Type 0
 ElevenThenCovered = (h : Past) (s : Session) (m buffer : Bytes) → small m ≡ true → step s m (logThen h) buffer .number ≡ 11
     → anyUncovered (intact archive (ledgerThen h)) (end archive (ledgerThen h)) ≡ false
 
--- ---- a stop inside a write: the request that was never answered, the sectors that arrived, the torn ones, and what the disk holds
+-- ---- a stop inside a write: the request that was never answered, if one was, the sectors that arrived, the torn ones, what is lent anew, and what the disk holds
 
--- what was stored, and is unchanged, is there as before
-abbrev pub TornKeepsStored : Type 0
-TornKeepsStored = (h : Past) (q : Option (Item archive)) (arrived torn : List ℕ) (hurt : Bytes) (t : ℕ) (s : Bytes) (r : Row)
-    → Possible archive (books-then archive h) (crash q arrived torn tt hurt) → Unchanged h t s r → sound hurt (r .first) ≡ some r
+-- a block on its way to the disk: it waits, or the request that was never answered adds it
+abbrev pub OnItsWay : Past → Option (Item archive) → Row → Type 0
+OnItsWay h q r = List·Memᴰ r (beginning archive (books-then archive h) q .rows) × (ledgerThen h .start ≤ r .first)
+
+-- the ledger after it
+abbrev pub tornLedger : Past → Option (Item archive) → List ℕ → List ℕ → Ledger archive
+tornLedger h q arrived torn = crashed archive arrived torn (beginning archive (books-then archive h) q)
+
+module _ (h : Past) (q : Option (Item archive)) (arrived torn : List ℕ) (lend : Option ℕ) (hurt : Lent) where
+  abbrev pub Torn : Type 0
+  Torn = Possible archive (books-then archive h) (crash q arrived torn lend hurt)
+
+-- what was settled, and is unchanged, is there as before
+abbrev pub TornKeepsSettled : Type 0
+TornKeepsSettled = (h : Past) (q : Option (Item archive)) (arrived torn : List ℕ) (lend : Option ℕ) (hurt : Lent) (t : ℕ) (s : Bytes) (r : Row)
+    → Torn h q arrived torn lend hurt → Unchanged h t s r → r .first < ledgerThen h .start → sound (oneLog hurt) (r .first) ≡ some r
 
 -- a block that arrived whole is there
 abbrev pub WholeIsThere : Type 0
-WholeIsThere = (h : Past) (q : Item archive) (arrived torn : List ℕ) (hurt : Bytes) (r : Row)
-    → Possible archive (books-then archive h) (crash (some q) arrived torn tt hurt) → ruling archive (books-then archive h) q .effect ≡ adds r
-    → hasAll arrived (r .first) (parts r) ≡ true → sound hurt (r .first) ≡ some r
+WholeIsThere = (h : Past) (q : Option (Item archive)) (arrived torn : List ℕ) (lend : Option ℕ) (hurt : Lent) (r : Row)
+    → Torn h q arrived torn lend hurt → OnItsWay h q r → hasAll arrived (r .first) (parts r) ≡ true → sound (oneLog hurt) (r .first) ≡ some r
 
--- one that did not is "not known" while any of its sectors is in the used part
+-- one that did not is "not known" while any of its sectors is in the used part, if no other copy of it is there
 abbrev pub TornNotKnown : Type 0
-TornNotKnown = (h : Past) (q : Item archive) (arrived torn : List ℕ) (hurt : Bytes) (r : Row) (count : ℕ) (m buffer : Bytes)
-    → Possible archive (books-then archive h) (crash (some q) arrived torn tt hurt) → ruling archive (books-then archive h) q .effect ≡ adds r
-    → hasAll arrived (r .first) (parts r) ≡ false → r .first < used hurt → Reads m buffer hurt (r .kind) count (r .score)
-    → let L = crashed archive arrived torn (beginning archive (books-then archive h) (some q)) in
+TornNotKnown = (h : Past) (q : Option (Item archive)) (arrived torn : List ℕ) (lend : Option ℕ) (hurt : Lent) (r : Row) (count : ℕ) (m buffer : Bytes)
+    → Torn h q arrived torn lend hurt → OnItsWay h q r → hasAll arrived (r .first) (parts r) ≡ false → r .first < used (oneLog hurt)
+    → let L = tornLedger h q arrived torn in
+    ((x : Row) → List·Memᴰ x (intact archive L) → x .kind ≡ r .kind → x .score ≡ r .score → ⊥)
+    → Reads m buffer hurt (r .kind) count (r .score)
+    → step Greeted m hurt buffer ≡ refused (NotKnown (record { 0 = firstUncovered (intact archive L) (end archive L) 0 })) (tagOf m) Greeted hurt buffer
+
+-- so is the block that the request adds which was never answered: no other copy of it is there
+abbrev pub TornWriteNotKnown : Type 0
+TornWriteNotKnown = (h : Past) (q : Item archive) (arrived torn : List ℕ) (lend : Option ℕ) (hurt : Lent) (r : Row) (count : ℕ) (m buffer : Bytes)
+    → Torn h (some q) arrived torn lend hurt → ruling archive (books-then archive h) q .effect ≡ adds r
+    → hasAll arrived (r .first) (parts r) ≡ false → r .first < used (oneLog hurt) → Reads m buffer hurt (r .kind) count (r .score)
+    → let L = tornLedger h (some q) arrived torn in
     step Greeted m hurt buffer ≡ refused (NotKnown (record { 0 = firstUncovered (intact archive L) (end archive L) 0 })) (tagOf m) Greeted hurt buffer
 
--- and as if never written if none is: each sector is as it was
+-- and as if never written if none is: each sector is as it was in the log alone
 abbrev pub TornLeavesNothing : Type 0
-TornLeavesNothing = (h : Past) (q : Option (Item archive)) (arrived torn : List ℕ) (hurt : Bytes)
-    → Possible archive (books-then archive h) (crash q arrived torn tt hurt) → used hurt ≤ used (logThen h) → Alike hurt (logThen h)
+TornLeavesNothing = (h : Past) (q : Option (Item archive)) (arrived torn : List ℕ) (lend : Option ℕ) (hurt : Lent)
+    → Torn h q arrived torn lend hurt → used (oneLog hurt) ≤ used (logThen h .log) → Alike (oneLog hurt) (logThen h .log)
+
+-- so is each block none of whose sectors is: the ledger has no row of it, and no sector of it is changed
+abbrev pub TornLeavesNoRow : Type 0
+TornLeavesNoRow = (h : Past) (q : Option (Item archive)) (arrived torn : List ℕ) (lend : Option ℕ) (hurt : Lent) → aftermath.AsIfNeverWritten archive h q arrived torn lend hurt
+
+-- ---- what is settled
+
+-- "after each request the waiting part holds their sectors and is blank beyond, while the log holds the rest": what the ledger's rows put there, but in changed sectors
+abbrev pub PartsHold : Type 0
+PartsHold = (h : Past) (n : ℕ) → let L = ledgerThen h in
+    (n < L .start → has n (L .changed) ≡ false → at (logThen h .log) n ≡ cell archive (L .rows) n)
+    × ((w : Bytes) → logThen h .waiting ≡ some w → has (L .start + n) (L .changed) ≡ false → at w n ≡ cell archive (L .rows) (L .start + n))
+
+-- what a sync was answered for is there for good: a block that is settled is a row, and settled, whatever happens after; UnchangedIsAnswered says that it is read
+-- at every moment at which none of its sectors is changed
+abbrev pub SettledIsForGood : Type 0
+SettledIsForGood = aftermath.SettledForGood archive
+
+-- ---- a stop between two requests
+
+-- "its rows added since the last settling wait": a block that was settled is there after a stop, at its place; one that waited is not, and no trace of it
+abbrev pub StopKeepsSettled : Type 0
+StopKeepsSettled = (h : Past) (lend : Option ℕ) (t : ℕ) (s : Bytes) (r : Row) → Unchanged h t s r → r .first < ledgerThen h .start
+    → sound (oneLog (relent lend (logThen h))) (r .first) ≡ some r
+
+abbrev pub StopDropsWaiting : Type 0
+StopDropsWaiting = (h : Past) (lend : Option ℕ) → Alike (oneLog (relent lend (logThen h))) (logThen h .log) × (used (logThen h .log) ≡ ledgerThen h .start)
 
 -- ---- growth: whole sectors, all blank, behind those that are there
 
@@ -175,35 +224,39 @@ GrowthAddsBlanks = (k : ℕ) (log : Bytes) → eqb (length log % 512) 0 ≡ true
 
 -- ---- there is something to speak of: at any moment of any history
 
--- any sector may be damaged, besides those that are, and any of the used part but its last may be left all zeros
+-- any sector may be damaged, besides those that are, and any of the used part but its last may be left all zeros, while nothing waits
 abbrev pub AnySectorMayBeHurt : Type 0
-AnySectorMayBeHurt = (h : Past) (n : ℕ) → n < sectors (length (logThen h))
-    → (hurt : Bytes) × (zeros (at hurt n) ≡ false) × Possible archive (books-then archive h) (harm (n ∷ ledgerThen h .changed) hurt)
+AnySectorMayBeHurt = (h : Past) (n : ℕ) → NothingWaits (logThen h) → n < sectors (length (logThen h .log))
+    → (hurt : Lent) × (zeros (at (oneLog hurt) n) ≡ false) × Possible archive (books-then archive h) (harm (n ∷ ledgerThen h .changed) hurt)
 
 abbrev pub AnySectorMayBeZeroed : Type 0
-AnySectorMayBeZeroed = (h : Past) (n : ℕ) → suc n < used (logThen h)
-    → (hurt : Bytes) × (zeros (at hurt n) ≡ true) × Possible archive (books-then archive h) (harm (n ∷ ledgerThen h .changed) hurt)
+AnySectorMayBeZeroed = (h : Past) (n : ℕ) → NothingWaits (logThen h) → suc n < used (oneLog (logThen h))
+    → (hurt : Lent) × (zeros (at (oneLog hurt) n) ≡ true) × Possible archive (books-then archive h) (harm (n ∷ ledgerThen h .changed) hurt)
 
--- a write that adds a row may be torn: any of its sectors arrived, any others are torn
-abbrev pub AnyAppendMayBeTorn : Type 0
-AnyAppendMayBeTorn = (h : Past) (q : Item archive) (r : Row) → archive .OfBytes (q .request) → ruling archive (books-then archive h) q .effect ≡ adds r
-    → (arrived torn : List ℕ) → ((n : ℕ) → has n arrived ≡ true → covers archive r n ≡ true) → ((n : ℕ) → has n torn ≡ true → covers archive r n ≡ true)
+-- a write or a sync may be torn: any sectors of the blocks on their way arrived, any others are torn
+abbrev pub AnyWriteMayBeTorn : Type 0
+AnyWriteMayBeTorn = (h : Past) (q : Option (Item archive)) (arrived torn : List ℕ) (lend : Option ℕ) → SomeOfBytes archive q
+    → ((n : ℕ) → has n arrived ≡ true → (r : Row) × OnItsWay h q r × (covers archive r n ≡ true))
+    → ((n : ℕ) → has n torn ≡ true → (r : Row) × OnItsWay h q r × (covers archive r n ≡ true))
     → ((n : ℕ) → has n torn ≡ true → has n arrived ≡ false)
-    → (hurt : Bytes) × Possible archive (books-then archive h) (crash (some q) arrived torn tt hurt)
+    → (hurt : Lent) × Torn h q arrived torn lend hurt
 
--- requests, damage of a sector, requests, all healed, requests, damage of another sector: with the premises of "Damage that comes again"
+-- requests, damage of a sector, requests, all healed, requests, damage of another sector: with the premises of "Damage that comes again". No waiting part is lent
 abbrev pub DamageComesAgain : Type 0
 DamageComesAgain = (size i j : ℕ) (before between later : List (Item archive)) → AllOfBytes archive before → AllOfBytes archive between → AllOfBytes archive later
     → i < sectors size → j < sectors size
-    → (hurt healed again : Bytes)
-    × Along (Damaging archive (Damage archive)) (recountEvent archive) (blank-books archive size)
+    → (hurt healed again : Lent)
+    × Along (Damaging archive (Damage archive)) (recountEvent archive) (blank-books archive (record { size = size; waiting = none }))
     (map ask before ++ (harm (i ∷ []) hurt ∷ (map ask between ++ (harm [] healed ∷ (map ask later ++ (harm (j ∷ []) again ∷ []))))))
 
--- one of each: a stored block of which a sector is zeroed; and an append of two sectors of which the second arrived and the first is torn
+-- one of each: a stored block of which a sector is zeroed; an append of two sectors, and a sync of a block of two, of which the second arrived and the first is torn
 abbrev pub ZeroedCanBe : Type 0
-ZeroedCanBe = (h : Past) × (r : Row) × (n : ℕ) × (hurt : Bytes) × List·Memᴰ r (ledgerThen h .rows) × (covers archive r n ≡ true) × (zeros (at hurt n) ≡ true)
+ZeroedCanBe = (h : Past) × (r : Row) × (n : ℕ) × (hurt : Lent) × List·Memᴰ r (ledgerThen h .rows) × (covers archive r n ≡ true) × (zeros (at (oneLog hurt) n) ≡ true)
     × Possible archive (books-then archive h) (harm (n ∷ ledgerThen h .changed) hurt)
 
 abbrev pub TornCanBe : Type 0
-TornCanBe = (h : Past) × (q : Item archive) × (r : Row) × (hurt : Bytes) × (ruling archive (books-then archive h) q .effect ≡ adds r) × (parts r ≡ 2)
-    × Possible archive (books-then archive h) (crash (some q) (suc (r .first) ∷ []) (r .first ∷ []) tt hurt)
+TornCanBe = (h : Past) × (q : Item archive) × (r : Row) × (hurt : Lent) × (ruling archive (books-then archive h) q .effect ≡ adds r) × (parts r ≡ 2)
+    × Torn h (some q) (suc (r .first) ∷ []) (r .first ∷ []) none hurt
+
+abbrev pub TornSyncCanBe : Type 0
+TornSyncCanBe = (h : Past) × (r : Row) × (hurt : Lent) × OnItsWay h none r × (parts r ≡ 2) × Torn h none (suc (r .first) ∷ []) (r .first ∷ []) none hurt

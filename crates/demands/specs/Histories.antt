@@ -11,37 +11,45 @@ use Rattle.sha1.specs.Sha1.{sha1Of}
 use Rattle.message.specs.Message.{dataOf, requestOf}
 use Rattle.message.specs.declared.Request.the-variants.{Write}
 use Rattle.block.specs.Block.{Row}
-use Rattle.block.specs.Log.{at}
+use Rattle.block.specs.Log.{at, used}
+use Rattle.log.specs.Parts.{Lent, oneLog}
 use Rattle.log.specs.LookUp.{held}
-use Rattle.archive.specs.declared.Session.{Session}
+use Rattle.request.specs.declared.Session.{Session}
 use Rattle.ledger.specs.Ledger.{Ledger, told, hit}
 use Rattle.ledger.specs.Reflects.{Reflects}
 use Rattle.ledger.specs.Trace.{trace}
 use Rattle.ledger.specs.History.{Item, AllOfBytes, Damage, Standing, answer, harmed, first-log, first-books, second-log, second-books}
-use Rattle.demands.specs.Instance.{archive}
+use Rattle.demands.specs.Ledger.{Extent}
+use Rattle.demands.specs.Instance.{extentOf, archive}
+
+-- what is used of the log and its waiting part is the log's
+abbrev pub NothingWaits : Lent → Type 0
+NothingWaits L = used (L .log) ≡ used (oneLog L)
 
 pub record History : Type 0 where
-  -- the blank log's length in bytes, and the list of requests on it
-  pub size : ℕ
+  -- the lengths of the blank log and of its waiting part, if one is lent, and the list of requests on it
+  pub size : Extent
   pub before : List (Item archive)
   pub before-of-bytes : AllOfBytes archive before
+  -- "Demand 3's damage falls on a log with nothing waiting"
+  pub rests : NothingWaits (first-log archive size before .log)
   -- the sectors that the damage changed, and the log that it left
   pub changed : List ℕ
-  pub hurt : Bytes
-  pub damage : Damage archive (at (first-log archive size before .log)) size changed hurt
+  pub hurt : Lent
+  pub damage : Damage archive (at (oneLog (first-log archive size before .log))) size changed hurt
   -- the list of requests after it
   pub later : List (Item archive)
   pub later-of-bytes : AllOfBytes archive later
 
 module _ (h : History) where
   -- the log that the damage fell on, the archive right after it, and the log when the history ends
-  abbrev pub cleanLog : Bytes
+  abbrev pub cleanLog : Lent
   cleanLog = first-log archive (h .size) (h .before) .log
 
   abbrev pub atDamage : Standing archive
   atDamage = harmed archive (h .hurt) (first-log archive (h .size) (h .before))
 
-  abbrev pub logOf : Bytes
+  abbrev pub logOf : Lent
   logOf = second-log archive (h .size) (h .before) (h .hurt) (h .later) .log
 
   -- the ledger when it has been told of the damage, and when the history ends
@@ -56,12 +64,12 @@ abbrev pub Reflected : Type 0
 Reflected = (h : History) → Reflects archive (logOf h) (ledgerOf h)
 
 -- the log after further requests, which may go on from sessions `past`
-abbrev pub afterwards : Bytes → List Session → List (Item archive) → Bytes
+abbrev pub afterwards : Lent → List Session → List (Item archive) → Lent
 afterwards log past qs = trace (answer archive) (record { log = log; past = past }) qs .left .log
 
--- a later log is as long, and holds all that look-up found, at the same place
-abbrev pub Keeps : Bytes → Bytes → Type 0
-Keeps log later = (length later ≡ length log) × ((t : ℕ) (s : Bytes) (r : Row) → held log t s ≡ some r → held later t s ≡ some r)
+-- a later log is as long, as is its waiting part, and both together hold all that look-up found, at the same place
+abbrev pub Keeps : Lent → Lent → Type 0
+Keeps L later = (extentOf later ≡ extentOf L) × ((t : ℕ) (s : Bytes) (r : Row) → held (oneLog L) t s ≡ some r → held (oneLog later) t s ≡ some r)
 
 -- each row of type t and score s has a changed sector: a block that lost one and has no other intact row, or one that was never stored
 abbrev pub NoneIntact : ℕ → Bytes → Ledger archive → Type 0

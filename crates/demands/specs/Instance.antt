@@ -1,67 +1,89 @@
--- The archive as the ledger's theorem looks at it: its log, sectors and blocks, its step, and its ledger.
+-- The archive as the ledger's theorem looks at it: its log with the waiting part, sectors and blocks, its step, and its ledger.
 use mathlib.Core.Path.{_≡_}
 use mathlib.Core.Bool.{true, false, not}
 use mathlib.Core.List.{_++_}
+use mathlib.Core.Option.{Option, none, some}
 use Prim.Native.Nat.{ℕ, _+_, _*_, _%_}
-use lib.Dec.{leb, eqb}
+use lib.Dec.{eqb}
 use lib.ListN.{length, replicate}
+use Rattle.ground.specs.Choice.{on}
 use Rattle.buffer.specs.Bytes.{Bytes, same, zeros}
 use Rattle.word.specs.Number.{small}
 use Rattle.kind.specs.Kind.{zeroScore}
 use Rattle.sector.specs.Sector.{fits, blank}
 use Rattle.sector.specs.Near.{Near}
-use Rattle.block.specs.Block.{Row, parts, image, valid, written}
+use Rattle.block.specs.Block.{Row, parts, image, valid}
 use Rattle.block.specs.Log.{sectors, at, used, sound}
-use Rattle.archive.specs.Step.{step}
-use Rattle.archive.specs.declared.Session.{Session}
-use Rattle.archive.specs.declared.Session.the-variants.{Fresh}
+use Rattle.log.specs.Parts.{Lent, oneLog, appendRow, settled}
+use Rattle.request.specs.Step.{step}
+use Rattle.request.specs.declared.Session.{Session}
+use Rattle.request.specs.declared.Session.the-variants.{Fresh}
 use Rattle.ledger.specs.Archive.{Archive, Seen}
-use Rattle.demands.specs.Ledger.{Asked, Answer, tell}
+use Rattle.demands.specs.Ledger.{Asked, Answer, Extent, roomFrom, tell}
 
--- the step of the archive, which the contract of the request call equals, as it is seen: the answer, the session, the log
-abbrev pub served : Bytes → Session → Asked → Seen Answer Session Bytes
-served log s q =
-    let o = step s (q .message) log (q .buffer) in
-    record { answer = record { number = o .number; buffer = o .reply }; session = o .session; log = o .log }
+-- the step of the archive, which the contract of the request call equals, as it is seen: the answer, the session, the log and its waiting part
+abbrev pub served : Lent → Session → Asked → Seen Answer Session Lent
+served L s q =
+    let o = step s (q .message) L (q .buffer) in
+    record { answer = record { number = o .number; buffer = o .reply }; session = o .session; log = o .lent }
+
+-- how much of it there is, if there is any
+abbrev pub lengthOf : Option Bytes → Option ℕ
+lengthOf o = on o none (λ w. some (length w))
+
+-- "The waiting part begins all blank": of a length, or none
+abbrev pub blankPart : Option ℕ → Option Bytes
+blankPart o = on o none (λ m. some (replicate m 0))
+
+-- what the ledger is told of what is lent
+abbrev pub extentOf : Lent → Extent
+extentOf L = record { size = length (L .log); waiting = lengthOf (L .waiting) }
+
+-- a log of any length, all zeros, with a blank waiting part of any length, or none
+abbrev pub void : Extent → Lent
+void x = record { log = replicate (x .size) 0; waiting = blankPart (x .waiting) }
+
+-- what a stop leaves: "the log alone", lent on with any blank waiting part, or none
+abbrev pub relent : Option ℕ → Lent → Lent
+relent o L = record { log = L .log; waiting = blankPart o }
 
 -- a log of whole sectors lent on with k more of them, all blank
 unfoldable pub grown : ℕ → Bytes → Bytes
 grown k log = log ++ replicate (512 * k) 0
 
--- no waiting part is lent: a row is settled as it is added, a stop leaves the log as it is
 abbrev pub archive : Archive
 archive = record {
-  Log = Bytes;
-  Extent = ℕ;
+  Log = Lent;
+  Extent = Extent;
   Sector = Bytes;
-  extent = length;
-  sectors = sectors;
-  void = λ m. replicate m 0;
-  at = at;
+  extent = extentOf;
+  sectors = λ x. sectors (x .size);
+  void = void;
+  at = λ L. at (oneLog L);
   blank = blank;
   isBlank = zeros;
   fits = fits;
   Near = Near;
-  used = used;
-  waits = λ x. false;
-  start = used;
-  settled = λ log. log;
-  Loan = Unit {0};
-  alone = λ l log. log;
-  lent = λ l x. x;
+  used = λ L. used (oneLog L);
+  waits = λ x. on (x .waiting) false (λ m. true);
+  start = λ L. used (L .log);
+  settled = settled;
+  Loan = Option ℕ;
+  alone = relent;
+  lent = λ o x. record { size = x .size; waiting = o };
   Growth = ℕ;
-  grown = grown;
-  wider = λ k m. m + 512 * k;
-  growable = λ m. eqb (m % 512) 0;
+  grown = λ k L. record { log = grown k (L .log); waiting = L .waiting };
+  wider = λ k x. record { size = x .size + 512 * k; waiting = x .waiting };
+  growable = λ x. eqb (x .size % 512) 0;
   Row = Row;
   first = λ r. r .first;
   parts = parts;
   image = image;
   valid = valid;
-  hasRoom = λ m e r. leb (r .first + parts r) (sectors m);
+  hasRoom = λ x e r. roomFrom x e (r .first) (parts r);
   owned = λ r. not (same (r .score) zeroScore);
-  sound = sound;
-  written = written;
+  sound = λ L. sound (oneLog L);
+  written = appendRow;
   Request = Asked;
   Answer = Answer;
   Session = Session;

@@ -1,10 +1,10 @@
--- "The ledger of demands 2 and 3": how it answers a request from its rows, the changed sectors and the log's length. It decides
--- nothing from log bytes. With the archive's step it shares how a message is taken apart and a reply put together, SHA-1, the
--- sectors of a row, the tests of a log's length and of a block type, and constants; each other decision is written here anew.
+-- "The ledger of demands 2 and 3": how it answers a request from its rows, the changed sectors, and the lengths of the log and of its
+-- waiting part. It decides nothing from log bytes. With the archive's step it shares how a message is taken apart and a reply put together, SHA-1, the
+-- sectors of a row, the tests of what is lent and of a block type, and constants; each other decision is written here anew.
 use mathlib.Core.Bool.{Bool, true, false, cond, not, _&&_, _||_}
 use mathlib.Core.List.{List, [], _∷_}
 use mathlib.Core.Option.{Option, none, some}
-use Prim.Native.Nat.{ℕ, zero, suc, _+_, max}
+use Prim.Native.Nat.{ℕ, zero, suc, _+_, _-_, max}
 use lib.Dec.{leb, ltb, eqb}
 use lib.ListN.{length}
 use Rattle.ground.specs.Places.{within}
@@ -21,17 +21,32 @@ use Rattle.message.specs.declared.Request.the-variants.{Ping, Hello, Goodbye, R
 use Rattle.kind.specs.Kind.{lawful, longest, zeroScore}
 use Rattle.block.specs.Block.{Row, partsOf, parts}
 use Rattle.block.specs.Log.{sectors}
-use Rattle.log.specs.LookUp.{logAllowed}
-use Rattle.archive.specs.Step.{replyRoom, version}
-use Rattle.archive.specs.declared.Session.{Session}
-use Rattle.archive.specs.declared.Session.the-variants.{Fresh, Greeted, Closed as Shut}
-use Rattle.ledger.specs.Archive.{Effect, stays, adds, Ruling}
+use Rattle.log.specs.LookUp.{logAllowed, lentAllowed}
+use Rattle.request.specs.Step.{replyRoom, version}
+use Rattle.request.specs.declared.Session.{Session}
+use Rattle.request.specs.declared.Session.the-variants.{Fresh, Greeted, Closed as Shut}
+use Rattle.ledger.specs.Archive.{Effect, stays, adds, settles, Ruling}
 use Rattle.ledger.specs.Ledger.{intactRows, rowsEnd, changedEnd}
 
 -- "a message, the reply buffer" lent with it
 pub record Asked : Type 0 where
   pub message : Bytes
   pub buffer : Bytes
+
+-- what the ledger is told of what is lent: "the log's length", and "the waiting part's length too" where one is lent
+pub record Extent : Type 0 where
+  pub size : ℕ
+  pub waiting : Option ℕ
+
+-- test 3
+abbrev pub allowed : Extent → Bool
+allowed x = on (x .waiting) (logAllowed (x .size)) (lentAllowed (x .size))
+
+-- room for k sectors from the end on: 14 is "if the log has too few sectors from the end on", "or the waiting part has too few blank ones
+-- left": the rows wait that stand from `start` on
+unfoldable pub roomFrom : Extent → ℕ → ℕ → ℕ → Bool
+roomFrom x start end k =
+    on (x .waiting) (leb (end + k) (sectors (x .size))) (λ m. leb (end + k) (sectors (x .size)) && leb (end - start + k) (sectors m))
 
 -- what is answered: the number, 0 for none, and the reply buffer to its last byte
 pub record Answer : Type 0 where
@@ -82,8 +97,8 @@ bySession Shut closed f = closed
 bySession Fresh closed f = f false
 bySession Greeted closed f = f true
 
--- intact: the intact rows; end: "one past the last sector covered or changed, else 0"; size: the log's length
-module _ (intact : List Row) (end size : ℕ) where
+-- intact: the intact rows; end: "one past the last sector covered or changed, else 0"; start: the rows wait that stand from there on; x: what is lent
+module _ (intact : List Row) (end start : ℕ) (x : Extent) where
   -- "A read of the zero score gives no bytes. Another takes the first intact row of its type and score: 13 if longer than count, else
   -- its bytes; with none, 12 if a sector is uncovered, else 11"
   abbrev pub readRow : ℕ → ℕ → Bytes → ℕ → Decision
@@ -92,13 +107,13 @@ module _ (intact : List Row) (end size : ℕ) where
       (on (firstRow t s intact) (refusal (absent intact end))
       (λ r. cond (leb (length (r .bytes)) count) (reply (readReply tag (r .bytes)) Greeted stays) (refusal OverCount)))
 
-  -- "if that row has other bytes or data has the zero score, it is 15; if the log has too few sectors from the end on, 14. Else its row
-  -- is added, starting at the end"
+  -- "if that row has other bytes or data has the zero score, it is 15"; 14 for want of room. "Else its row is added, starting at the end"
   abbrev pub newRow : ℕ → Bytes → ℕ → Decision
   newRow t d tag =
       cond (same (sha1Of d) zeroScore) (refusal Clash)
-      (cond (ltb (sectors size) (end + partsOf (length d))) (refusal NoRoom)
-      (reply (writeReply tag (sha1Of d)) Greeted (adds (record { kind = t; score = sha1Of d; bytes = d; first = end }))))
+      (cond (roomFrom x start end (partsOf (length d)))
+      (reply (writeReply tag (sha1Of d)) Greeted (adds (record { kind = t; score = sha1Of d; bytes = d; first = end })))
+      (refusal NoRoom))
 
   -- "A write of no bytes, or of those in the first intact row of its type and SHA-1, adds no row"
   abbrev pub writeRow : ℕ → Bytes → ℕ → Decision
@@ -119,7 +134,7 @@ module _ (intact : List Row) (end size : ℕ) where
   decide false (Write t) m = refusal NoHello
   decide true Hello m = refusal BadHello
   decide true Ping m = reply (pingReply (tagOf m)) Greeted stays
-  decide true Sync m = reply (syncReply (tagOf m)) Greeted stays
+  decide true Sync m = reply (syncReply (tagOf m)) Greeted settles
   decide true (Read t c) m = cond (lawful t) (readRow t c (scoreOf m) (tagOf m)) (refusal BlockType)
   decide true (Write t) m =
       cond (lawful t) (cond (leb (length (dataOf m)) longest) (writeRow t (dataOf m) (tagOf m)) (refusal DataLength)) (refusal BlockType)
@@ -129,15 +144,16 @@ module _ (intact : List Row) (end size : ℕ) where
   decision s q =
       cond (framed (q .message))
       (cond (leb replyRoom (length (q .buffer)))
-      (cond (logAllowed size)
+      (cond (allowed x)
       (bySession s (silence Closed) (λ greeted. decide greeted (requestOf (q .message)) (q .message)))
       (silence LogLength))
       (silence Buffer))
       (silence Frame)
 
--- "It keeps ... the changed sectors ... and rows": one request by the ledger, told the rows, the changed sectors and the log's length. No row waits
-abbrev pub tell : List Row → List ℕ → ℕ → ℕ → Session → Asked → Ruling Answer Session Row
-tell rows changed start size s q =
+-- "It keeps ... the changed sectors ... and rows": one request by the ledger, told the rows, the changed sectors, from where
+-- on its rows wait, and the lengths of what is lent
+abbrev pub tell : List Row → List ℕ → ℕ → Extent → Session → Asked → Ruling Answer Session Row
+tell rows changed start x s q =
     let intact = intactRows (λ (r : Row). r .first) parts changed rows in
     let end = max (rowsEnd (λ (r : Row). r .first) parts rows) (changedEnd changed) in
-    rulingOf s (q .message) (q .buffer) (decision intact end size s q)
+    rulingOf s (q .message) (q .buffer) (decision intact end start x s q)

@@ -8,25 +8,25 @@ use Rattle.message.specs.Message.{framed, scoreOf, dataOf, requestOf}
 use Rattle.message.specs.declared.Request.{Request}
 use Rattle.message.specs.declared.Request.the-variants.{Read, Write}
 use Rattle.kind.specs.Kind.{lawful, longest}
-use Rattle.log.specs.LookUp.{logAllowed}
-use Rattle.archive.specs.Step.{replyRoom}
+use Rattle.log.specs.Parts.{Lent}
+use Rattle.request.specs.Step.{replyRoom, allowed}
 
 -- tests 1 to 3 pass, and the message makes this request
-pub record Asks (m buffer log : Bytes) (q : Request) : Type 0 where
+pub record Asks (m buffer : Bytes) (L : Lent) (q : Request) : Type 0 where
   pub frame : framed m ≡ true
   pub buffer-room : replyRoom ≤ length buffer
-  pub log-length : logAllowed (length log) ≡ true
+  pub lent-allowed : allowed L ≡ true
   pub request : requestOf m ≡ q
 
 -- a well-formed write of data d, of a lawful type t and length
-pub record Writes (m buffer log : Bytes) (t : ℕ) (d : Bytes) : Type 0 where
-  pub asks : Asks m buffer log (Write t)
+pub record Writes (m buffer : Bytes) (L : Lent) (t : ℕ) (d : Bytes) : Type 0 where
+  pub asks : Asks m buffer L (Write t)
   pub content : dataOf m ≡ d
   pub lawful-type : lawful t ≡ true
   pub not-long : length d ≤ longest
 
 -- a well-formed read of the score s, of a lawful type t, for at most count bytes
-pub record Reads (m buffer log : Bytes) (t count : ℕ) (s : Bytes) : Type 0 where
-  pub asks : Asks m buffer log (Read t count)
+pub record Reads (m buffer : Bytes) (L : Lent) (t count : ℕ) (s : Bytes) : Type 0 where
+  pub asks : Asks m buffer L (Read t count)
   pub score : scoreOf m ≡ s
   pub lawful-type : lawful t ≡ true

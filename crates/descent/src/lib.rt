@@ -1,4 +1,5 @@
 // What is below a block: the entries of a directory, and the scores of a pointer block, are visited in order while the allowance lasts.
+// The blocks lie in two runs of sectors that are read as one, as in `reader`.
 use entry::Entry;
 use log::Look;
 use refusal::Refusal;
@@ -10,7 +11,7 @@ ghost use Prim.Native.Nat.{ℕ, _+_, _%_, _≤_, _<_};
 ghost use lib.ListN.{length};
 ghost use Rattle.kind.specs.Kind.{longest};
 ghost use Rattle.block.specs.Block.{partsOf};
-ghost use Rattle.block.specs.Log.{sectors};
+ghost use Rattle.block.specs.Log.{sectors, joined};
 ghost use Rattle.reader.specs.Reader.{bytesAt};
 ghost use Rattle.descent.specs.Descent.{nestOf, entriesOf, visitDirectory, visitEntry};
 ghost use Rattle.descent.specs.Parts.{entryIn, visitListed, visitScores};
@@ -27,28 +28,30 @@ fn nest_of(e: Entry, nest: usize) -> usize
 }
 
 // Visits the entries of a directory block, one after the other.
-pub fn visit_directory(
-    log: &[u8],
+pub fn visit_directory<'a>(
+    log: &'a [u8],
+    end: SectorNumber,
+    waiting: &'a [u8],
     first: SectorNumber,
     size: usize,
     nest: usize,
     left: usize,
 ) -> Walked
-    requires { ⌜ (first .0 + partsOf size ≤ sectors (length (now log))) × (size ≤ longest) × (nest ≤ 16) ⌝ }
+    requires { ⌜ (end .0 ≤ sectors (length (now log))) × (first .0 + partsOf size ≤ end .0 + sectors (length (now waiting))) × (size ≤ longest) × (nest ≤ 16) ⌝ }
     ensures within { λ r. ⌜ r .visits ≤ left ⌝ }
-    ensures exact { λ r. ⌜ ((f : ℕ) → left + left + 2 ≤ f → r ≡ visitDirectory f (now (log .entry)) nest (bytesAt (now (log .entry)) (first .0) size) left) ⌝ }
+    ensures exact { λ r. ⌜ ((f : ℕ) → left + left + 2 ≤ f → r ≡ visitDirectory f (joined (end .0) (now (log .entry)) (now (waiting .entry))) nest (bytesAt (joined (end .0) (now (log .entry)) (now (waiting .entry))) (first .0) size) left) ⌝ }
 {
     let count = (size + 39) / 40;
     let mut visits: usize = 0;
     let mut i: usize = 0;
     while i < count {
-        let w = visit_listed(log, first, size, i, nest, left - visits);
-        let end = w.end;
+        let w = visit_listed(log, end, waiting, first, size, i, nest, left - visits);
+        let ended = w.end;
         visits += w.visits;
-        let End::Done = end else {
+        let End::Done = ended else {
             return Walked {
                 visits: visits,
-                end: end,
+                end: ended,
             };
         };
         i += 1;
@@ -60,19 +63,21 @@ pub fn visit_directory(
 }
 
 // Visits entry i of a directory block: an inactive one is skipped, and an ill-formed active one is refused.
-fn visit_listed(
-    log: &[u8],
+fn visit_listed<'a>(
+    log: &'a [u8],
+    end: SectorNumber,
+    waiting: &'a [u8],
     first: SectorNumber,
     size: usize,
     i: usize,
     nest: usize,
     left: usize,
 ) -> Walked
-    requires { ⌜ (first .0 + partsOf size ≤ sectors (length (now log))) × (size ≤ longest) × (nest ≤ 16) × (i < entriesOf size) ⌝ }
+    requires { ⌜ (end .0 ≤ sectors (length (now log))) × (first .0 + partsOf size ≤ end .0 + sectors (length (now waiting))) × (size ≤ longest) × (nest ≤ 16) × (i < entriesOf size) ⌝ }
     ensures within { λ r. ⌜ r .visits ≤ left ⌝ }
-    ensures exact { λ r. ⌜ ((f : ℕ) → left + left + 1 ≤ f → r ≡ visitListed f (now (log .entry)) nest (entryIn (bytesAt (now (log .entry)) (first .0) size) i) left) ⌝ }
+    ensures exact { λ r. ⌜ ((f : ℕ) → left + left + 1 ≤ f → r ≡ visitListed f (joined (end .0) (now (log .entry)) (now (waiting .entry))) nest (entryIn (bytesAt (joined (end .0) (now (log .entry)) (now (waiting .entry))) (first .0) size) i) left) ⌝ }
 {
-    let bytes = visit::entry_bytes(log, first, size, i);
+    let bytes = visit::entry_bytes(log, end, waiting, first, size, i);
     let e = entry::entry_at(&bytes, 0);
     if !e.active {
         return Walked {
@@ -86,16 +91,34 @@ fn visit_listed(
             end: End::Refused(Refusal::Entry),
         };
     }
-    visit_entry(log, e, &bytes[20..], e.depth, nest_of(e, nest), left)
+    visit_entry(
+        log,
+        end,
+        waiting,
+        e,
+        &bytes[20..],
+        e.depth,
+        nest_of(e, nest),
+        left,
+    )
 }
 
 // Visits a block of an entry at a level, and what is below it: a pointer block's scores, or the entries of a directory.
-fn visit_entry(log: &[u8], e: Entry, score: &[u8], level: usize, nest: usize, left: usize) -> Walked
-    requires { ⌜ (length (now score) ≡ 20) × (level ≤ 7) ⌝ }
+fn visit_entry<'a>(
+    log: &'a [u8],
+    end: SectorNumber,
+    waiting: &'a [u8],
+    e: Entry,
+    score: &[u8],
+    level: usize,
+    nest: usize,
+    left: usize,
+) -> Walked
+    requires { ⌜ (end .0 ≤ sectors (length (now log))) × (length (now score) ≡ 20) × (level ≤ 7) ⌝ }
     ensures within { λ r. ⌜ r .visits ≤ left ⌝ }
-    ensures exact { λ r. ⌜ ((f : ℕ) → left + left + 1 ≤ f → r ≡ visitEntry f (now (log .entry)) e level nest (now (score .entry)) left) ⌝ }
+    ensures exact { λ r. ⌜ ((f : ℕ) → left + left + 1 ≤ f → r ≡ visitEntry f (joined (end .0) (now (log .entry)) (now (waiting .entry))) e level nest (now (score .entry)) left) ⌝ }
 {
-    let m = visit::visit_level(log, e, score, level, nest, left);
+    let m = visit::visit_level(log, end, waiting, e, score, level, nest, left);
     let look = m.look;
     let Look::Found { first, size } = look else {
         return visit::answer(m);
@@ -104,7 +127,7 @@ fn visit_entry(log: &[u8], e: Entry, score: &[u8], level: usize, nest: usize, le
         if !e.directory {
             return visit::answer(m);
         }
-        return visit::one_more(visit_directory(log, first, size, nest, left - 1));
+        return visit::one_more(visit_directory(log, end, waiting, first, size, nest, left - 1));
     }
     if size % 20 != 0 {
         return Walked {
@@ -112,12 +135,14 @@ fn visit_entry(log: &[u8], e: Entry, score: &[u8], level: usize, nest: usize, le
             end: End::Refused(Refusal::Pointers),
         };
     }
-    visit::one_more(visit_scores(log, e, first, size, level - 1, nest, left - 1))
+    visit::one_more(visit_scores(log, end, waiting, e, first, size, level - 1, nest, left - 1))
 }
 
 // Visits the scores of a pointer block, one after the other: blocks of an entry at a level.
-fn visit_scores(
-    log: &[u8],
+fn visit_scores<'a>(
+    log: &'a [u8],
+    end: SectorNumber,
+    waiting: &'a [u8],
     e: Entry,
     first: SectorNumber,
     size: usize,
@@ -125,22 +150,22 @@ fn visit_scores(
     nest: usize,
     left: usize,
 ) -> Walked
-    requires { ⌜ (first .0 + partsOf size ≤ sectors (length (now log))) × (size ≤ longest) × (size % 20 ≡ 0) × (level ≤ 7) ⌝ }
+    requires { ⌜ (end .0 ≤ sectors (length (now log))) × (first .0 + partsOf size ≤ end .0 + sectors (length (now waiting))) × (size ≤ longest) × (size % 20 ≡ 0) × (level ≤ 7) ⌝ }
     ensures within { λ r. ⌜ r .visits ≤ left ⌝ }
-    ensures exact { λ r. ⌜ ((f : ℕ) → left + left + 1 ≤ f → r ≡ visitScores f (now (log .entry)) e level nest (bytesAt (now (log .entry)) (first .0) size) left) ⌝ }
+    ensures exact { λ r. ⌜ ((f : ℕ) → left + left + 1 ≤ f → r ≡ visitScores f (joined (end .0) (now (log .entry)) (now (waiting .entry))) e level nest (bytesAt (joined (end .0) (now (log .entry)) (now (waiting .entry))) (first .0) size) left) ⌝ }
 {
     let count = size / 20;
     let mut visits: usize = 0;
     let mut i: usize = 0;
     while i < count {
-        let s = visit::score_bytes(log, first, size, i);
-        let w = visit_entry(log, e, &s, level, nest, left - visits);
-        let end = w.end;
+        let s = tree::score_at(log, end, waiting, first, size, i);
+        let w = visit_entry(log, end, waiting, e, &s, level, nest, left - visits);
+        let ended = w.end;
         visits += w.visits;
-        let End::Done = end else {
+        let End::Done = ended else {
             return Walked {
                 visits: visits,
-                end: end,
+                end: ended,
             };
         };
         i += 1;

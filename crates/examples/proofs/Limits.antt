@@ -2,17 +2,21 @@
 use mathlib.Core.Path.{refl}
 use lib.ListN.{length}
 use borrow.Author.Tests.{le-ltb}
-use Rattle.log.specs.LookUp.{logAllowed}
-use Rattle.archive.specs.Step.{replyRoom, step}
+use Rattle.log.specs.LookUp.{logAllowed, waitingAllowed, lentAllowed}
+use Rattle.request.specs.Step.{replyRoom, step}
 use Rattle.examples.specs.Limits.{Limits}
 
 pub limits : Limits
-unfolding logAllowed step
+unfolding logAllowed waitingAllowed lentAllowed step
 limits = record {
   none = refl;
   over-the-old = refl;
   last = refl;
   beyond = refl;
   half = refl;
-  three = λ s m log buffer l f h. rw (f, le-ltb (length buffer) replyRoom h, l) refl;
+  none-waits = refl;
+  last-waits = refl;
+  beyond-waits = refl;
+  half-waits = refl;
+  three = λ s m log waiting buffer l f h. rw (f, le-ltb (length buffer) replyRoom h, l) refl;
 }

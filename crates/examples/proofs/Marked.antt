@@ -10,14 +10,14 @@ use Rattle.block.proofs.Counts.{counts}
 use Rattle.utf8.specs.Grammar.{follows}
 use Rattle.message.specs.Message.{framed, textEnd, countedEnd, bytesEnd, exactly, requestOf, dataOf}
 use Rattle.message.specs.Reply.{reply}
-use Rattle.archive.specs.Step.{replyRoom, write, fresh, greeted, inSession, step}
+use Rattle.request.specs.Step.{replyRoom, write, fresh, greeted, inSession, step}
 use Rattle.cut.proofs.Examples as cut
 use Rattle.entry.specs.Entry.{entryOf, wellFormed}
-use Rattle.file.specs.File.{entryReadable, located}
+use Rattle.file.specs.File.{entryReadable, extentAt, located}
 use Rattle.examples.specs.Marked.{Marked}
 
 pub marked : Marked
-unfolding digits valueFrom follows hex digitChar framed textEnd countedEnd bytesEnd exactly requestOf reply step inSession fresh greeted write entryOf wellFormed entryReadable located
+unfolding digits valueFrom follows hex digitChar framed textEnd countedEnd bytesEnd exactly requestOf reply step inSession fresh greeted write entryOf wellFormed entryReadable extentAt located
 marked = record {
   ping = λ log buffer a h. rw (le-ltb (length buffer) replyRoom h, a) refl;
   greeting = λ log buffer a h. rw (le-ltb (length buffer) replyRoom h, a) refl;
@@ -29,7 +29,7 @@ marked = record {
   all-zeros = cut.all-zeros;
   three = refl;
   passes = refl;
-  sixteen = λ log page offset l p. rw (l, p) refl;
+  sixteen = λ log waiting page offset l p. rw (l, p) refl;
   second = refl;
   then-second = refl;
 }

@@ -1,28 +1,44 @@
 -- The messages of the table, computed.
-use mathlib.Core.Path.{refl}
-use lib.ListN.{length}
+use mathlib.Core.Path.{_≡_, refl}
+use mathlib.Core.Bool.{true}
+use mathlib.Core.List.{[], _∷_}
+use Prim.Native.Nat.{_+_, _≤_}
+use lib.ListN.{length, replicate}
 use borrow.Author.Tests.{le-ltb}
 use Rattle.ground.specs.Places.{foundFrom}
+use Rattle.buffer.specs.Bytes.{Bytes}
 use Rattle.word.specs.Number.{digits, valueFrom}
 use Rattle.word.specs.Hex.{charDigit, readBytes}
 use Rattle.sha1_block.specs.Block.{wordsOf, snocWord, scheduleOf, roundOf, roundsOf, addHash, compressOf}
 use Rattle.sha1.specs.Sha1.{hashOf, padOf, paddedMessage, digestOf, sha1Of}
 use Rattle.kind.specs.Kind.{lawful, zeroScore}
 use Rattle.sector.specs.Sector.{blank}
-use Rattle.block.specs.Block.{partsOf}
-use Rattle.block.specs.Log.{at, usedOf, used, soundAs, sound}
-use Rattle.log.specs.LookUp.{blocks, firstOf, held, logAllowed}
-use Rattle.log.specs.Store.{roomFor, store}
-use Rattle.message.specs.Message.{framed, readOf, writeOf, requestOf}
+use Rattle.block.specs.Block.{partsOf, written}
+use Rattle.block.specs.Log.{sectors, at, joined, usedOf, used, soundAs, sound}
+use Rattle.log.specs.LookUp.{blocks, firstOf, held, logAllowed, waitingAllowed, lentAllowed}
+use Rattle.log.specs.Parts.{writtenFrom, beside, moved, roomFor, appendRow, settled}
+use Rattle.log.proofs.Room.{can-settle}
+use Rattle.log.specs.Store.{store}
+use Rattle.message.specs.Message.{framed, exactly, readOf, writeOf, requestOf}
 use Rattle.message.specs.Reply.{reply}
-use Rattle.archive.specs.Step.{replyRoom, read, write, greeted, inSession, step}
+use Rattle.request.specs.Step as steps
+use Rattle.request.specs.declared.Session.the-variants.{Greeted}
+use Rattle.request.specs.Step.{replyRoom, read, write, greeted, inSession, step}
 use Rattle.examples.specs.Messages.{Messages}
 
+synced : (log waiting buffer : Bytes) → steps.allowed (beside log waiting) ≡ true → replyRoom ≤ length buffer → used log + used waiting ≤ sectors (length log)
+    → step Greeted (0x00 ∷ 0x02 ∷ 0x10 ∷ 0x02 ∷ []) (beside log waiting) buffer
+    ≡ steps.granted (0x00 ∷ 0x02 ∷ 0x11 ∷ 0x02 ∷ []) Greeted (beside (moved log waiting) (replicate (length waiting) 0)) buffer
+unfolding digits valueFrom framed exactly requestOf reply steps.sync greeted inSession step settled
+synced log waiting buffer a h f = rw (le-ltb (length buffer) replyRoom h, a, can-settle log waiting f) refl
+
 pub messages : Messages
-unfolding digits valueFrom charDigit readBytes wordsOf snocWord scheduleOf roundOf roundsOf addHash compressOf hashOf padOf paddedMessage digestOf sha1Of lawful zeroScore blank partsOf at usedOf used soundAs sound foundFrom blocks firstOf held logAllowed roomFor store framed readOf writeOf requestOf reply read write greeted inSession step
+unfolding digits valueFrom charDigit readBytes wordsOf snocWord scheduleOf roundOf roundsOf addHash compressOf hashOf padOf paddedMessage digestOf sha1Of lawful zeroScore blank partsOf at usedOf used soundAs sound foundFrom blocks firstOf held logAllowed waitingAllowed lentAllowed joined writtenFrom roomFor appendRow written store framed readOf writeOf requestOf reply read write greeted inSession step
 messages = record {
   read-empty = λ log buffer a h. rw (le-ltb (length buffer) replyRoom h, a) refl;
   write-abc = λ buffer h. rw (le-ltb (length buffer) replyRoom h) refl;
+  sync = synced;
   empty-write = λ buffer h. rw (le-ltb (length buffer) replyRoom h) refl;
   one-byte-write = λ buffer h. rw (le-ltb (length buffer) replyRoom h) refl;
+  no-part-write = λ buffer h. rw (le-ltb (length buffer) replyRoom h) refl;
 }

@@ -11,15 +11,15 @@ use Rattle.buffer.specs.Bytes.{Bytes, zeros}
 use Rattle.buffer.proofs.Bytes.{zeros-getD}
 use Rattle.refusal.specs.declared.Refusal.the-variants.{Entry as IllFormed}
 use Rattle.kind.specs.Kind.{longest}
-use Rattle.log.specs.LookUp.{logAllowed}
+use Rattle.log.specs.LookUp.{logAllowed, lentAllowed}
 use Rattle.message.specs.declared.Request.the-variants.{Ill}
 use Rattle.message.specs.Message.{typeOf, readOf, writeOf, requestOf}
-use Rattle.archive.specs.Step.{replyRoom, fresh, greeted, inSession, step}
-use Rattle.archive.specs.declared.Session.{Session}
-use Rattle.archive.specs.declared.Session.the-variants.{Fresh, Greeted, Closed}
+use Rattle.request.specs.Step.{replyRoom, fresh, greeted, inSession, step}
+use Rattle.request.specs.declared.Session.{Session}
+use Rattle.request.specs.declared.Session.the-variants.{Fresh, Greeted, Closed}
 use Rattle.entry.specs.Entry.{entryOf, wellFormed, entryAllowed}
 use Rattle.entry.specs.declared.Entry.{Entry}
-use Rattle.file.specs.File.{entryReadable, pageAllowed, located, answerOf}
+use Rattle.file.specs.File.{entryReadable, pageAllowed, extentAt, located, answerOf}
 use Rattle.visit.specs.declared.Walked.{Walked}
 use Rattle.visit.specs.declared.End.the-variants.{Done, Refused}
 use Rattle.visit.specs.Visit.{walked}
@@ -64,10 +64,10 @@ entry-ill : (x : Bytes) (k : ℕ) → k < 5 → (getD x (9 + k) 0 ≡ 0 → ⊥)
 unfolding entryOf
 entry-ill x k h n = padded (entryOf x) (marked 5 9 k x h n)
 
-file-ill : (log page entry : Bytes) (offset k : ℕ) → k < 5 → (getD entry (9 + k) 0 ≡ 0 → ⊥) → logAllowed (length log) ≡ true → pageAllowed page ≡ true
-    → answerOf (located log page entry offset) ≡ 16
-unfolding located entryReadable
-file-ill log page entry offset k h n l p =
+file-ill : (log waiting page entry : Bytes) (offset k : ℕ) → k < 5 → (getD entry (9 + k) 0 ≡ 0 → ⊥) → lentAllowed (length log) (length waiting) ≡ true → pageAllowed page ≡ true
+    → answerOf (located log waiting page entry offset) ≡ 16
+unfolding located extentAt entryReadable
+file-ill log waiting page entry offset k h n l p =
     rw (l, p, entry-ill entry k h n, and-false (entryOf entry .active), and-false (eqb (length entry) 40)) refl
 
 later : (x y : Bytes) (at : ℕ) → drop 4 x ≡ drop 4 y → drop (4 + at) x ≡ drop (4 + at) y

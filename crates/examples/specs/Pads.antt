@@ -5,11 +5,12 @@ use Prim.Native.Nat.{ℕ, _+_, _≤_, _<_}
 use lib.ListN.{length, getD, drop}
 use Rattle.buffer.specs.Bytes.{Bytes}
 use Rattle.refusal.specs.declared.Refusal.the-variants.{Body, Entry as IllFormed}
-use Rattle.log.specs.LookUp.{logAllowed}
+use Rattle.log.specs.LookUp.{logAllowed, lentAllowed}
 use Rattle.message.specs.Message.{framed, typeOf, tagOf}
-use Rattle.archive.specs.Step.{replyRoom, refused, step}
-use Rattle.archive.specs.declared.Session.{Session}
-use Rattle.archive.specs.declared.Session.the-variants.{Closed}
+use Rattle.log.specs.Parts.{Lent}
+use Rattle.request.specs.Step.{replyRoom, refused, step, allowed}
+use Rattle.request.specs.declared.Session.{Session}
+use Rattle.request.specs.declared.Session.the-variants.{Closed}
 use Rattle.entry.specs.Entry.{entryOf}
 use Rattle.file.specs.File.{pageAllowed, located, answerOf}
 use Rattle.visit.specs.declared.Walked.{Walked}
@@ -20,8 +21,8 @@ use Rattle.descent.specs.Descent.{judged}
 -- a message that tests 1 to 4 pass is refused with 6
 abbrev pub Six : Bytes → Type 0
 Six m =
-    (s : Session) (log buffer : Bytes) → (s ≡ Closed → ⊥) → framed m ≡ true → replyRoom ≤ length buffer → logAllowed (length log) ≡ true
-    → step s m log buffer ≡ refused Body (tagOf m) s log buffer
+    (s : Session) (L : Lent) (buffer : Bytes) → (s ≡ Closed → ⊥) → framed m ≡ true → replyRoom ≤ length buffer → allowed L ≡ true
+    → step s m L buffer ≡ refused Body (tagOf m) s L buffer
 
 pub record Pads : Type 0 where
   -- "read: score[20] type[1] pad[1] count[2]", in any open session and of any block type
@@ -29,8 +30,8 @@ pub record Pads : Type 0 where
   -- "write: type[1] pad[3] data"
   pub write : (m : Bytes) (k : ℕ) → typeOf m ≡ 14 → k < 3 → (getD m (5 + k) 0 ≡ 0 → ⊥) → Six m
   -- "the five pad bytes of an active entry: 16", whatever else is right of it: reading a file, and in a walk
-  pub file : (log page entry : Bytes) (offset k : ℕ) → k < 5 → (getD entry (9 + k) 0 ≡ 0 → ⊥) → logAllowed (length log) ≡ true → pageAllowed page ≡ true
-      → answerOf (located log page entry offset) ≡ 16
+  pub file : (log waiting page entry : Bytes) (offset k : ℕ) → k < 5 → (getD entry (9 + k) 0 ≡ 0 → ⊥) → lentAllowed (length log) (length waiting) ≡ true → pageAllowed page ≡ true
+      → answerOf (located log waiting page entry offset) ≡ 16
   pub walk : (x : Bytes) (w : Walked) (k : ℕ) → k < 5 → (getD x (9 + k) 0 ≡ 0 → ⊥) → entryOf x .active ≡ true → judged x w ≡ walked 0 (Refused IllFormed)
   -- an inactive entry is skipped, whatever its other bytes are
   pub inactive : (x : Bytes) (w : Walked) → entryOf x .active ≡ false → judged x w ≡ walked 0 Done

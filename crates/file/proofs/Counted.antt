@@ -1,5 +1,5 @@
 -- Look-up with a count: what the code's answer says of the definition's.
-use mathlib.Core.Path.{_≡_, refl, sym, ap, _∙_}
+use mathlib.Core.Path.{_≡_, refl, sym, ap}
 use mathlib.Core.Bool.{Bool, true, false, cond}
 use mathlib.Core.Option.{Option, none, some}
 use Prim.Native.Nat.{ℕ}
@@ -13,22 +13,21 @@ use Rattle.refusal.specs.declared.Refusal.{Refusal}
 use Rattle.refusal.specs.declared.Refusal.the-variants as why
 use Rattle.sector_number.specs.declared.SectorNumber.{SectorNumber}
 use Rattle.block.specs.Block.{Row}
-use Rattle.log.specs.declared.Look.{Look}
 use Rattle.log.specs.declared.Look.the-variants as look
 use Rattle.log.specs.LookUp.{held, absence, lookUp, counted}
 use Rattle.log.proofs.Counted.{counted-found}
 use Rattle.lookup.proofs.Held.{Stands, held-stands}
-use Rattle.file.specs.declared.Located.{Located}
-use Rattle.file.specs.declared.Located.the-variants.{Refused}
+use Rattle.file.specs.declared.Extent.{Extent}
+use Rattle.file.specs.declared.Extent.the-variants.{Refused}
 use Rattle.file.specs.File.{fetched}
 
 -- refused
-pub fetched-refused : (log : Bytes) (t : ℕ) (s : Bytes) (count : ℕ) (f : Row → Located) (y : Refusal)
+pub fetched-refused : (log : Bytes) (t : ℕ) (s : Bytes) (count : ℕ) (f : Row → Extent) (y : Refusal)
     → look.Refused y ≡ counted count (lookUp log t s) → Refused y ≡ fetched log t s count f
 unfolding lookUp
 fetched-refused log t s count f y e = go (held log t s) e
   where
-    over : (n : ℕ) (b : Bool) (x : SectorNumber) (d : Located) → ltb count n ≡ b → look.Refused y ≡ cond b (look.Refused why.OverCount) (look.Found x n)
+    over : (n : ℕ) (b : Bool) (x : SectorNumber) (d : Extent) → ltb count n ≡ b → look.Refused y ≡ cond b (look.Refused why.OverCount) (look.Found x n)
         → Refused y ≡ cond (leb n count) d (Refused why.OverCount)
     over n true x d p q = let z : y ≡ why.OverCount = cc in rw (lt-leb n count (ltb-true count n p)) (ap Refused z)
     over n false x d p q = let z : _≡_ {A = ℕ} 0 1 = cc in absurd (omega arith)
@@ -44,7 +43,7 @@ pub record Fetched (log : Bytes) (t : ℕ) (s : Bytes) (count : ℕ) (x : Sector
   pub place : Stands log row
   pub first : row .first ≡ x .0
   pub size : length (row .bytes) ≡ n
-  pub is : (f : Row → Located) → f row ≡ fetched log t s count f
+  pub is : (f : Row → Extent) → f row ≡ fetched log t s count f
 
 pub fetched-found : (log : Bytes) (t : ℕ) (s : Bytes) (count : ℕ) (x : SectorNumber) (n : ℕ)
     → look.Found x n ≡ counted count (lookUp log t s) → Fetched log t s count x n

@@ -1,67 +1,102 @@
--- The run lies within its slice.
+-- The run lies within its slice: in one sector of the used part, and so in one part of the log.
 use mathlib.Core.Path.{_≡_, sym, _∙_}
+use mathlib.Core.Bool.{Bool}
 use Prim.Native.Nat.{ℕ, _+_, _-_, _*_, _/_, _%_, _≤_, _<_, min}
 use native.Mathlib.Nat.{min-le-left}
 use native.Mathlib.Omega.{arith}
 use lib.Dec.{ltb}
-use borrow.Author.Tests.{ltb-true}
+use borrow.Author.Tests.{ltb-true, ltb-false}
 use lib.ListN.{length}
 use Rattle.ground.proofs.Cases.{cond-ind}
 use Rattle.buffer.specs.Bytes.{Bytes}
 use Rattle.block.specs.Block.{Row, partsOf}
-use Rattle.block.specs.Log.{sectors}
+use Rattle.block.specs.Log.{used}
+use Rattle.block.proofs.Used.{used-le-sectors}
+use Rattle.block.proofs.Joined.{used-joined}
+use Rattle.log.specs.LookUp.{lentAllowed}
+use Rattle.log.specs.Parts.{tape}
 use Rattle.entry.specs.declared.Entry.{Entry}
 use Rattle.entry.specs.Entry.{entryOf, scoreOf}
+use Rattle.file.specs.declared.Extent.{Extent}
+use Rattle.file.specs.declared.Extent.the-variants.{Stored, Zeros, Refused}
 use Rattle.file.specs.declared.Located.{Located}
-use Rattle.file.specs.declared.Located.the-variants.{Stored, Zeros, Refused}
-use Rattle.file.specs.File.{zeroRun, placeIn, leafRun, under, located}
+use Rattle.file.specs.declared.Located.the-variants as part
+use Rattle.file.specs.File.{zeroRun, placeIn, leafRun, under, extentAt, split, located}
 use Rattle.lookup.proofs.Held.{Stands}
 use Rattle.tree.proofs.Pieces.{part-of}
-use Rattle.file.proofs.Tests.{located-ind}
+use Rattle.file.proofs.Tests.{extent-ind}
 use Rattle.file.proofs.Under.{under-ind}
 
--- within a log of l bytes and a page of p
-abbrev pub Inside : ℕ → ℕ → Located → Type 0
-Inside l p (Stored at n) = at + n ≤ l
-Inside l p (Zeros n) = n ≤ p
-Inside l p (Refused w) = Unit {0}
+-- in one of the first u sectors of a log, and within a page of p bytes
+abbrev pub Inside : ℕ → ℕ → Extent → Type 0
+Inside u p (Stored at n) = (at + n ≤ 512 * u) × (at % 512 + n ≤ 512) × (at < 512 * u)
+Inside u p (Zeros n) = n ≤ p
+Inside u p (Refused w) = Unit {0}
 
-stored-inside : (l n size k b c : ℕ) → n + partsOf size ≤ sectors l → k < size → placeIn n k + min (403 - k % 403) (min b c) ≤ l
-stored-inside l n size k b c h g =
+stored-inside : (u n size k b c : ℕ) → n + partsOf size ≤ u → k < size → Inside u 0 (Stored (placeIn n k) (min (403 - k % 403) (min b c)))
+stored-inside u n size k b c h g =
     let m = min-le-left (403 - k % 403) (min b c) in
     let j = part-of size k g in
     let i : k % 403 < 403 = omega arith in
-    let u : placeIn n k + (403 - k % 403) ≤ 512 * (n + k / 403) + 512 = omega arith in
-    let v : 512 * (n + k / 403) + 512 ≤ l = omega arith in
-    omega (arith, m, u, v)
+    let r : placeIn n k % 512 ≡ 96 + k % 403 = omega arith in
+    let w : placeIn n k + (403 - k % 403) ≤ 512 * (n + k / 403) + 512 = omega arith in
+    let v : 512 * (n + k / 403) + 512 ≤ 512 * u = omega arith in
+    (omega (arith, m, w, v), omega (arith, m, r), omega (arith, v, i))
 
 module _ (log : Bytes) (page : ℕ) (e : Entry) (offset : ℕ) where
-  In : Located → Type 0
-  In = Inside (length log) page
-
-  zero-in : In (zeroRun page e offset)
-  unfolding In
+  zero-in : Inside (used log) page (zeroRun page e offset)
   zero-in = min-le-left page _
 
-  leaf-in : (r : Row) → Stands log r → In (leafRun page e offset (r .first) (length (r .bytes)))
-  unfolding In leafRun
+  leaf-in : (r : Row) → Stands log r → Inside (used log) page (leafRun page e offset (r .first) (length (r .bytes)))
+  unfolding leafRun
   leaf-in r P =
-      cond-ind (Inside (length log) page) (ltb (offset % e .dsize) (length (r .bytes))) _ _
-      (λ q. stored-inside (length log) (r .first) (length (r .bytes)) (offset % e .dsize) _ _ (P .within) (ltb-true (offset % e .dsize) (length (r .bytes)) q))
+      cond-ind (Inside (used log) page) (ltb (offset % e .dsize) (length (r .bytes))) _ _
+      (λ q. stored-inside (used log) (r .first) (length (r .bytes)) (offset % e .dsize) _ _ (P .in-used) (ltb-true (offset % e .dsize) (length (r .bytes)) q))
       (λ q. zero-in)
 
-  under-in : (level : ℕ) (s : Bytes) → In (under log page e offset level s)
-  unfolding In
-  under-in = under-ind log page e offset (Inside (length log) page) tt tt tt zero-in leaf-in
+  pub under-in : (level : ℕ) (s : Bytes) → Inside (used log) page (under log page e offset level s)
+  under-in = under-ind log page e offset (Inside (used log) page) tt tt tt zero-in leaf-in
 
-pub located-in : (log page b : Bytes) (offset : ℕ) → Inside (length log) (length page) (located log page b offset)
-unfolding In
-located-in log page b offset =
-    located-ind log page b offset (Inside (length log) (length page)) (λ w. tt) (under-in log (length page) (entryOf b) offset ((entryOf b) .depth) (scoreOf b))
+pub extent-in : (lent : Bool) (log page b : Bytes) (offset : ℕ) → Inside (used log) (length page) (extentAt lent log page b offset)
+extent-in lent log page b offset =
+    extent-ind lent log page b offset (Inside (used log) (length page)) (λ w. tt) (under-in log (length page) (entryOf b) offset ((entryOf b) .depth) (scoreOf b))
 
-module _ (log page b : Bytes) (offset : ℕ) (w : Located) (e : w ≡ located log page b offset) where
-  pub stored-in : (at n : ℕ) → w ≡ Stored at n → at + n ≤ length log
-  stored-in at n q = rw (sym e ∙ q) at (located-in log page b offset)
+-- the same of the parts: a log with u used sectors, w behind it
+abbrev pub Shown : ℕ → ℕ → ℕ → Located → Type 0
+Shown u w p (part.Stored at n) = at + n ≤ 512 * u
+Shown u w p (part.Waiting at n) = at + n ≤ 512 * w
+Shown u w p (part.Zeros n) = n ≤ p
+Shown u w p (part.Refused v) = Unit {0}
 
-  pub zeros-in : (n : ℕ) → w ≡ Zeros n → n ≤ length page
-  zeros-in n q = rw (sym e ∙ q) at (located-in log page b offset)
+-- a sector that starts before a border ends before it
+one-part : (u at n : ℕ) → at < 512 * u → at % 512 + n ≤ 512 → at + n ≤ 512 * u
+one-part u at n a b = let q : at / 512 < u = omega arith in omega arith
+
+split-in : (u w p : ℕ) (x : Extent) → Inside (u + w) p x → Shown u w p (split (512 * u) x)
+split-in u w p (Stored at n) h =
+    cond-ind (Shown u w p) (ltb at (512 * u)) _ _
+    (λ q. one-part u at n (ltb-true at (512 * u) q) (h .1))
+    (λ q. let g = ltb-false at (512 * u) q in omega (arith, h .0, g))
+split-in u w p (Zeros n) h = h
+split-in u w p (Refused v) h = tt
+
+pub located-in : (log waiting page b : Bytes) (offset : ℕ) → Shown (used log) (used waiting) (length page) (located log waiting page b offset)
+unfolding located
+located-in log waiting page b offset =
+    let x = extentAt (lentAllowed (length log) (length waiting)) (tape log waiting) page b offset in
+    let h : Inside (used log + used waiting) (length page) x = rw (← used-joined log waiting) (extent-in (lentAllowed (length log) (length waiting)) (tape log waiting) page b offset) in
+    split-in (used log) (used waiting) (length page) x h
+
+module _ (log waiting page b : Bytes) (offset : ℕ) (w : Located) (e : w ≡ located log waiting page b offset) where
+  pub stored-in : (at n : ℕ) → w ≡ part.Stored at n → at + n ≤ length log
+  stored-in at n q =
+      let h : Shown (used log) (used waiting) (length page) (part.Stored at n) = rw (sym e ∙ q) at (located-in log waiting page b offset) in
+      omega (arith, h, used-le-sectors log)
+
+  pub waiting-in : (at n : ℕ) → w ≡ part.Waiting at n → at + n ≤ length waiting
+  waiting-in at n q =
+      let h : Shown (used log) (used waiting) (length page) (part.Waiting at n) = rw (sym e ∙ q) at (located-in log waiting page b offset) in
+      omega (arith, h, used-le-sectors waiting)
+
+  pub zeros-in : (n : ℕ) → w ≡ part.Zeros n → n ≤ length page
+  zeros-in n q = rw (sym e ∙ q) at (located-in log waiting page b offset)

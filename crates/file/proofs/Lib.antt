@@ -4,3 +4,4 @@ pub mod Steps
 pub mod Tests
 pub mod Under
 pub mod Inside
+pub mod Border

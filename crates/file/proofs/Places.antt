@@ -3,17 +3,14 @@ use mathlib.Core.Path.{_≡_, sym, ap, _∙_}
 use Prim.Native.Nat.{ℕ, suc, _+_, _-_, _*_, _/_, _%_, _^_, _≤_, _<_}
 use native.Mathlib.Nat.{div-one, div-div-eq-div-mul, pow-zero, pow-succ', mod-lt}
 use native.Mathlib.Omega.{arith}
-use lib.Dec.{leb}
-use borrow.Author.Tests.{le-leb, lt-leb, leb-false}
-use lib.ListN.{length, take, drop, getD, set, length-take, length-drop}
-use lib.Seq.{getD-take, getD-drop, take-suc, take-suc-set, take-all}
-use Rattle.ground.proofs.Cases.{cond-ind}
+use lib.ListN.{length, drop, getD}
+use lib.Seq.{getD-take, getD-drop}
 use Rattle.buffer.specs.Bytes.{Bytes}
 use Rattle.kind.specs.Kind.{longest}
 use Rattle.block.specs.Block.{partsOf}
 use Rattle.block.specs.Log.{sectors}
 use Rattle.block.proofs.At.{at-piece}
-use Rattle.block.proofs.Payloads.{payloads-getD}
+use Rattle.log.specs.LookUp.{mostSectors, mostWaiting}
 use Rattle.reader.specs.Reader.{bytesAt}
 use Rattle.tree.proofs.Pieces.{part-of, byte-in}
 use Rattle.file.specs.File.{placeIn}
@@ -49,3 +46,7 @@ module _ (log : Bytes) (n size : ℕ) (h : n + partsOf size ≤ sectors (length 
 -- an index is below p
 pub digit-small : (psize m r : ℕ) → 40 ≤ psize → psize ≤ longest → r ≡ m % (psize / 20) → r ≤ longest
 digit-small psize m r a b e = let g : 0 < psize / 20 = omega arith in omega (arith, mod-lt m g)
+
+-- a place in a log and a waiting part that are allowed has a number of 64 bits
+pub place-small : (e u m w : ℕ) → e ≤ u + sectors w → u ≤ sectors m → sectors m ≤ mostSectors → sectors w ≤ mostWaiting → 512 * e < 2 ^ 64
+place-small e u m w a b c d = omega arith

@@ -1,9 +1,8 @@
 -- One level of the tree, case by case: what the code does there makes what the definition says.
 use mathlib.Core.Path.{_≡_, refl, sym, ap, ap₂, _∙_}
 use mathlib.Core.Bool.{Bool, true, false, cond}
-use mathlib.Core.List.{[]}
 use mathlib.Core.Option.{some}
-use Prim.Native.Nat.{ℕ, zero, suc, _+_, _%_, _^_, _≤_, _<_}
+use Prim.Native.Nat.{ℕ, zero, suc, _+_, _%_, _≤_, _<_}
 use native.Mathlib.Omega.{arith}
 use lib.Dec.{eqb}
 use borrow.Author.Tests.{le-leb, lt-ltb, le-ltb, eq-eqb, ne-eqb}
@@ -14,17 +13,16 @@ use Rattle.refusal.specs.declared.Refusal.{Refusal}
 use Rattle.refusal.specs.declared.Refusal.the-variants as why
 use Rattle.sector_number.specs.declared.SectorNumber.{SectorNumber}
 use Rattle.block.specs.Block.{Row, partsOf}
-use Rattle.block.specs.Log.{sectors, joined}
+use Rattle.block.specs.Log.{sectors}
 use Rattle.log.specs.declared.Look.{Look}
 use Rattle.log.specs.declared.Look.the-variants as look
 use Rattle.log.specs.LookUp.{emptyRow, held, lookUp, counted}
 use Rattle.entry.specs.declared.Entry.{Entry}
 use Rattle.reader.specs.Reader.{bytesAt}
-use Rattle.reader.proofs.Alone.{bytes-alone}
 use Rattle.reader.proofs.Pieces.{length-bytes}
 use Rattle.tree.proofs.Pointers.{length-pointer}
-use Rattle.file.specs.declared.Located.{Located}
-use Rattle.file.specs.declared.Located.the-variants.{Refused}
+use Rattle.file.specs.declared.Extent.{Extent}
+use Rattle.file.specs.declared.Extent.the-variants.{Refused}
 use Rattle.tree.specs.Tree.{pointer, typeAt}
 use Rattle.file.specs.File.{zeroRun, storedRun, leafRun, fetched, pointerIndex, under}
 use Rattle.file.specs.Fetch.{endOf, runIn}
@@ -49,12 +47,9 @@ module _ (log : Bytes) (t : ℕ) (s : Bytes) (count : ℕ) (l : Look) (f : Secto
   pub found-room : f .0 + partsOf n ≤ sectors (length log)
   found-room = let F = found in omega (arith, F .first, ap partsOf (F .size), F .place .within)
 
--- a score of the block, read from the log with nothing behind it
-pub next-score : (log : Bytes) (l : Look) (f : SectorNumber) (n : ℕ) → l ≡ look.Found f n → (i : ℕ) (s : Bytes)
-    → s ≡ pointer (bytesAt (joined (sectors (length log)) log []) (f .0) n) i → n % 20 ≡ 0 → (s ≡ pointer (bytesAt log (f .0) n) i) × (length s ≡ 20)
-next-score log l f n z i s e h =
-    let p = e ∙ ap (λ (b : Bytes). pointer b i) (bytes-alone log (f .0) n) in
-    (p, length-pointer (bytesAt log (f .0) n) i s p (ap (λ (x : ℕ). x % 20) (length-bytes log (f .0) n) ∙ h))
+-- a score of the block
+pub next-score : (log : Bytes) (f : SectorNumber) (n i : ℕ) (s : Bytes) → s ≡ pointer (bytesAt log (f .0) n) i → n % 20 ≡ 0 → length s ≡ 20
+next-score log f n i s e h = length-pointer (bytesAt log (f .0) n) i s e (ap (λ (x : ℕ). x % 20) (length-bytes log (f .0) n) ∙ h)
 
 -- a look-up ends within the log
 pub look-room : (log : Bytes) (t : ℕ) (s : Bytes) (count : ℕ) (l : Look) → l ≡ counted count (lookUp log t s) → endOf l ≤ sectors (length log)
@@ -90,7 +85,7 @@ module _ (log : Bytes) (page : ℕ) (e : Entry) (offset : ℕ) where
 
   -- the leaf
   module _ (s : Bytes) (t : ℕ) (et : t ≡ typeAt e 0) (l : Look) (el : l ≡ counted (e .dsize) (lookUp log t s)) where
-    leaf-run : Row → Located
+    leaf-run : Row → Extent
     leaf-run r = leafRun page e offset (r .first) (length (r .bytes))
 
     leaf-looked : runIn page e offset l ≡ fetched log t s (e .dsize) leaf-run
@@ -116,7 +111,7 @@ module _ (log : Bytes) (page : ℕ) (e : Entry) (offset : ℕ) where
 
   -- a level above it
   module _ (level d : ℕ) (le : level ≡ suc d) (s : Bytes) (b : Bool) (p : b ≡ same s zeroScore) (q : b ≡ false) (l : Look) (el : l ≡ counted (e .psize) (lookUp log (2 + level) s)) where
-    below : Row → Located
+    below : Row → Extent
     below r = cond (eqb (length (r .bytes) % 20) 0) (under log page e offset d (pointer (r .bytes) (pointerIndex e offset d))) (Refused why.Pointers)
 
     level-opened : fetched log (2 + level) s (e .psize) below ≡ under log page e offset level s

@@ -1,7 +1,7 @@
 -- The tests before the tree, one after the other, and what they show.
 use mathlib.Core.Path.{_≡_, refl, sym, ap, _∙_}
 use mathlib.Core.Bool.{Bool, true, false, _&&_}
-use Prim.Native.Nat.{ℕ, _≤_, _<_}
+use Prim.Native.Nat.{ℕ, _*_, _≤_, _<_}
 use native.Mathlib.Omega.{arith}
 use lib.Dec.{leb, ltb, eqb}
 use borrow.Author.Tests.{lt-ltb, le-ltb, eq-eqb, ne-eqb, leb-true, eqb-true}
@@ -12,12 +12,14 @@ use Rattle.buffer.specs.Bytes.{Bytes, zeros}
 use Rattle.refusal.specs.declared.Refusal.{Refusal}
 use Rattle.refusal.specs.declared.Refusal.the-variants as why
 use Rattle.kind.specs.Kind.{longest}
-use Rattle.log.specs.LookUp.{logAllowed}
+use Rattle.block.specs.Log.{used}
+use Rattle.log.specs.LookUp.{lentAllowed}
+use Rattle.log.specs.Parts.{tape}
 use Rattle.entry.specs.declared.Entry.{Entry}
 use Rattle.entry.specs.Entry.{entryOf, wellFormed, scoreOf}
-use Rattle.file.specs.declared.Located.{Located}
-use Rattle.file.specs.declared.Located.the-variants.{Refused}
-use Rattle.file.specs.File.{pageAllowed, entryReadable, under, test, located}
+use Rattle.file.specs.declared.Extent.{Extent}
+use Rattle.file.specs.declared.Extent.the-variants.{Refused}
+use Rattle.file.specs.File.{pageAllowed, entryReadable, under, test, extentAt, split, located}
 use Rattle.file.specs.Fetch.{Open}
 
 -- ---- the page
@@ -79,40 +81,46 @@ bounds e offset w d o =
 pub opened : (b : Bytes) (e : Entry) (offset : ℕ) (r : Bool) → r ≡ entryReadable b → r ≡ true → e ≡ entryOf b → offset < e .size → Open e offset
 opened b e offset r u v h o = rw h (bounds (entryOf b) offset (formed b (sym u ∙ v)) (depth-few b) (rw h at o))
 
--- ---- all four
+-- ---- all four, where `lent` is what test 3 gave
 
-module _ (log page b : Bytes) (offset : ℕ) (a : Bool) (ea : a ≡ logAllowed (length log)) where
-  pub stops-log : a ≡ false → Refused why.LogLength ≡ located log page b offset
-  unfolding located
+module _ (lent : Bool) (log page b : Bytes) (offset : ℕ) (a : Bool) (ea : a ≡ lent) where
+  pub stops-log : a ≡ false → Refused why.LogLength ≡ extentAt lent log page b offset
+  unfolding extentAt
   stops-log q = rw (sym ea ∙ q)
 
   module _ (ta : a ≡ true) (g : Bool) (eg : g ≡ pageAllowed page) where
-    pub stops-page : g ≡ false → Refused why.Page ≡ located log page b offset
-    unfolding located
+    pub stops-page : g ≡ false → Refused why.Page ≡ extentAt lent log page b offset
+    unfolding extentAt
     stops-page q = rw (sym ea ∙ ta, sym eg ∙ q)
 
     module _ (tg : g ≡ true) (r : Bool) (er : r ≡ entryReadable b) where
-      pub stops-entry : r ≡ false → Refused why.Entry ≡ located log page b offset
-      unfolding located
+      pub stops-entry : r ≡ false → Refused why.Entry ≡ extentAt lent log page b offset
+      unfolding extentAt
       stops-entry q = rw (sym ea ∙ ta, sym eg ∙ tg, sym er ∙ q)
 
       module _ (tr : r ≡ true) (e : Entry) (ee : e ≡ entryOf b) where
-        pub stops-offset : e .size ≤ offset → Refused why.Offset ≡ located log page b offset
-        unfolding located
+        pub stops-offset : e .size ≤ offset → Refused why.Offset ≡ extentAt lent log page b offset
+        unfolding extentAt
         stops-offset h = rw (sym ea ∙ ta, sym eg ∙ tg, sym er ∙ tr, ← ee, le-ltb offset (e .size) h)
 
-        pub goes-down : offset < e .size → under log (length page) e offset (e .depth) (scoreOf b) ≡ located log page b offset
-        unfolding located
+        pub goes-down : offset < e .size → under log (length page) e offset (e .depth) (scoreOf b) ≡ extentAt lent log page b offset
+        unfolding extentAt
         goes-down h = rw (sym ea ∙ ta, sym eg ∙ tg, sym er ∙ tr, ← ee, lt-ltb offset (e .size) h)
 
 -- what holds of every refusal, and of what the tree gives, holds of the answer
-module _ (log page b : Bytes) (offset : ℕ) (P : Located → Type 0) (refused : (w : Refusal) → P (Refused w)) where
-  test-ind : (t : Bool) (w : Refusal) (x : Located) → P x → P (test t w x)
+module _ (lent : Bool) (log page b : Bytes) (offset : ℕ) (P : Extent → Type 0) (refused : (w : Refusal) → P (Refused w)) where
+  test-ind : (t : Bool) (w : Refusal) (x : Extent) → P x → P (test t w x)
   test-ind true w x h = h
   test-ind false w x h = refused w
 
-  pub located-ind : P (under log (length page) (entryOf b) offset ((entryOf b) .depth) (scoreOf b)) → P (located log page b offset)
-  unfolding located
-  located-ind h =
-      test-ind (logAllowed (length log)) why.LogLength _
+  pub extent-ind : P (under log (length page) (entryOf b) offset ((entryOf b) .depth) (scoreOf b)) → P (extentAt lent log page b offset)
+  unfolding extentAt
+  extent-ind h =
+      test-ind lent why.LogLength _
       (test-ind (pageAllowed page) why.Page _ (test-ind (entryReadable b) why.Entry _ (test-ind (ltb offset ((entryOf b) .size)) why.Offset _ h)))
+
+-- what is found in both parts read as one, shown in the part in which it lies
+pub shown : (log waiting page b : Bytes) (offset : ℕ) (x : Extent) → x ≡ extentAt (lentAllowed (length log) (length waiting)) (tape log waiting) page b offset
+    → split (512 * used log) x ≡ located log waiting page b offset
+unfolding located
+shown log waiting page b offset x e = ap (split (512 * used log)) e

@@ -1,5 +1,4 @@
 -- What holds of every run of zeros, of every leaf's run and of the three refusals holds of the run under any score.
-use mathlib.Core.Path.{_≡_}
 use Prim.Native.Nat.{ℕ, zero, suc, _%_}
 use lib.Dec.{leb, eqb}
 use lib.ListN.{length}
@@ -11,13 +10,13 @@ use Rattle.block.specs.Block.{Row}
 use Rattle.log.specs.LookUp.{held, absence}
 use Rattle.lookup.proofs.Held.{Stands, held-stands}
 use Rattle.entry.specs.declared.Entry.{Entry}
-use Rattle.file.specs.declared.Located.{Located}
-use Rattle.file.specs.declared.Located.the-variants.{Refused}
+use Rattle.file.specs.declared.Extent.{Extent}
+use Rattle.file.specs.declared.Extent.the-variants.{Refused}
 use Rattle.file.specs.File.{zeroRun, leafRun, fetched, under}
 
-module _ (log : Bytes) (page : ℕ) (e : Entry) (offset : ℕ) (P : Located → Type 0) (missing : P (Refused (absence log))) (long : P (Refused OverCount)) (uneven : P (Refused Pointers)) (zeros : P (zeroRun page e offset))
+module _ (log : Bytes) (page : ℕ) (e : Entry) (offset : ℕ) (P : Extent → Type 0) (missing : P (Refused (absence log))) (long : P (Refused OverCount)) (uneven : P (Refused Pointers)) (zeros : P (zeroRun page e offset))
     (leaf : (r : Row) → Stands log r → P (leafRun page e offset (r .first) (length (r .bytes)))) where
-  fetched-ind : (t : ℕ) (s : Bytes) (count : ℕ) (f : Row → Located) → ((r : Row) → Stands log r → P (f r)) → P (fetched log t s count f)
+  fetched-ind : (t : ℕ) (s : Bytes) (count : ℕ) (f : Row → Extent) → ((r : Row) → Stands log r → P (f r)) → P (fetched log t s count f)
   fetched-ind t s count f g =
       on-ind P (held log t s) _ _ (λ _. missing) (λ r q. cond-ind P (leb (length (r .bytes)) count) _ _ (λ _. g r (held-stands log t s r q)) (λ _. long))
 

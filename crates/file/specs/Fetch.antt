@@ -6,8 +6,8 @@ use Rattle.entry.specs.declared.Entry.{Entry}
 use Rattle.log.specs.declared.Look.{Look}
 use Rattle.log.specs.declared.Look.the-variants as look
 use Rattle.file.specs.File.{leafRun}
-use Rattle.file.specs.declared.Located.{Located}
-use Rattle.file.specs.declared.Located.the-variants.{Refused}
+use Rattle.file.specs.declared.Extent.{Extent}
+use Rattle.file.specs.declared.Extent.the-variants.{Refused}
 
 -- where the leaf that was found ends
 abbrev pub endOf : Look → ℕ
@@ -15,7 +15,7 @@ endOf (look.Found first size) = first .0 + partsOf size
 endOf (look.Refused w) = 0
 
 -- the run in the leaf that was found; "A missing block is refused, never zero"
-abbrev pub runIn : ℕ → Entry → ℕ → Look → Located
+abbrev pub runIn : ℕ → Entry → ℕ → Look → Extent
 runIn page e offset (look.Found first size) = leafRun page e offset (first .0) size
 runIn page e offset (look.Refused w) = Refused w
 

@@ -2,7 +2,7 @@
 use mathlib.Core.Bool.{Bool, not, cond, _&&_}
 use Prim.Native.Nat.{ℕ, zero, suc, _+_, _-_, _*_, _/_, _%_, _^_, min}
 use lib.Dec.{leb, ltb, eqb}
-use lib.ListN.{length, take, drop}
+use lib.ListN.{length}
 use Rattle.ground.specs.Choice.{on}
 use Rattle.buffer.specs.Bytes.{Bytes, same, zeros}
 use Rattle.kind.specs.Kind.{zeroScore}
@@ -10,15 +10,19 @@ use Rattle.refusal.specs.declared.Refusal.{Refusal}
 use Rattle.refusal.specs.declared.Refusal.the-variants as why
 use Rattle.refusal.specs.Number.{numberOf}
 use Rattle.block.specs.Block.{Row}
-use Rattle.log.specs.LookUp.{held, absence, logAllowed}
+use Rattle.block.specs.Log.{used}
+use Rattle.log.specs.LookUp.{held, absence, lentAllowed}
+use Rattle.log.specs.Parts.{tape}
 use Rattle.entry.specs.declared.Entry.{Entry}
 use Rattle.entry.specs.Entry.{entryOf, entryAllowed, scoreOf, pointers}
 use Rattle.tree.specs.Tree.{typeAt, pointer}
+use Rattle.file.specs.declared.Extent.{Extent}
+use Rattle.file.specs.declared.Extent.the-variants.{Stored, Zeros, Refused}
 use Rattle.file.specs.declared.Located.{Located}
-use Rattle.file.specs.declared.Located.the-variants.{Stored, Zeros, Refused}
+use Rattle.file.specs.declared.Located.the-variants as part
 
 -- "from zeros, the page's front, up to the end of page, dsize or file"; page is the page's length
-abbrev pub zeroRun : ℕ → Entry → ℕ → Located
+abbrev pub zeroRun : ℕ → Entry → ℕ → Extent
 zeroRun page e offset = Zeros (min page (min (e .dsize - offset % e .dsize) (e .size - offset)))
 
 -- where byte k of the block that starts at sector n lies in the log: in one sector, behind its 96 bytes of label
@@ -26,17 +30,17 @@ abbrev pub placeIn : ℕ → ℕ → ℕ
 placeIn n k = 512 * (n + k / 403) + (96 + k % 403)
 
 -- "from stored data, up to the end of payload, block or file"; the leaf is the block of `size` bytes that starts at sector n
-abbrev pub storedRun : Entry → ℕ → ℕ → ℕ → Located
+abbrev pub storedRun : Entry → ℕ → ℕ → ℕ → Extent
 storedRun e offset n size =
     Stored (placeIn n (offset % e .dsize))
     (min (403 - offset % e .dsize % 403) (min (size - offset % e .dsize) (e .size - offset)))
 
 -- what a leaf lacks up to dsize is zeros
-unfoldable pub leafRun : ℕ → Entry → ℕ → ℕ → ℕ → Located
+unfoldable pub leafRun : ℕ → Entry → ℕ → ℕ → ℕ → Extent
 leafRun page e offset n size = cond (ltb (offset % e .dsize) size) (storedRun e offset n size) (zeroRun page e offset)
 
 -- "A missing block is refused, never zero"; 13 is "block longer than count"
-abbrev pub fetched : Bytes → ℕ → Bytes → ℕ → (Row → Located) → Located
+abbrev pub fetched : Bytes → ℕ → Bytes → ℕ → (Row → Extent) → Extent
 fetched log t s count f =
     on (held log t s) (Refused (absence log)) (λ r. cond (leb (length (r .bytes)) count) (f r) (Refused why.OverCount))
 
@@ -46,7 +50,7 @@ pointerIndex e offset d = offset / e .dsize / pointers e ^ d % pointers e
 
 -- the run under a score at a level. "Level d is type 2+d, the leaf 13 or 2. Look-up count is psize for pointers, dsize for leaves; then 18";
 -- "below a zero score all is zero"
-unfoldable pub under : Bytes → ℕ → Entry → ℕ → ℕ → Bytes → Located
+unfoldable pub under : Bytes → ℕ → Entry → ℕ → ℕ → Bytes → Extent
 under log page e offset zero s =
     cond (same s zeroScore) (zeroRun page e offset)
     (fetched log (typeAt e 0) s (e .dsize) (λ r. leafRun page e offset (r .first) (length (r .bytes))))
@@ -66,19 +70,31 @@ unfoldable pub entryReadable : Bytes → Bool
 entryReadable b = eqb (length b) 40 && ((entryOf b) .active && entryAllowed b)
 
 -- a test, which refuses or lets through
-abbrev pub test : Bool → Refusal → Located → Located
+abbrev pub test : Bool → Refusal → Extent → Extent
 test b w x = cond b x (Refused w)
 
--- "Tests: 3, 19, 16, 17, then the tree"
-unfoldable pub located : Bytes → Bytes → Bytes → ℕ → Located
-located log page entry offset =
-    test (logAllowed (length log)) why.LogLength
+-- "Tests: 3, 19, 16, 17, then the tree": in one log of bytes, where `lent` is what test 3 gave
+unfoldable pub extentAt : Bool → Bytes → Bytes → Bytes → ℕ → Extent
+extentAt lent log page entry offset =
+    test lent why.LogLength
     (test (pageAllowed page) why.Page (test (entryReadable entry) why.Entry
     (test (ltb offset ((entryOf entry) .size)) why.Offset
     (under log (length page) (entryOf entry) offset ((entryOf entry) .depth) (scoreOf entry)))))
 
+-- "a piece of a block is shown where it lies, in the settled log or among the waiting sectors": before byte `border` in the log, from it on in the waiting part
+abbrev pub split : ℕ → Extent → Located
+split border (Stored at n) = cond (ltb at border) (part.Stored at n) (part.Waiting (at - border) n)
+split border (Zeros n) = part.Zeros n
+split border (Refused w) = part.Refused w
+
+-- where the bytes of a file at an offset lie: in the log's used part and then the waiting part as one log, and from there in either
+unfoldable pub located : Bytes → Bytes → Bytes → Bytes → ℕ → Located
+located log waiting page entry offset =
+    split (512 * used log) (extentAt (lentAllowed (length log) (length waiting)) (tape log waiting) page entry offset)
+
 -- "a second answer gives the number, 0 for none"
 abbrev pub answerOf : Located → ℕ
-answerOf (Stored at length) = 0
-answerOf (Zeros length) = 0
-answerOf (Refused w) = numberOf w
+answerOf (part.Stored at length) = 0
+answerOf (part.Waiting at length) = 0
+answerOf (part.Zeros length) = 0
+answerOf (part.Refused w) = numberOf w

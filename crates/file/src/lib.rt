@@ -1,4 +1,5 @@
-// Reading a file through its hash tree: the run of bytes at an offset, where it lies in the log or in the lent page of zeros.
+// Reading a file through its hash tree: the run of bytes at an offset, where it lies in the log, in the sectors that wait behind its used
+// part, or in the lent page of zeros.
 use entry::Entry;
 use log::Look;
 use refusal::Refusal;
@@ -10,14 +11,23 @@ ghost use mathlib.Core.Path.{_≡_};
 ghost use Prim.Native.Nat.{ℕ, _+_, _*_, _/_, _%_, _^_, _≤_, _<_, min};
 ghost use lib.ListN.{length};
 ghost use Rattle.block.specs.Block.{partsOf};
-ghost use Rattle.block.specs.Log.{sectors};
+ghost use Rattle.block.specs.Log.{sectors, joined};
 ghost use Rattle.file.specs.File.{zeroRun, placeIn, leafRun, under, pageAllowed, entryReadable, located, answerOf};
+ghost use Rattle.file.specs.File.{split as splitAt};
 ghost use Rattle.file.specs.Run.{runOf};
 ghost use Rattle.file.specs.Fetch.{endOf, runIn, Open};
 
-// Where the run at an offset lies: at a byte of the log, or at the front of the page; or why there is none.
+// Where the run at an offset lies in one log of bytes: at a byte of it, or at the front of the page; or why there is none.
+pub enum Extent {
+    Stored { at: usize, length: usize },
+    Zeros { length: usize },
+    Refused(Refusal),
+}
+
+// Where it lies in what is lent: at a byte of the log or of the waiting part, or at the front of the page; or why there is none.
 pub enum Located {
     Stored { at: usize, length: usize },
+    Waiting { at: usize, length: usize },
     Zeros { length: usize },
     Refused(Refusal),
 }
@@ -45,18 +55,18 @@ fn place_in(first: SectorNumber, k: usize) -> usize
 }
 
 // A run of zeros: the page's front, up to the end of page, leaf or file.
-fn zero_run(page: usize, e: Entry, offset: u64) -> Located
+fn zero_run(page: usize, e: Entry, offset: u64) -> Extent
     requires { ⌜ (0 < e .dsize) × (offset < e .size) ⌝ }
     ensures { λ r. ⌜ r ≡ zeroRun page e offset ⌝ }
 {
     let k = (offset % e.dsize as u64) as usize;
-    Located::Zeros {
+    Extent::Zeros {
         length: tree::least(page, e.dsize - k, e.size - offset),
     }
 }
 
 // The run in the leaf of `size` bytes that starts at a sector: stored, up to the end of payload, block or file; past the block's end zeros.
-fn leaf_run(page: usize, e: Entry, offset: u64, first: SectorNumber, size: usize) -> Located
+fn leaf_run(page: usize, e: Entry, offset: u64, first: SectorNumber, size: usize) -> Extent
     requires { ⌜ (0 < e .dsize) × (offset < e .size) × (512 * (first .0 + partsOf size) < 2 ^ 64) ⌝ }
     ensures { λ r. ⌜ r ≡ leafRun page e offset (first .0) size ⌝ }
 {
@@ -64,7 +74,7 @@ fn leaf_run(page: usize, e: Entry, offset: u64, first: SectorNumber, size: usize
     if size <= k {
         return zero_run(page, e, offset);
     }
-    Located::Stored {
+    Extent::Stored {
         at: place_in(first, k),
         length: tree::least(PAYLOAD - k % PAYLOAD, size - k, e.size - offset),
     }
@@ -72,13 +82,18 @@ fn leaf_run(page: usize, e: Entry, offset: u64, first: SectorNumber, size: usize
 
 // The leaf in which an offset lies, from the score at the top level down; below a zero score it is the empty block. A block that is
 // missing is refused: the look-up's refusal is handed on. So it is for every offset of that leaf.
-pub fn descend(log: &[u8], e: Entry, offset: u64, top: &[u8]) -> Look
-    requires { ⌜ Open e offset × (length (now top) ≡ 20) ⌝ }
-    ensures room { λ r. ⌜ endOf r ≤ sectors (length (now (log .entry))) ⌝ }
-    ensures run { λ r. ⌜ ((page o : ℕ) → o / e .dsize ≡ offset / e .dsize → runIn page e o r ≡ under (now (log .entry)) page e o (e .depth) (now (top .entry))) ⌝ }
+pub fn descend<'a>(
+    log: &'a [u8],
+    end: SectorNumber,
+    waiting: &'a [u8],
+    e: Entry,
+    offset: u64,
+    top: &[u8],
+) -> Look
+    requires { ⌜ (end .0 ≤ sectors (length (now log))) × Open e offset × (length (now top) ≡ 20) ⌝ }
+    ensures room { λ r. ⌜ endOf r ≤ end .0 + sectors (length (now (waiting .entry))) ⌝ }
+    ensures run { λ r. ⌜ ((page o : ℕ) → o / e .dsize ≡ offset / e .dsize → runIn page e o r ≡ under (joined (end .0) (now (log .entry)) (now (waiting .entry))) page e o (e .depth) (now (top .entry))) ⌝ }
 {
-    let none = [0u8; 0];
-    let end = SectorNumber(log.len() / SECTOR);
     let mut score = [0u8; 20];
     buffer::copy_at(&mut score, 0, top);
     let leaf = offset / e.dsize as u64;
@@ -91,7 +106,7 @@ pub fn descend(log: &[u8], e: Entry, offset: u64, top: &[u8]) -> Look
                 size: 0,
             };
         }
-        let look = lookup::fetch(log, &none, (2 + level) as u8, &score, e.psize);
+        let look = lookup::fetch(log, end, waiting, (2 + level) as u8, &score, e.psize);
         let Look::Found { first, size } = look else {
             return look;
         };
@@ -100,19 +115,43 @@ pub fn descend(log: &[u8], e: Entry, offset: u64, top: &[u8]) -> Look
         }
         level -= 1;
         let index = digit(leaf, p, level);
-        score = tree::score_at(log, end, &none, first, size, index as usize);
+        score = tree::score_at(log, end, waiting, first, size, index as usize);
     }
-    lookup::fetch(log, &none, tree::type_at(e, 0), &score, e.dsize)
+    lookup::fetch(log, end, waiting, tree::type_at(e, 0), &score, e.dsize)
 }
 
 // The run in the leaf that was found, or why there is none.
-fn run_in(look: Look, page: usize, e: Entry, offset: u64) -> Located
+fn run_in(look: Look, page: usize, e: Entry, offset: u64) -> Extent
     requires { ⌜ (0 < e .dsize) × (offset < e .size) × (512 * endOf look < 2 ^ 64) ⌝ }
     ensures { λ r. ⌜ r ≡ runIn page e offset look ⌝ }
 {
     match look {
         Look::Found { first, size } => leaf_run(page, e, offset, first, size),
-        Look::Refused(why) => Located::Refused(why),
+        Look::Refused(why) => Extent::Refused(why),
+    }
+}
+
+// The run in the part in which it lies: before the end of the log's sectors in the log, from there on in the waiting part.
+fn split(end: SectorNumber, run: Extent) -> Located
+    requires { ⌜ 512 * end .0 < 2 ^ 64 ⌝ }
+    ensures { λ r. ⌜ r ≡ splitAt (512 * end .0) run ⌝ }
+{
+    let border = SECTOR * end.0;
+    match run {
+        Extent::Stored { at, length } => {
+            if at < border {
+                return Located::Stored {
+                    at: at,
+                    length: length,
+                };
+            }
+            Located::Waiting {
+                at: at - border,
+                length: length,
+            }
+        }
+        Extent::Zeros { length } => Located::Zeros { length: length },
+        Extent::Refused(why) => Located::Refused(why),
     }
 }
 
@@ -141,10 +180,16 @@ pub fn is_readable(b: &[u8]) -> bool
 }
 
 // Where the bytes of a file at an offset lie.
-pub fn locate(log: &[u8], page: &[u8], entry: &[u8], offset: u64) -> Located
-    ensures { λ r. ⌜ r ≡ located (now (log .entry)) (now (page .entry)) (now (entry .entry)) offset ⌝ }
+pub fn locate<'a>(
+    log: &'a [u8],
+    waiting: &'a [u8],
+    page: &[u8],
+    entry: &[u8],
+    offset: u64,
+) -> Located
+    ensures { λ r. ⌜ r ≡ located (now (log .entry)) (now (waiting .entry)) (now (page .entry)) (now (entry .entry)) offset ⌝ }
 {
-    if !lookup::is_allowed(log.len()) {
+    if !lookup::are_allowed(log.len(), waiting.len()) {
         return Located::Refused(Refusal::LogLength);
     }
     if !is_page(page) {
@@ -157,19 +202,30 @@ pub fn locate(log: &[u8], page: &[u8], entry: &[u8], offset: u64) -> Located
     if e.size <= offset {
         return Located::Refused(Refusal::Offset);
     }
-    let look = descend(log, e, offset, &entry[20..40]);
-    run_in(look, page.len(), e, offset)
+    let end = lookup::border(log, waiting);
+    let look = descend(log, end, waiting, e, offset, &entry[20..40]);
+    split(end, run_in(look, page.len(), e, offset))
 }
 
-// The bytes themselves: a part of the log or of the page; an empty part of the page on a refusal.
-pub fn read<'a>(log: &'a [u8], page: &'a [u8], entry: &[u8], offset: u64) -> &'a [u8]
-    ensures { λ r. ⌜ runOf (located (now (log .entry)) (now (page .entry)) (now (entry .entry)) offset) (log .entry) (page .entry) r ⌝ }
+// The bytes themselves: a part of the log, of the waiting part or of the page; an empty part of the page on a refusal.
+pub fn read<'a>(
+    log: &'a [u8],
+    waiting: &'a [u8],
+    page: &'a [u8],
+    entry: &[u8],
+    offset: u64,
+) -> &'a [u8]
+    ensures { λ r. ⌜ runOf (located (now (log .entry)) (now (waiting .entry)) (now (page .entry)) (now (entry .entry)) offset) (log .entry) (waiting .entry) (page .entry) r ⌝ }
 {
-    let run = locate(log, page, entry, offset);
+    let run = locate(log, waiting, page, entry, offset);
     match run {
         Located::Stored { at, length } => {
             let end = at + length;
             return &log[at..end];
+        }
+        Located::Waiting { at, length } => {
+            let end = at + length;
+            return &waiting[at..end];
         }
         Located::Zeros { length } => {
             return &page[..length];
@@ -186,6 +242,7 @@ pub fn number(run: Located) -> u8
 {
     match run {
         Located::Stored { at: _, length: _ } => 0,
+        Located::Waiting { at: _, length: _ } => 0,
         Located::Zeros { length: _ } => 0,
         Located::Refused(why) => refusal::number(why),
     }

@@ -14,13 +14,15 @@ use Rattle.ground.proofs.Cases.{and-true}
 use Rattle.buffer.specs.Bytes.{Bytes, zeros}
 use Rattle.buffer.proofs.Bytes.{zeros-getD}
 use Rattle.block.specs.Block.{Row}
-use Rattle.log.specs.LookUp.{held}
+use Rattle.log.specs.LookUp.{held, lentAllowed}
+use Rattle.log.specs.Parts.{tape}
 use Rattle.entry.specs.declared.Entry.{Entry}
 use Rattle.entry.specs.Entry.{entryOf, scoreOf}
-use Rattle.file.specs.declared.Located.{Located}
-use Rattle.file.specs.File.{zeroRun, storedRun, pageAllowed, located}
+use Rattle.file.specs.declared.Extent.{Extent}
+use Rattle.file.specs.File.{zeroRun, storedRun, pageAllowed, extentAt, located}
 use Rattle.file_laws.specs.Path.{Answers}
 use Rattle.file_laws.specs.Bytes.{runBytes, byteUnder, fileByte, laid, RunIsTheFiles, WholeFile}
+use Rattle.file_laws.proofs.Extents.{Reads, extentBytes, shown-bytes, shown-reads}
 use Rattle.file_laws.proofs.Stored.{stored-bytes}
 use Rattle.file_laws.proofs.Runs.{least-pos, least-below, through, Onward, Run, under-run, nothing, block}
 
@@ -41,7 +43,7 @@ same-leaf w o j pos h =
 -- ---- one run
 
 -- bytes of the file from the offset on, one at least
-abbrev Next : Entry → ℕ → (ℕ → Option ℕ) → Bytes → Type 0
+abbrev pub Next : Entry → ℕ → (ℕ → Option ℕ) → Bytes → Type 0
 Next e offset byte b = (1 ≤ length b) × (offset + length b ≤ e .size) × ((j : ℕ) → j < length b → byte (offset + j) ≡ some (getD b j 0))
 
 pub page-facts : (page : Bytes) → pageAllowed page ≡ true → (0 < length page) × (zeros page ≡ true)
@@ -59,7 +61,7 @@ module _ (log page : Bytes) (e : Entry) (offset : ℕ) (byte : ℕ → Option �
   unfolding k
   k-lt = mod-lt offset dsize
 
-  zeros-next : pageAllowed page ≡ true → ((o : ℕ) → Onward e offset o → byte o ≡ some 0) → Next e offset byte (runBytes log page (zeroRun (length page) e offset))
+  zeros-next : pageAllowed page ≡ true → ((o : ℕ) → Onward e offset o → byte o ≡ some 0) → Next e offset byte (extentBytes log page (zeroRun (length page) e offset))
   unfolding k
   zeros-next p f =
       let P = page-facts page p in
@@ -75,7 +77,7 @@ module _ (log page : Bytes) (e : Entry) (offset : ℕ) (byte : ℕ → Option �
 
   stored-next : (t : ℕ) (s : Bytes) (r : Row) → held log t s ≡ some r → offset % e .dsize < length (r .bytes) → length (r .bytes) ≤ e .dsize
       → ((o : ℕ) → Onward e offset o → byte o ≡ some (getD (r .bytes) (o % e .dsize) 0))
-      → Next e offset byte (runBytes log page (storedRun e offset (r .first) (length (r .bytes))))
+      → Next e offset byte (extentBytes log page (storedRun e offset (r .first) (length (r .bytes))))
   unfolding k
   stored-next t s r h lt short f =
       let size = length (r .bytes) in
@@ -93,62 +95,68 @@ module _ (log page : Bytes) (e : Entry) (offset : ℕ) (byte : ℕ → Option �
             ∙ ap (λ (x : ℕ). some x) (sym (getD-take n (drop k (r .bytes)) j 0 (omega arith) ∙ getD-drop k (r .bytes) j 0)),
       )
 
-  run-next : (x : Located) → pageAllowed page ≡ true → Run log (length page) e offset byte x → Next e offset byte (runBytes log page x)
+  run-next : (x : Extent) → pageAllowed page ≡ true → Run log (length page) e offset byte x → Next e offset byte (extentBytes log page x)
   run-next x p (nothing a f) = rw a (zeros-next p f)
   run-next x p (block t s r h lt short a f) = rw a (stored-next t s r h lt short f)
 
-pub run-bytes : RunIsTheFiles
+pub run-in : (lent : Bool) (log page entry : Bytes) (offset : ℕ) → Reads (extentAt lent log page entry offset)
+    → Next (entryOf entry) offset (fileByte log entry) (extentBytes log page (extentAt lent log page entry offset))
 unfolding fileByte
-run-bytes log page entry offset a =
-    let T = through log page entry offset a in
+run-in lent log page entry offset a =
+    let T = through lent log page entry offset a in
     let e = entryOf entry in
     let byte : ℕ → Option ℕ = λ o. byteUnder log e o (e .depth) (scoreOf entry) in
     rw (← T .is) (run-next log page e offset byte (omega (arith, T .bounds .dsize-from)) (T .bounds .inside) _ (T .zeros)
     (under-run log (length page) e offset (e .depth) (scoreOf entry) (rw (T .is) a)))
 
+pub run-bytes : RunIsTheFiles
+run-bytes log waiting page entry offset a =
+    rw (shown-bytes log waiting page entry offset)
+    (run-in (lentAllowed (length log) (length waiting)) (tape log waiting) page entry offset (shown-reads log waiting page entry offset a))
+
 -- ---- all runs
 
-module _ (log page entry : Bytes) (answers : (o : ℕ) → o < (entryOf entry) .size → Answers (located log page entry o)) where
+module _ (log waiting page entry : Bytes) (answers : (o : ℕ) → o < (entryOf entry) .size → Answers (located log waiting page entry o)) where
   size : ℕ
   size = (entryOf entry) .size
 
   -- what is laid from an offset on is the rest of the file
   abbrev Rest : ℕ → Bytes → Type 0
-  Rest offset b = (length b ≡ size - offset) × ((i : ℕ) → i < size - offset → fileByte log entry (offset + i) ≡ some (getD b i 0))
+  Rest offset b = (length b ≡ size - offset) × ((i : ℕ) → i < size - offset → fileByte (tape log waiting) entry (offset + i) ≡ some (getD b i 0))
 
   none-left : (offset : ℕ) → size ≤ offset → Rest offset []
   none-left offset h = (omega arith, λ i g. absurd (omega arith))
 
-  one-more : (offset : ℕ) (b rest : Bytes) → offset + length b ≤ size → ((j : ℕ) → j < length b → fileByte log entry (offset + j) ≡ some (getD b j 0))
+  one-more : (offset : ℕ) (b rest : Bytes) → offset + length b ≤ size → ((j : ℕ) → j < length b → fileByte (tape log waiting) entry (offset + j) ≡ some (getD b j 0))
       → Rest (offset + length b) rest → Rest offset (b ++ rest)
   one-more offset b rest h f R = (omega (arith, length-append b rest, R .0), λ i g. go i g (ltb i (length b)) refl)
     where
-      go : (i : ℕ) → i < size - offset → (t : Bool) → ltb i (length b) ≡ t → fileByte log entry (offset + i) ≡ some (getD (b ++ rest) i 0)
+      go : (i : ℕ) → i < size - offset → (t : Bool) → ltb i (length b) ≡ t → fileByte (tape log waiting) entry (offset + i) ≡ some (getD (b ++ rest) i 0)
       go i g true q = let lt = ltb-true i (length b) q in f i lt ∙ ap (λ (x : ℕ). some x) (sym (List·getD-append b rest 0 i lt))
       go i g false q =
           let ge = ltb-false i (length b) q in
           let m : offset + i ≡ offset + length b + (i - length b) = omega arith in
           let n : length b + (i - length b) ≡ i = omega arith in
-          ap (fileByte log entry) m ∙ R .1 (i - length b) (omega arith)
+          ap (fileByte (tape log waiting) entry) m ∙ R .1 (i - length b) (omega arith)
           ∙ ap (λ (x : ℕ). some x) (sym (getD-append-add b rest (i - length b) 0) ∙ ap (λ (x : ℕ). getD (b ++ rest) x 0) n)
 
-  rest-laid : (k offset : ℕ) → size ≤ offset + k → Rest offset (laid k log page entry offset)
+  rest-laid : (k offset : ℕ) → size ≤ offset + k → Rest offset (laid k log waiting page entry offset)
   unfolding laid size
   rest-laid zero offset h = none-left offset (omega arith)
   rest-laid (suc k) offset h = go (ltb offset size) refl (rest-laid k)
     where
-      go : (b : Bool) → ltb offset size ≡ b → ((o : ℕ) → size ≤ o + k → Rest o (laid k log page entry o)) → Rest offset (laid (suc k) log page entry offset)
+      go : (b : Bool) → ltb offset size ≡ b → ((o : ℕ) → size ≤ o + k → Rest o (laid k log waiting page entry o)) → Rest offset (laid (suc k) log waiting page entry offset)
       go false q f = rw q (none-left offset (ltb-false offset size q))
       go true q f =
-          let run = runBytes log page (located log page entry offset) in
-          let R = run-bytes log page entry offset (answers offset (ltb-true offset size q)) in
-          rw q (one-more offset run (laid k log page entry (offset + length run)) (R .1) (R .2) (f (offset + length run) (omega (arith, R .0))))
+          let run = runBytes log waiting page (located log waiting page entry offset) in
+          let R = run-bytes log waiting page entry offset (answers offset (ltb-true offset size q)) in
+          rw q (one-more offset run (laid k log waiting page entry (offset + length run)) (R .1) (R .2) (f (offset + length run) (omega (arith, R .0))))
 
 pub whole-file : WholeFile
 unfolding size
-whole-file log page entry answers =
+whole-file log waiting page entry answers =
     let n = (entryOf entry) .size in
-    let R = rest-laid log page entry answers n 0 (omega arith) in (
+    let R = rest-laid log waiting page entry answers n 0 (omega arith) in (
       omega (arith, R .0),
-      λ i h. let z : i ≡ 0 + i = omega arith in ap (fileByte log entry) z ∙ R .1 i (omega arith),
+      λ i h. let z : i ≡ 0 + i = omega arith in ap (fileByte (tape log waiting) entry) z ∙ R .1 i (omega arith),
     )

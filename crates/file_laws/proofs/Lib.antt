@@ -1,4 +1,5 @@
 pub mod Examples
+pub mod Extents
 pub mod Missing
 pub mod Stored
 pub mod Runs

@@ -11,51 +11,57 @@ use Rattle.kind.specs.Kind.{zeroScore}
 use Rattle.refusal.specs.declared.Refusal.{Refusal}
 use Rattle.refusal.specs.declared.Refusal.the-variants as why
 use Rattle.block.specs.Block.{Row}
-use Rattle.log.specs.LookUp.{held, absence}
+use Rattle.log.specs.LookUp.{held, absence, lentAllowed}
+use Rattle.log.specs.Parts.{tape}
 use Rattle.entry.specs.declared.Entry.{Entry}
 use Rattle.entry.specs.Entry.{entryOf, scoreOf}
-use Rattle.file.specs.declared.Located.{Located}
-use Rattle.file.specs.declared.Located.the-variants.{Refused}
+use Rattle.file.specs.declared.Extent.{Extent}
+use Rattle.file.specs.declared.Extent.the-variants.{Refused}
 use Rattle.tree.specs.Tree.{pointer, typeAt}
-use Rattle.file.specs.File.{zeroRun, leafRun, fetched, pointerIndex, under, test}
-use Rattle.file_laws.specs.Path.{Whole, Answers, ReadsWhole}
-use Rattle.file.proofs.Tests.{located-ind}
+use Rattle.file.specs.File.{zeroRun, leafRun, fetched, pointerIndex, under, test, extentAt}
+use Rattle.file.proofs.Tests.{extent-ind}
+use Rattle.file_laws.specs.Path.{Whole, ReadsWhole}
+use Rattle.file_laws.proofs.Extents.{Reads, shown-reads}
 
 -- a test that answers was passed
-pub tested : (b : Bool) (x : Located) (w : Refusal) → Answers (test b w x) → b ≡ true
+pub tested : (b : Bool) (x : Extent) (w : Refusal) → Reads (test b w x) → b ≡ true
 tested true x w a = refl
 tested false x w a = absurd a
 
-pub passed : (b : Bool) (x : Located) (w : Refusal) → Answers (test b w x) → Answers x
+pub passed : (b : Bool) (x : Extent) (w : Refusal) → Reads (test b w x) → Reads x
 passed true x w a = a
 passed false x w a = absurd a
 
 -- a score that isn't zero is looked up
-pub looked : (b : Bool) (x y : Located) → b ≡ false → Answers (cond b x y) → Answers y
+pub looked : (b : Bool) (x y : Extent) → b ≡ false → Reads (cond b x y) → Reads y
 looked true x y q a = absurd (true≢false q)
 looked false x y q a = a
 
 -- a look-up that answers found a block, not longer than the count
-pub held-if : (log : Bytes) (t : ℕ) (s : Bytes) (count : ℕ) (f : Row → Located) → Answers (fetched log t s count f)
-    → (r : Row) × (held log t s ≡ some r) × Answers (f r) × (leb (length (r .bytes)) count ≡ true)
+pub held-if : (log : Bytes) (t : ℕ) (s : Bytes) (count : ℕ) (f : Row → Extent) → Reads (fetched log t s count f)
+    → (r : Row) × (held log t s ≡ some r) × Reads (f r) × (leb (length (r .bytes)) count ≡ true)
 held-if log t s count f a = go (held log t s) refl a
   where
-    go : (o : Option Row) → held log t s ≡ o → Answers (on o (Refused (absence log)) (λ (r : Row). cond (leb (length (r .bytes)) count) (f r) (Refused why.OverCount)))
-        → (r : Row) × (held log t s ≡ some r) × Answers (f r) × (leb (length (r .bytes)) count ≡ true)
+    go : (o : Option Row) → held log t s ≡ o → Reads (on o (Refused (absence log)) (λ (r : Row). cond (leb (length (r .bytes)) count) (f r) (Refused why.OverCount)))
+        → (r : Row) × (held log t s ≡ some r) × Reads (f r) × (leb (length (r .bytes)) count ≡ true)
     go none q x = absurd x
     go (some r) q x = (r, q, passed (leb (length (r .bytes)) count) (f r) why.OverCount x, tested (leb (length (r .bytes)) count) (f r) why.OverCount x)
 
-pub under-whole : (log : Bytes) (page : ℕ) (e : Entry) (offset level : ℕ) (s : Bytes) → Answers (under log page e offset level s) → Whole log e offset level s
+pub under-whole : (log : Bytes) (page : ℕ) (e : Entry) (offset level : ℕ) (s : Bytes) → Reads (under log page e offset level s) → Whole log e offset level s
 unfolding under Whole
 under-whole log page e offset zero s a =
     λ z. let h = held-if log (typeAt e 0) s (e .dsize) (λ (r : Row). leafRun page e offset (r .first) (length (r .bytes))) (looked (same s zeroScore) (zeroRun page e offset) _ z a) in
     (h .0, h .1)
 under-whole log page e offset (suc d) s a =
-    λ z. let f : Row → Located = λ r. cond (eqb (length (r .bytes) % 20) 0) (under log page e offset d (pointer (r .bytes) (pointerIndex e offset d))) (Refused why.Pointers) in
+    λ z. let f : Row → Extent = λ r. cond (eqb (length (r .bytes) % 20) 0) (under log page e offset d (pointer (r .bytes) (pointerIndex e offset d))) (Refused why.Pointers) in
     let h = held-if log (2 + suc d) s (e .psize) f (looked (same s zeroScore) (zeroRun page e offset) _ z a) in
     (h .0, h .1, under-whole log page e offset d _ (passed (eqb (length ((h .0) .bytes) % 20) 0) _ why.Pointers (h .2)))
 
-pub read-whole : ReadsWhole
-read-whole log page b offset =
-    located-ind log page b offset (λ (x : Located). Answers x → Whole log (entryOf b) offset ((entryOf b) .depth) (scoreOf b)) (λ w a. absurd a)
+whole-in : (lent : Bool) (log page b : Bytes) (offset : ℕ) → Reads (extentAt lent log page b offset) → Whole log (entryOf b) offset ((entryOf b) .depth) (scoreOf b)
+whole-in lent log page b offset =
+    extent-ind lent log page b offset (λ (x : Extent). Reads x → Whole log (entryOf b) offset ((entryOf b) .depth) (scoreOf b)) (λ w a. absurd a)
     (under-whole log (length page) (entryOf b) offset ((entryOf b) .depth) (scoreOf b))
+
+pub read-whole : ReadsWhole
+read-whole log waiting page b offset a =
+    whole-in (lentAllowed (length log) (length waiting)) (tape log waiting) page b offset (shown-reads log waiting page b offset a)

@@ -1,5 +1,5 @@
 -- Whether an offset reads, and why not, does not depend on the page of zeros.
-use mathlib.Core.Path.{_≡_, refl, sym, ap, _∙_}
+use mathlib.Core.Path.{_≡_, refl, ap}
 use mathlib.Core.Bool.{Bool, true, false, cond}
 use mathlib.Core.Option.{Option, none, some}
 use Prim.Native.Nat.{ℕ, zero, suc, _+_, _%_}
@@ -12,46 +12,46 @@ use Rattle.kind.specs.Kind.{zeroScore}
 use Rattle.refusal.specs.declared.Refusal.{Refusal}
 use Rattle.refusal.specs.declared.Refusal.the-variants as why
 use Rattle.block.specs.Block.{Row}
-use Rattle.log.specs.LookUp.{held, absence, logAllowed}
+use Rattle.log.specs.LookUp.{held, absence}
 use Rattle.entry.specs.declared.Entry.{Entry}
 use Rattle.entry.specs.Entry.{entryOf, scoreOf}
 use Rattle.tree.specs.Tree.{pointer}
-use Rattle.file.specs.declared.Located.{Located}
-use Rattle.file.specs.declared.Located.the-variants.{Stored, Zeros, Refused}
-use Rattle.file.specs.File.{zeroRun, storedRun, leafRun, fetched, pointerIndex, under, pageAllowed, entryReadable, test, located}
-use Rattle.file_laws.specs.Path.{Answers}
+use Rattle.file.specs.declared.Extent.{Extent}
+use Rattle.file.specs.declared.Extent.the-variants.{Stored, Zeros, Refused}
+use Rattle.file.specs.File.{zeroRun, storedRun, leafRun, fetched, pointerIndex, under, pageAllowed, entryReadable, extentAt}
+use Rattle.file_laws.proofs.Extents.{Reads}
 
 -- why an offset does not read, if it does not
-abbrev pub whyNot : Located → Option Refusal
+abbrev pub whyNot : Extent → Option Refusal
 whyNot (Stored at n) = none
 whyNot (Zeros n) = none
 whyNot (Refused w) = some w
 
-pub refused-why : (x : Located) (w : Refusal) → whyNot x ≡ some w → x ≡ Refused w
+pub refused-why : (x : Extent) (w : Refusal) → whyNot x ≡ some w → x ≡ Refused w
 refused-why (Stored at n) w e = let z : _≡_ {A = ℕ} 0 1 = cc in absurd (omega arith)
 refused-why (Zeros n) w e = let z : _≡_ {A = ℕ} 0 1 = cc in absurd (omega arith)
 refused-why (Refused v) w e = let z : v ≡ w = cc in ap Refused z
 
-pub answers-why : (x : Located) → whyNot x ≡ none → Answers x
+pub answers-why : (x : Extent) → whyNot x ≡ none → Reads x
 answers-why (Stored at n) e = tt
 answers-why (Zeros n) e = tt
 answers-why (Refused w) e = let z : _≡_ {A = ℕ} 0 1 = cc in absurd (omega arith)
 
-pub why-answers : (x : Located) → Answers x → whyNot x ≡ none
+pub why-answers : (x : Extent) → Reads x → whyNot x ≡ none
 why-answers (Stored at n) a = refl
 why-answers (Zeros n) a = refl
 why-answers (Refused w) a = absurd a
 
-cond-alike : (b : Bool) (x x′ y y′ : Located) → whyNot x ≡ whyNot x′ → whyNot y ≡ whyNot y′ → whyNot (cond b x y) ≡ whyNot (cond b x′ y′)
+cond-alike : (b : Bool) (x x′ y y′ : Extent) → whyNot x ≡ whyNot x′ → whyNot y ≡ whyNot y′ → whyNot (cond b x y) ≡ whyNot (cond b x′ y′)
 cond-alike true x x′ y y′ p q = p
 cond-alike false x x′ y y′ p q = q
 
-on-alike : (o : Option Row) (x : Located) (f f′ : Row → Located) → ((r : Row) → whyNot (f r) ≡ whyNot (f′ r)) → whyNot (on o x f) ≡ whyNot (on o x f′)
+on-alike : (o : Option Row) (x : Extent) (f f′ : Row → Extent) → ((r : Row) → whyNot (f r) ≡ whyNot (f′ r)) → whyNot (on o x f) ≡ whyNot (on o x f′)
 on-alike none x f f′ g = refl
 on-alike (some r) x f f′ g = g r
 
 module _ (log : Bytes) (p q : ℕ) (e : Entry) (offset : ℕ) where
-  fetched-alike : (t : ℕ) (s : Bytes) (count : ℕ) (f f′ : Row → Located) → ((r : Row) → whyNot (f r) ≡ whyNot (f′ r))
+  fetched-alike : (t : ℕ) (s : Bytes) (count : ℕ) (f f′ : Row → Extent) → ((r : Row) → whyNot (f r) ≡ whyNot (f′ r))
       → whyNot (fetched log t s count f) ≡ whyNot (fetched log t s count f′)
   fetched-alike t s count f f′ g =
       on-alike (held log t s) (Refused (absence log)) _ _ (λ r. cond-alike (leb (length (r .bytes)) count) (f r) (f′ r) (Refused why.OverCount) (Refused why.OverCount) (g r) refl)
@@ -69,11 +69,11 @@ module _ (log : Bytes) (p q : ℕ) (e : Entry) (offset : ℕ) where
       (fetched-alike (2 + suc d) s (e .psize) _ _
       (λ r. cond-alike (eqb (length (r .bytes) % 20) 0) _ _ (Refused why.Pointers) (Refused why.Pointers) (under-alike d (pointer (r .bytes) (pointerIndex e offset d))) refl))
 
-pub any-page : (log p q entry : Bytes) (offset : ℕ) → pageAllowed p ≡ true → pageAllowed q ≡ true → whyNot (located log p entry offset) ≡ whyNot (located log q entry offset)
-unfolding located
-any-page log p q entry offset hp hq =
+pub any-page : (lent : Bool) (log p q entry : Bytes) (offset : ℕ) → pageAllowed p ≡ true → pageAllowed q ≡ true → whyNot (extentAt lent log p entry offset) ≡ whyNot (extentAt lent log q entry offset)
+unfolding extentAt
+any-page lent log p q entry offset hp hq =
     let e = entryOf entry in
     let below = under-alike log (length p) (length q) e offset (e .depth) (scoreOf entry) in
-    rw (hp, hq) (cond-alike (logAllowed (length log)) _ _ (Refused why.LogLength) (Refused why.LogLength)
+    rw (hp, hq) (cond-alike (lent) _ _ (Refused why.LogLength) (Refused why.LogLength)
     (cond-alike (entryReadable entry) _ _ (Refused why.Entry) (Refused why.Entry)
     (cond-alike (ltb offset (e .size)) _ _ (Refused why.Offset) (Refused why.Offset) below refl) refl) refl)

@@ -11,17 +11,17 @@ use Rattle.buffer.specs.Bytes.{Bytes, same}
 use Rattle.kind.specs.Kind.{zeroScore}
 use Rattle.refusal.specs.declared.Refusal.the-variants as why
 use Rattle.block.specs.Block.{Row}
-use Rattle.log.specs.LookUp.{held, logAllowed}
+use Rattle.log.specs.LookUp.{held}
 use Rattle.entry.specs.declared.Entry.{Entry}
 use Rattle.entry.specs.Entry.{entryOf, scoreOf, pointers}
-use Rattle.file.specs.declared.Located.{Located}
+use Rattle.file.specs.declared.Extent.{Extent}
 use Rattle.tree.specs.Tree.{pointer, typeAt}
-use Rattle.file.specs.File.{zeroRun, storedRun, leafRun, pointerIndex, under, pageAllowed, entryReadable, located}
+use Rattle.file.specs.File.{zeroRun, storedRun, leafRun, pointerIndex, under, pageAllowed, entryReadable, extentAt}
 use Rattle.file.specs.Fetch.{Open}
-use Rattle.file_laws.specs.Path.{Answers}
 use Rattle.file_laws.specs.Bytes.{byteUnder}
 use Rattle.file.proofs.Steps.{leaf-in, leaf-past, under-zero}
 use Rattle.file.proofs.Tests.{opened, goes-down}
+use Rattle.file_laws.proofs.Extents.{Reads}
 use Rattle.file_laws.proofs.Missing.{tested, passed, looked, held-if}
 
 -- ---- the least of three
@@ -34,25 +34,25 @@ least-below a b c = (omega arith, omega arith, omega arith)
 
 -- ---- the tests before the tree
 
-pub record Through (log page entry : Bytes) (offset : ℕ) : Type 0 where
+pub record Through (lent : Bool) (log page entry : Bytes) (offset : ℕ) : Type 0 where
   pub zeros : pageAllowed page ≡ true
   pub bounds : Open (entryOf entry) offset
-  pub is : under log (length page) (entryOf entry) offset ((entryOf entry) .depth) (scoreOf entry) ≡ located log page entry offset
+  pub is : under log (length page) (entryOf entry) offset ((entryOf entry) .depth) (scoreOf entry) ≡ extentAt lent log page entry offset
 
-pub through : (log page entry : Bytes) (offset : ℕ) → Answers (located log page entry offset) → Through log page entry offset
-unfolding located
-through log page entry offset a =
-    let b = passed (logAllowed (length log)) _ why.LogLength a in
+pub through : (lent : Bool) (log page entry : Bytes) (offset : ℕ) → Reads (extentAt lent log page entry offset) → Through lent log page entry offset
+unfolding extentAt
+through lent log page entry offset a =
+    let b = passed (lent) _ why.LogLength a in
     let c = passed (pageAllowed page) _ why.Page b in
     let d = passed (entryReadable entry) _ why.Entry c in
-    let l = tested (logAllowed (length log)) _ why.LogLength a in
+    let l = tested (lent) _ why.LogLength a in
     let p = tested (pageAllowed page) _ why.Page b in
     let r = tested (entryReadable entry) _ why.Entry c in
     let o = ltb-true offset ((entryOf entry) .size) (tested (ltb offset ((entryOf entry) .size)) _ why.Offset d) in
     record {
       zeros = p;
       bounds = opened entry (entryOf entry) offset true (sym r) refl refl o;
-      is = goes-down log page entry offset true (sym l) refl true (sym p) refl true (sym r) refl (entryOf entry) refl o;
+      is = goes-down lent log page entry offset true (sym l) refl true (sym p) refl true (sym r) refl (entryOf entry) refl o;
     }
 
 -- ---- the tree
@@ -62,7 +62,7 @@ abbrev pub Onward : Entry → ℕ → ℕ → Type 0
 Onward e offset o = (o / e .dsize ≡ offset / e .dsize) × (offset % e .dsize ≤ o % e .dsize)
 
 -- an answer x, where `byte` gives the file's bytes
-pub data Run (log : Bytes) (page : ℕ) (e : Entry) (offset : ℕ) (byte : ℕ → Option ℕ) (x : Located) : Type 0 where
+pub data Run (log : Bytes) (page : ℕ) (e : Entry) (offset : ℕ) (byte : ℕ → Option ℕ) (x : Extent) : Type 0 where
   nothing : x ≡ zeroRun page e offset → ((o : ℕ) → Onward e offset o → byte o ≡ some 0) → Run log page e offset byte x
   block : (t : ℕ) (s : Bytes) (r : Row) → held log t s ≡ some r → offset % e .dsize < length (r .bytes) → length (r .bytes) ≤ e .dsize
       → x ≡ storedRun e offset (r .first) (length (r .bytes)) → ((o : ℕ) → Onward e offset o → byte o ≡ some (getD (r .bytes) (o % e .dsize) 0))
@@ -70,7 +70,7 @@ pub data Run (log : Bytes) (page : ℕ) (e : Entry) (offset : ℕ) (byte : ℕ �
 
 module _ (log : Bytes) (page : ℕ) (e : Entry) (offset : ℕ) where
   -- the same run, by other names
-  rename : (f g : ℕ → Option ℕ) (x y : Located) → y ≡ x → ((o : ℕ) → Onward e offset o → g o ≡ f o) → Run log page e offset f x → Run log page e offset g y
+  rename : (f g : ℕ → Option ℕ) (x y : Extent) → y ≡ x → ((o : ℕ) → Onward e offset o → g o ≡ f o) → Run log page e offset f x → Run log page e offset g y
   rename f g x y p q (nothing a b) = nothing (p ∙ a) (λ o h. q o h ∙ b o h)
   rename f g x y p q (block t s r a k m b c) = block t s r a k m (p ∙ b) (λ o h. q o h ∙ c o h)
 
@@ -116,7 +116,7 @@ module _ (log : Bytes) (page : ℕ) (e : Entry) (offset : ℕ) where
     unfolding byteUnder
     level-byte d h o g = rw (q, h) (ap (λ (n : ℕ). byteUnder log e o d (pointer (r .bytes) (n / pointers e ^ d % pointers e))) g)
 
-  pub under-run : (level : ℕ) (s : Bytes) → Answers (under log page e offset level s)
+  pub under-run : (level : ℕ) (s : Bytes) → Reads (under log page e offset level s)
       → Run log page e offset (λ o. byteUnder log e o level s) (under log page e offset level s)
   unfolding under
   under-run zero s a = go (same s zeroScore) refl
@@ -130,7 +130,7 @@ module _ (log : Bytes) (page : ℕ) (e : Entry) (offset : ℕ) where
   under-run (suc d) s a = go (same s zeroScore) refl (under-run d)
     where
       go : (b : Bool) → same s zeroScore ≡ b
-          → ((s′ : Bytes) → Answers (under log page e offset d s′) → Run log page e offset (λ o. byteUnder log e o d s′) (under log page e offset d s′))
+          → ((s′ : Bytes) → Reads (under log page e offset d s′) → Run log page e offset (λ o. byteUnder log e o d s′) (under log page e offset d s′))
           → Run log page e offset (λ o. byteUnder log e o (suc d) s) (under log page e offset (suc d) s)
       go true q f = zero-run (suc d) s q
       go false q f =

@@ -6,6 +6,7 @@ use Prim.Native.Nat.{ℕ, _+_, _-_, _≤_, _<_, min}
 use lib.ListN.{length, take, drop, getD}
 use Rattle.buffer.specs.Bytes.{Bytes}
 use Rattle.refusal.specs.declared.Refusal.{Refusal}
+use Rattle.log.specs.Parts.{tape}
 use Rattle.entry.specs.Entry.{entryOf}
 use Rattle.file.specs.File.{pageAllowed, located}
 use Rattle.file.specs.declared.Located.the-variants as run
@@ -16,30 +17,30 @@ use Rattle.file_laws.specs.Bytes.{fileByte, laid}
 
 -- as many bytes as the count says are the file's, each the byte that look-up's definition has there; behind them the buffer is as it was lent
 abbrev pub FillIsTheFiles : Type 0
-FillIsTheFiles = (log entry : Bytes) (offset : ℕ) (d : Bytes)
-    → let r = fillOf log entry offset d in
+FillIsTheFiles = (log waiting entry : Bytes) (offset : ℕ) (d : Bytes)
+    → let r = fillOf log waiting entry offset d in
     (r .filled .count ≤ length d)
     × (r .filled .count ≤ (entryOf entry) .size - offset)
-    × ((i : ℕ) → i < r .filled .count → fileByte log entry (offset + i) ≡ some (getD (r .buffer) i 0))
+    × ((i : ℕ) → i < r .filled .count → fileByte (tape log waiting) entry (offset + i) ≡ some (getD (r .buffer) i 0))
     × (drop (r .filled .count) (r .buffer) ≡ drop (r .filled .count) d)
 
 -- what is filled are the runs laid end to end, whatever page of zeros these are read with; where nothing is refused, up to the end of the buffer or of the file
 abbrev pub FillIsTheRuns : Type 0
-FillIsTheRuns = (log page entry : Bytes) (offset : ℕ) (d : Bytes) → pageAllowed page ≡ true
-    → let r = fillOf log entry offset d in
-    (take (r .filled .count) (r .buffer) ≡ take (r .filled .count) (laid (r .filled .count) log page entry offset))
+FillIsTheRuns = (log waiting page entry : Bytes) (offset : ℕ) (d : Bytes) → pageAllowed page ≡ true
+    → let r = fillOf log waiting entry offset d in
+    (take (r .filled .count) (r .buffer) ≡ take (r .filled .count) (laid (r .filled .count) log waiting page entry offset))
     × (r .filled .stop ≡ Done → r .filled .count ≡ min (length d) ((entryOf entry) .size - offset))
 
 -- where every offset reads, a buffer of at least the file's size gets the file's `size` bytes
 abbrev pub FillWhole : Type 0
-FillWhole = (log page entry d : Bytes) → ((o : ℕ) → o < (entryOf entry) .size → Answers (located log page entry o)) → (entryOf entry) .size ≤ length d
-    → let r = fillOf log entry 0 d in
+FillWhole = (log waiting page entry d : Bytes) → ((o : ℕ) → o < (entryOf entry) .size → Answers (located log waiting page entry o)) → (entryOf entry) .size ≤ length d
+    → let r = fillOf log waiting entry 0 d in
     (r .filled .count ≡ (entryOf entry) .size)
-    × ((i : ℕ) → i < (entryOf entry) .size → fileByte log entry i ≡ some (getD (r .buffer) i 0))
+    × ((i : ℕ) → i < (entryOf entry) .size → fileByte (tape log waiting) entry i ≡ some (getD (r .buffer) i 0))
     × (0 < (entryOf entry) .size → r .filled .stop ≡ Done)
 
 -- the refusal is the one that reading gives at the first offset behind the bytes
 abbrev pub FillRefusal : Type 0
-FillRefusal = (log page entry : Bytes) (offset : ℕ) (d : Bytes) (w : Refusal) → pageAllowed page ≡ true
-    → let r = fillOf log entry offset d in
-    r .filled .stop ≡ Refused w → located log page entry (offset + r .filled .count) ≡ run.Refused w
+FillRefusal = (log waiting page entry : Bytes) (offset : ℕ) (d : Bytes) (w : Refusal) → pageAllowed page ≡ true
+    → let r = fillOf log waiting entry offset d in
+    r .filled .stop ≡ Refused w → located log waiting page entry (offset + r .filled .count) ≡ run.Refused w

@@ -7,12 +7,13 @@ use Rattle.buffer.specs.Bytes.{Bytes, same}
 use Rattle.kind.specs.Kind.{zeroScore}
 use Rattle.block.specs.Block.{Row}
 use Rattle.log.specs.LookUp.{held}
+use Rattle.log.specs.Parts.{tape}
 use Rattle.entry.specs.declared.Entry.{Entry}
 use Rattle.entry.specs.Entry.{entryOf, scoreOf}
 use Rattle.tree.specs.Tree.{pointer, typeAt}
 use Rattle.file.specs.File.{pointerIndex, located}
 use Rattle.file.specs.declared.Located.{Located}
-use Rattle.file.specs.declared.Located.the-variants.{Stored, Zeros, Refused}
+use Rattle.file.specs.declared.Located.the-variants.{Stored, Waiting, Zeros, Refused}
 
 -- no block on the path is missing: each is held, down to the leaf or to a zero score
 unfoldable pub Whole : Bytes → Entry → ℕ → ℕ → Bytes → Type 0
@@ -23,9 +24,11 @@ Whole log e offset (suc d) s =
 -- stored bytes or zeros, no refusal
 abbrev pub Answers : Located → Type 0
 Answers (Stored at n) = Unit {0}
+Answers (Waiting at n) = Unit {0}
 Answers (Zeros n) = Unit {0}
 Answers (Refused w) = ⊥
 
 -- "A missing block is refused, never zero": an answer comes only where every block on the path is held
 abbrev pub ReadsWhole : Type 0
-ReadsWhole = (log page b : Bytes) (offset : ℕ) → Answers (located log page b offset) → Whole log (entryOf b) offset ((entryOf b) .depth) (scoreOf b)
+ReadsWhole = (log waiting page b : Bytes) (offset : ℕ) → Answers (located log waiting page b offset)
+    → Whole (tape log waiting) (entryOf b) offset ((entryOf b) .depth) (scoreOf b)

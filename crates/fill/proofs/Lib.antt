@@ -2,3 +2,4 @@ pub mod Leaf
 pub mod Gather
 pub mod Tests
 pub mod Turn
+pub mod Border

@@ -9,14 +9,13 @@ use lib.ListN.{length}
 use Rattle.buffer.specs.Bytes.{Bytes}
 use Rattle.refusal.specs.declared.Refusal.{Refusal}
 use Rattle.refusal.specs.declared.Refusal.the-variants as why
-use Rattle.log.specs.LookUp.{logAllowed}
 use Rattle.entry.specs.declared.Entry.{Entry}
 use Rattle.entry.specs.Entry.{entryOf, scoreOf}
 use Rattle.file.specs.File.{pageAllowed, entryReadable}
 use Rattle.file.specs.Fetch.{Open}
 use Rattle.file.proofs.Tests.{goes-down}
 use Rattle.fill.specs.declared.Stop.the-variants.{Refused}
-use Rattle.fill.specs.Fill.{byteOf, byteAt, byteBelow, gathered, FillOutcome, fillOutcome, filledWith, fillOf}
+use Rattle.fill.specs.Fill.{byteOf, byteAt, byteBelow, gathered, FillOutcome, fillOutcome, filledWith, fillIn}
 use Rattle.fill.proofs.Gather.{gathered-same}
 
 -- further on in the file
@@ -39,30 +38,30 @@ zero-page = refl
 abbrev pub nothing : Bytes → Refusal → FillOutcome
 nothing d w = fillOutcome (record { count = 0; stop = Refused w }) d
 
-module _ (log b : Bytes) (offset : ℕ) (d : Bytes) (a : Bool) (ea : a ≡ logAllowed (length log)) where
-  pub fill-stops-log : a ≡ false → nothing d why.LogLength ≡ fillOf log b offset d
-  unfolding fillOf
+module _ (lent : Bool) (log b : Bytes) (offset : ℕ) (d : Bytes) (a : Bool) (ea : a ≡ lent) where
+  pub fill-stops-log : a ≡ false → nothing d why.LogLength ≡ fillIn lent log b offset d
+  unfolding fillIn
   fill-stops-log q = rw (sym ea ∙ q)
 
   module _ (ta : a ≡ true) (r : Bool) (er : r ≡ entryReadable b) where
-    pub fill-stops-entry : r ≡ false → nothing d why.Entry ≡ fillOf log b offset d
-    unfolding fillOf
+    pub fill-stops-entry : r ≡ false → nothing d why.Entry ≡ fillIn lent log b offset d
+    unfolding fillIn
     fill-stops-entry q = rw (sym ea ∙ ta, sym er ∙ q)
 
     module _ (tr : r ≡ true) (e : Entry) (ee : e ≡ entryOf b) where
-      pub fill-stops-offset : e .size ≤ offset → nothing d why.Offset ≡ fillOf log b offset d
-      unfolding fillOf
+      pub fill-stops-offset : e .size ≤ offset → nothing d why.Offset ≡ fillIn lent log b offset d
+      unfolding fillIn
       fill-stops-offset h = rw (sym ea ∙ ta, sym er ∙ tr, ← ee, le-ltb offset (e .size) h)
 
       -- at every offset of the file the tests let through
-      below : (o : ℕ) → o < e .size → byteBelow log e (scoreOf b) o ≡ byteAt log b o
-      below o h = ap (byteOf log) (goes-down log (0 ∷ []) b o a ea ta true (sym zero-page) refl r er tr e ee h)
+      below : (o : ℕ) → o < e .size → byteBelow log e (scoreOf b) o ≡ byteAt lent log b o
+      below o h = ap (byteOf log) (goes-down lent log (0 ∷ []) b o a ea ta true (sym zero-page) refl r er tr e ee h)
 
       pub fill-goes-down : offset < e .size
-          → filledWith d (gathered (byteBelow log e (scoreOf b)) (min (length d) (e .size - offset)) offset) ≡ fillOf log b offset d
-      unfolding fillOf
+          → filledWith d (gathered (byteBelow log e (scoreOf b)) (min (length d) (e .size - offset)) offset) ≡ fillIn lent log b offset d
+      unfolding fillIn
       fill-goes-down h =
           let n = min (length d) (e .size - offset) in
           let s : offset + n ≤ e .size = omega arith in
-          ap (filledWith d) (gathered-same (byteBelow log e (scoreOf b)) (byteAt log b) n offset (λ j p q. below j (omega arith)))
+          ap (filledWith d) (gathered-same (byteBelow log e (scoreOf b)) (byteAt lent log b) n offset (λ j p q. below j (omega arith)))
           ∙ sym (rw (sym ea ∙ ta, sym er ∙ tr, ← ee, lt-ltb offset (e .size) h) refl)

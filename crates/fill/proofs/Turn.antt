@@ -1,6 +1,6 @@
 -- One turn of the loop over leaves: the leaf's bytes written, or the refusal that ends it.
-use mathlib.Core.Path.{_≡_, refl, sym, ap, ap₂, _∙_}
-use mathlib.Core.List.{[], _++_}
+use mathlib.Core.Path.{_≡_, ap, _∙_}
+use mathlib.Core.List.{_++_}
 use Prim.Native.Nat.{ℕ, _+_, _-_, _/_, _%_, _≤_, _<_, min}
 use native.Mathlib.Nat.{mod-lt}
 use native.Mathlib.Omega.{arith}
@@ -12,8 +12,8 @@ use Rattle.sector.specs.Sector.{filled}
 use Rattle.sector_number.specs.declared.SectorNumber.{SectorNumber}
 use Rattle.block.specs.Block.{partsOf}
 use Rattle.block.specs.Log.{sectors, joined}
+use Rattle.block.proofs.Joined.{sectors-joined}
 use Rattle.reader.specs.Reader.{bytesAt}
-use Rattle.reader.proofs.Alone.{bytes-alone}
 use Rattle.log.specs.declared.Look.{Look}
 use Rattle.log.specs.declared.Look.the-variants as look
 use Rattle.entry.specs.declared.Entry.{Entry}
@@ -28,6 +28,10 @@ use Rattle.fill.proofs.Leaf.{leaf-refused, leaf-bytes}
 -- what holds behind `done` bytes
 abbrev pub Filling : (ℕ → Read) → ℕ → ℕ → Bytes → Bytes → ℕ → Type 0
 Filling read count offset d₀ d done = (done ≤ count) × (length d ≡ length d₀) × Rest read count offset d₀ d done
+
+-- what ends within both parts ends within them read as one
+pub room-both : (u : ℕ) (log waiting : Bytes) → u ≤ sectors (length log) → (n : ℕ) → n ≤ u + sectors (length waiting) → n ≤ sectors (length (joined u log waiting))
+room-both u log waiting h n e = omega (arith, sectors-joined u log waiting h)
 
 -- the length of the part that is lent
 pub length-part : (d : Bytes) (done m : ℕ) → done + m ≤ length d → length (take (done + m - done) (drop done d)) ≡ m
@@ -76,15 +80,14 @@ module _ (log : Bytes) (e : Entry) (top : Bytes) (offset count : ℕ) (d₀ d : 
     leaf-room = omega (arith, ends, ap endOf z)
 
     pub leaf-written : (ys : Bytes)
-        → ys ≡ filled (length (take (done + m - done) (drop done d))) (drop ((offset + done) % e .dsize) (bytesAt (joined (sectors (length log)) log []) (first .0) size))
+        → ys ≡ filled (length (take (done + m - done) (drop done d))) (drop ((offset + done) % e .dsize) (bytesAt log (first .0) size))
         → Filling (byteBelow log e top) count offset d₀ (take done d ++ (ys ++ drop (done + m - done) (drop done d))) (done + m)
     unfolding k
     leaf-written ys ey =
         let b = bytesAt log (first .0) size in
         let same = held .1 in
         let fits : done + m ≤ length d = omega (arith, leaf-within) in
-        let ew = ey ∙ ap (λ (x : Bytes). filled (length (take (done + m - done) (drop done d))) (drop k x)) (bytes-alone log (first .0) size) in
-        let put-in = part-filled-in d ys (drop k b) done m fits ew in
+        let put-in = part-filled-in d ys (drop k b) done m fits ey in
         let reads : (j : ℕ) → j < m → byteBelow log e top (offset + done + j) ≡ byte _ =
         λ j g. leaf-bytes log e top (offset + done) l found first size z leaf-room pos j (omega (arith, least .1)) in (
           leaf-within,

@@ -10,12 +10,13 @@ use Rattle.refusal.specs.declared.Refusal.the-variants as why
 use Rattle.refusal.specs.Number.{numberOf}
 use Rattle.log.specs.declared.Look.{Look}
 use Rattle.log.specs.declared.Look.the-variants as look
-use Rattle.log.specs.LookUp.{logAllowed}
+use Rattle.log.specs.LookUp.{lentAllowed}
+use Rattle.log.specs.Parts.{tape}
 use Rattle.entry.specs.declared.Entry.{Entry}
 use Rattle.entry.specs.Entry.{entryOf}
-use Rattle.file.specs.declared.Located.{Located}
-use Rattle.file.specs.declared.Located.the-variants as run
-use Rattle.file.specs.File.{under, entryReadable, located}
+use Rattle.file.specs.declared.Extent.{Extent}
+use Rattle.file.specs.declared.Extent.the-variants as run
+use Rattle.file.specs.File.{under, entryReadable, extentAt}
 use Rattle.fill.specs.declared.Stop.{Stop}
 use Rattle.fill.specs.declared.Stop.the-variants.{Done, Refused}
 use Rattle.fill.specs.declared.Filled.{Filled}
@@ -35,15 +36,15 @@ pub data Read : Type 0 where
   byte : ℕ → Read
   refused : Refusal → Read
 
--- the first byte of a run
-abbrev pub byteOf : Bytes → Located → Read
+-- the first byte of a run in one log of bytes
+abbrev pub byteOf : Bytes → Extent → Read
 byteOf log (run.Stored at n) = byte (getD log at 0)
 byteOf log (run.Zeros n) = byte 0
 byteOf log (run.Refused w) = refused w
 
--- byte o of the file of an entry: that of the run there. The page of one zero passes its test, and no byte depends on it
-abbrev pub byteAt : Bytes → Bytes → ℕ → Read
-byteAt log entry o = byteOf log (located log (0 ∷ []) entry o)
+-- byte o of the file of an entry: that of the run there, where `lent` is what test 3 gave. The page of one zero passes its test, and no byte depends on it
+abbrev pub byteAt : Bool → Bytes → Bytes → ℕ → Read
+byteAt lent log entry o = byteOf log (extentAt lent log (0 ∷ []) entry o)
 
 -- the same below a score at the top level
 abbrev pub byteBelow : Bytes → Entry → Bytes → ℕ → Read
@@ -80,10 +81,14 @@ filledWith d g = fillOutcome (record { count = length (g .bytes); stop = g .stop
 abbrev pub test : Bool → Refusal → Bytes → FillOutcome → FillOutcome
 test b w d x = cond b x (fillOutcome (record { count = 0; stop = Refused w }) d)
 
--- "Tests: 3, 16, 17, then the tree": the file's bytes from the offset on, up to the end of the buffer or of the file
-unfoldable pub fillOf : Bytes → Bytes → ℕ → Bytes → FillOutcome
-fillOf log entry offset d =
-    test (logAllowed (length log)) why.LogLength d
+-- "Tests: 3, 16, 17, then the tree": the file's bytes from the offset on, up to the end of the buffer or of the file, in one log of bytes
+unfoldable pub fillIn : Bool → Bytes → Bytes → ℕ → Bytes → FillOutcome
+fillIn lent log entry offset d =
+    test lent why.LogLength d
     (test (entryReadable entry) why.Entry d
     (test (ltb offset ((entryOf entry) .size)) why.Offset d
-    (filledWith d (gathered (byteAt log entry) (min (length d) ((entryOf entry) .size - offset)) offset))))
+    (filledWith d (gathered (byteAt lent log entry) (min (length d) ((entryOf entry) .size - offset)) offset))))
+
+-- the same in "the log's used part and then the waiting part as one log"
+abbrev pub fillOf : Bytes → Bytes → Bytes → ℕ → Bytes → FillOutcome
+fillOf log waiting entry offset d = fillIn (lentAllowed (length log) (length waiting)) (tape log waiting) entry offset d

@@ -2,11 +2,11 @@
 use entry::Entry;
 use log::Look;
 use refusal::Refusal;
-use sector::SECTOR;
 use sector_number::SectorNumber;
 ghost use mathlib.Core.Path.{_≡_};
 ghost use Prim.Native.Nat.{_-_, _≤_, min};
 ghost use lib.ListN.{length};
+ghost use Rattle.block.specs.Log.{sectors, joined};
 ghost use Rattle.file.specs.Fetch.{Open};
 ghost use Rattle.fill.specs.Fill.{stopNumber, stopOf, fillOutcome, filledWith, byteBelow, gathered, fillOf};
 
@@ -53,17 +53,23 @@ fn lesser(a: usize, b: u64) -> usize
 }
 
 // Fills d from an offset on, up to its end or the file's, below the score at the top level.
-fn fill_leaves(log: &[u8], e: Entry, top: &[u8], offset: u64, d: &mut [u8]) -> Filled
-    requires { ⌜ Open e offset × (length (now top) ≡ 20) ⌝ }
-    ensures { λ r. ⌜ fillOutcome r (now (d .exit)) ≡ filledWith (now (d .entry)) (gathered (byteBelow (now (log .entry)) e (now (top .entry))) (min (length (now (d .entry))) (e .size - offset)) offset) ⌝ }
+fn fill_leaves<'a>(
+    log: &'a [u8],
+    end: SectorNumber,
+    waiting: &'a [u8],
+    e: Entry,
+    top: &[u8],
+    offset: u64,
+    d: &mut [u8],
+) -> Filled
+    requires { ⌜ (end .0 ≤ sectors (length (now log))) × Open e offset × (length (now top) ≡ 20) ⌝ }
+    ensures { λ r. ⌜ fillOutcome r (now (d .exit)) ≡ filledWith (now (d .entry)) (gathered (byteBelow (joined (end .0) (now (log .entry)) (now (waiting .entry))) e (now (top .entry))) (min (length (now (d .entry))) (e .size - offset)) offset) ⌝ }
 {
-    let none = [0u8; 0];
-    let end = SectorNumber(log.len() / SECTOR);
     let count = lesser(d.len(), e.size - offset);
     let mut done: usize = 0;
     while done < count {
         let o = offset + done as u64;
-        let look = file::descend(log, e, o, top);
+        let look = file::descend(log, end, waiting, e, o, top);
         let Look::Found { first, size } = look else {
             return Filled {
                 count: done,
@@ -72,7 +78,7 @@ fn fill_leaves(log: &[u8], e: Entry, top: &[u8], offset: u64, d: &mut [u8]) -> F
         };
         let k = (o % e.dsize as u64) as usize;
         let next = done + lesser(e.dsize - k, (count - done) as u64);
-        tree::read_part(log, end, &none, first, size, k, &mut d[done..next]);
+        tree::read_part(log, end, waiting, first, size, k, &mut d[done..next]);
         done = next;
     }
     Filled {
@@ -81,11 +87,11 @@ fn fill_leaves(log: &[u8], e: Entry, top: &[u8], offset: u64, d: &mut [u8]) -> F
     }
 }
 
-// Fills d with the bytes of a file from an offset on: any log, entry, offset and buffer.
-pub fn fill(log: &[u8], entry: &[u8], offset: u64, d: &mut [u8]) -> Filled
-    ensures { λ r. ⌜ fillOutcome r (now (d .exit)) ≡ fillOf (now (log .entry)) (now (entry .entry)) offset (now (d .entry)) ⌝ }
+// Fills d with the bytes of a file from an offset on: any log, waiting part, entry, offset and buffer.
+pub fn fill<'a>(log: &'a [u8], waiting: &'a [u8], entry: &[u8], offset: u64, d: &mut [u8]) -> Filled
+    ensures { λ r. ⌜ fillOutcome r (now (d .exit)) ≡ fillOf (now (log .entry)) (now (waiting .entry)) (now (entry .entry)) offset (now (d .entry)) ⌝ }
 {
-    if !lookup::is_allowed(log.len()) {
+    if !lookup::are_allowed(log.len(), waiting.len()) {
         return Filled {
             count: 0,
             stop: Stop::Refused(Refusal::LogLength),
@@ -104,5 +110,6 @@ pub fn fill(log: &[u8], entry: &[u8], offset: u64, d: &mut [u8]) -> Filled
             stop: Stop::Refused(Refusal::Offset),
         };
     }
-    fill_leaves(log, e, &entry[20..40], offset, d)
+    let end = lookup::border(log, waiting);
+    fill_leaves(log, end, waiting, e, &entry[20..40], offset, d)
 }

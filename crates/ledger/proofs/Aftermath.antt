@@ -1,7 +1,7 @@
 -- What the events do to each block, after any history of them.
 use mathlib.Core.Path.{_≡_, refl, sym, ap, _∙_}
 use mathlib.Core.Bool.{Bool, true, false, cond, true≢false}
-use mathlib.Core.List.{List, [], _∷_, _++_, List·Memᴰ, List·Memᴰ·head, List·Memᴰ·tail}
+use mathlib.Core.List.{List, [], _∷_, _++_, List·Memᴰ, List·Memᴰ·head, List·Memᴰ·tail, List·Memᴰ·not-nil, List·Memᴰ·cases-cons}
 use mathlib.Core.Logic.{_⊎_, inl, inr}
 use mathlib.Core.Option.{Option, none, some}
 use Prim.Native.Nat.{ℕ, _+_, _-_, _≤_, _<_}
@@ -12,16 +12,17 @@ use Rattle.ground.proofs.Places.{found-in}
 use Rattle.ledger.specs.Archive.{Effect, stays, adds, settles, Archive}
 use Rattle.ledger.specs.Ledger.{has, hasAll, Ledger, told, enter, settle, covers, hit, end, keepRows, there, atSettling, crashed, note, blocks, Doubtful}
 use Rattle.ledger.specs.Laws.{Lawful}
-use Rattle.ledger.specs.History.{Item, given, ruling, Harm}
+use Rattle.ledger.specs.History.{Item, given, ruling, Harm, Books}
 use Rattle.ledger.specs.Reflects.{cell, Reflects}
-use Rattle.ledger.specs.Events.{Crash, begun, beginning, EventHistory, log-then, books-then}
-use Rattle.ledger.specs.Aftermath.{ledger-then, BlocksAreRows, ChangedIsDoubtful, DoubtfulNeeded, Hits, HitsMayHappen, ZeroingByTheEnd, SettledIsKept, UnlentIsSettled, WaitingIsDropped}
-use Rattle.ledger.specs.Aftermath.{Stopped, SettledStays, WholeIsThere, TornIsDoubtful, AsIfNeverWritten}
+use Rattle.ledger.specs.Events.{Event, ask, harm, stop, crash, grow, recountEvent, Possible, Crash, begun, beginning, EventHistory, log-then, books-then}
+use Rattle.ledger.specs.Aftermath.{ledger-then, BlocksAreRows, ChangedIsDoubtful, DoubtfulNeeded, Hits, HitsMayHappen, ZeroingByTheEnd, SettledIsKept, UnlentIsSettled, WaitingIsDropped, SettledForGood}
+use Rattle.ledger.specs.Aftermath.{Stopped, SettledStays, WholeIsThere, TornIsDoubtful, AsIfNeverWritten, NothingBehind}
 use Rattle.ledger.proofs.Covers.{covers-reads, covers-in, hit-none}
 use Rattle.ledger.proofs.Ends.{end-row, end-changed}
 use Rattle.ledger.proofs.Cells.{cell-in, cell-blank}
 use Rattle.ledger.proofs.Intact.{intact-out}
-use Rattle.ledger.proofs.Kept.{has-either, has-neither, all-out, keep-out, there-late}
+use Rattle.ledger.proofs.Kept.{has-either, has-neither, all-out, keep-out, keep-in, there-late}
+use Rattle.ledger.proofs.Trace.{along-keeps}
 use Rattle.ledger.proofs.Doubt.{unfit-doubtful, doubt-on}
 use Rattle.ledger.proofs.Reflects.{used-end, blocks-intact, sound-row}
 use Rattle.ledger.proofs.Steps.{none-waits}
@@ -197,7 +198,26 @@ module _ (A : Archive) (W : Lawful A) where
     torn-is-doubtful ok r m out = torn-doubtful A W (log-then A h .log) (beginning A (books-then A h) q) (on-its-way ok) arrived torn l hurt (stopped ok) r (m .0) (omega (arith, m .1, same-start)) out
 
     pub as-if-never-written : AsIfNeverWritten A h q arrived torn l hurt
-    as-if-never-written ok = never-written A W (log-then A h .log) (beginning A (books-then A h) q) (on-its-way ok) arrived torn l hurt (stopped ok)
+    as-if-never-written ok r way u = (
+      λ m. omega (arith, pos, end-row A (L .rows) r m, ends, u),
+      λ n c. go n c (has n (L .changed)) refl,
+    )
+      where
+        L : Ledger A
+        L = crashed A arrived torn (beginning A (books-then A h) q)
+
+        pos : 0 < parts r
+        pos = W .parts-pos r (on-its-way ok .valids r (way .0))
+
+        ends : A .used hurt ≡ end A L
+        ends = used-end A W hurt L (after A W (log-then A h .log) (beginning A (books-then A h) q) (on-its-way ok) arrived torn l hurt (stopped ok))
+
+        go : (n : ℕ) → covers A r n ≡ true → (b : Bool) → has n (L .changed) ≡ b → has n (L .changed) ≡ false
+        go n c false e = e
+        go n c true e = absurd (omega (arith, end-changed A (L .changed) n e, covers-reads A r n c .0, ends, u))
+
+    pub nothing-behind : NothingBehind A h q arrived torn l hurt
+    nothing-behind ok = never-written A W (log-then A h .log) (beginning A (books-then A h) q) (on-its-way ok) arrived torn l hurt (stopped ok)
 
   -- a row that waits
   pub waiting-is-dropped : WaitingIsDropped A
@@ -209,3 +229,62 @@ module _ (A : Archive) (W : Lawful A) where
       ∙ ap (λ (t : Bool). atSettling A (cond t (enter A r L) (settle A (enter A r L)))) (ap waits (sym (S .size)) ∙ w)
       ∙ ap (λ (rows : List Row). told A (L .changed) (record { rows = rows; changed = L .changed; start = L .start }))
       (keep-last A (λ s. ltb (first s) (L .start)) (L .rows) r (le-ltb (first r) (L .start) (omega (arith, p .1, S .waiting .before))))
+
+-- a row that does not wait stays, and never waits again
+module _ (A : Archive) (r : A .Row) (pos : 0 < A .parts r) where
+  open Archive A using (Extent, waits, Row, first, parts)
+
+  abbrev Rests : Ledger A → Type 0
+  Rests L = List·Memᴰ r (L .rows) × (first r < L .start)
+
+  in-front : (rows : List Row) (x : Row) → List·Memᴰ r rows → List·Memᴰ r (rows ++ (x ∷ []))
+  in-front [] x m = absurd (List·Memᴰ·not-nil m)
+  in-front (s ∷ rows) x m = go (List·Memᴰ·cases-cons m) (in-front rows x)
+    where
+      go : (r ≡ s) ⊎ List·Memᴰ r rows → (List·Memᴰ r rows → List·Memᴰ r (rows ++ (x ∷ []))) → List·Memᴰ r (s ∷ (rows ++ (x ∷ [])))
+      go (inl e) f = List·Memᴰ·head e
+      go (inr m′) f = List·Memᴰ·tail (f m′)
+
+  rests-told : (cs : List ℕ) (L : Ledger A) → List·Memᴰ r (L .rows) → Rests (told A cs L)
+  rests-told cs L m = (m, omega (arith, pos, end-row A (L .rows) r m))
+
+  rests-note : (x : Extent) (a : Effect Row) (L : Ledger A) → Rests L → Rests (note A x a L)
+  rests-note x stays L p = p
+  rests-note x settles L p = (p .0, omega (arith, pos, end-row A (L .rows) r (p .0)))
+  rests-note x (adds s) L p = go (waits x)
+    where
+      m : List·Memᴰ r (L .rows ++ (s ∷ []))
+      m = in-front (L .rows) s (p .0)
+
+      go : (b : Bool) → Rests (cond b (enter A s L) (settle A (enter A s L)))
+      go true = (m, p .1)
+      go false = (m, omega (arith, pos, end-row A (L .rows ++ (s ∷ [])) r m))
+
+  rests-begun : (a : Effect Row) (L : Ledger A) → Rests L → Rests (begun A a L)
+  rests-begun stays L p = p
+  rests-begun settles L p = p
+  rests-begun (adds s) L p = (in-front (L .rows) s (p .0), p .1)
+
+  rests-beginning : (b : Books A) (q : Option (Item A)) → Rests (b .ledger) → Rests (beginning A b q)
+  rests-beginning b none p = p
+  rests-beginning b (some q) p = rests-begun (ruling A b q .effect) (b .ledger) p
+
+  rests-event : (b : Books A) (e : Event A) → Possible A b e → Rests (b .ledger) → Rests (recountEvent A b e .state .ledger)
+  rests-event b (ask q) ok p = rests-note (A .extent (b .begin)) (ruling A b q .effect) (b .ledger) p
+  rests-event b (harm cs hurt) ok p = rests-told cs (b .ledger) (p .0)
+  rests-event b (stop l) ok p =
+      let L = b .ledger in
+      let m = keep-in A (λ x. ltb (first x) (L .start)) (L .rows) r (p .0) (lt-ltb (first r) (L .start) (p .1)) in
+      (m, omega (arith, pos, end-row A (keepRows A (λ x. ltb (first x) (L .start)) (L .rows)) r m))
+  rests-event b (crash q arrived torn l hurt) ok p =
+      let L = beginning A b q in
+      let s = rests-beginning b q p in
+      let m = keep-in A (there A (L .start) arrived) (L .rows) r (s .0) (rw (lt-ltb (first r) (L .start) (s .1)) refl) in
+      (m, omega (arith, pos, end-row A (keepRows A (there A (L .start) arrived) (L .rows)) r m))
+  rests-event b (grow g) ok p = p
+
+module _ (A : Archive) (W : Lawful A) where
+  pub settled-for-good : SettledForGood A
+  settled-for-good h r m early es ok =
+      along-keeps (recountEvent A) (λ b. Rests A r (W .parts-pos r (stands-then A W h .mirrors .valids r m)) (b .ledger)) (Possible A)
+      (rests-event A r (W .parts-pos r (stands-then A W h .mirrors .valids r m))) (books-then A h) es ok (m, early)

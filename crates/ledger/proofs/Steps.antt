@@ -153,7 +153,7 @@ module _ (A : Archive) (W : Lawful A) where
       valids = R .valids;
       owneds = R .owneds;
       apart = R .apart;
-      room = omega (arith, R .room, ap sectors (extent-settled log));
+      room = omega (arith, R .room, ap sectors (extent-settled log fits-in));
       plain = λ n e. same n ∙ R .plain n e;
       doubt = λ n e. doubt-same A W log (settled log) n same (R .doubt n e);
     }
@@ -192,7 +192,7 @@ module _ (A : Archive) (W : Lawful A) where
 
     pub keeps : (a : Effect Row) → FitsAt (end A L) (extent log) (L .start) a → Kept a
     keeps stays f = (R, S, refl)
-    keeps settles f = (reflects-settle log L R, waits-settle log L R, extent-settled log)
+    keeps settles f = (reflects-settle log L R, waits-settle log L R, extent-settled log (fits-in log L R))
     keeps (adds r) f =
         let p = f r refl in
         let fit : hasRoom (extent log) (start log) r ≡ true = rw (S .starts) (p .2) in

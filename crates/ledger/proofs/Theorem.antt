@@ -11,6 +11,8 @@ use Rattle.ledger.specs.History.{Item, AllOfBytes, given, Standing, answ
 use Rattle.ledger.specs.History.{Zeroing, Damage, Demand2, Demand3, Demand3Zeroed}
 use Rattle.ledger.specs.Reflects.{cell}
 use Rattle.ledger.specs.Events.{Event, ask, harm, stop, crash, grow, happen, recountEvent, Possible, Damaging, AnyDamage, AnyZeroing, EventHistory, log-then, books-then, StopAnswers}
+use lib.Dec.{ltb}
+use Rattle.ledger.proofs.Kept.{keep-out}
 use Rattle.ledger.proofs.Trace.{along-gives}
 use Rattle.ledger.proofs.Harm.{damage-zeroing, zeroing-harm}
 use Rattle.ledger.proofs.Happens.{follows-all, all-that-happens, stands-then}
@@ -18,7 +20,7 @@ use Rattle.ledger.proofs.Asks.{opened, opened-all, asks, happen-asks, h
 use Rattle.ledger.proofs.After.{zeroing-first, none-waits-first}
 
 module _ (A : Archive) (W : Lawful A) where
-  open Archive A using (Log, Extent, extent, at, waits, alone, Row, valid)
+  open Archive A using (Log, Extent, extent, at, waits, alone, Row, first, valid)
   open Lawful W using (tell-adds)
 
   -- a list of requests, and what is seen of it as events
@@ -88,20 +90,21 @@ module _ (A : Archive) (W : Lawful A) where
       go false s m = new s (List·Memᴰ·append-cases (L .rows) m)
 
   zeroing-keeps : (b : Books A) (e : Event A) → Valid (b .ledger .rows) → Damaging A (Zeroing A) b e → Valid (recountEvent A b e .state .ledger .rows)
+  unfolding Valid
   zeroing-keeps b (ask q) v ok = valid-note (extent (b .begin)) (b .ledger) v (ruling A b q .effect)
       (λ r e. tell-adds (b .ledger) (extent (b .begin)) (given A (b .past) q) (q .request) r ok e .0)
   zeroing-keeps b (harm cs hurt) v ok = v
-  zeroing-keeps b (stop l) v ok = absurd ok
+  zeroing-keeps b (stop l) v ok = λ r m. v r (keep-out A (λ x. ltb (first x) (b .ledger .start)) (b .ledger .rows) r m .0)
   zeroing-keeps b (crash q arrived torn l hurt) v ok = absurd ok
-  zeroing-keeps b (grow g) v ok = absurd ok
+  zeroing-keeps b (grow g) v ok = v
 
   zeroing-possible : (b : Books A) (e : Event A) → Valid (b .ledger .rows) → Damaging A (Zeroing A) b e → Possible A b e
   unfolding Valid
   zeroing-possible b (ask q) v ok = ok
   zeroing-possible b (harm cs hurt) v ok = (ok .0, zeroing-harm A W (b .ledger .rows) (extent (b .begin)) cs hurt v (ok .1))
-  zeroing-possible b (stop l) v ok = absurd ok
+  zeroing-possible b (stop l) v ok = ok
   zeroing-possible b (crash q arrived torn l hurt) v ok = absurd ok
-  zeroing-possible b (grow g) v ok = absurd ok
+  zeroing-possible b (grow g) v ok = ok
 
   pub possible-zeroing : (x : Extent) (es : List (Event A)) → Along (Damaging A (Zeroing A)) (recountEvent A) (blank-books A x) es → Along (Possible A) (recountEvent A) (blank-books A x) es
   unfolding Valid
@@ -114,9 +117,9 @@ module _ (A : Archive) (W : Lawful A) where
   damage-shows : (b : Books A) (e : Event A) → Damaging A (Damage A) b e → Damaging A (Zeroing A) b e
   damage-shows b (ask q) ok = ok
   damage-shows b (harm cs hurt) ok = (ok .0, damage-zeroing A W (cell A (b .ledger .rows)) (extent (b .begin)) cs hurt (ok .1))
-  damage-shows b (stop l) ok = absurd ok
+  damage-shows b (stop l) ok = ok
   damage-shows b (crash q arrived torn l hurt) ok = absurd ok
-  damage-shows b (grow g) ok = absurd ok
+  damage-shows b (grow g) ok = ok
 
   pub possible-damage : (x : Extent) (es : List (Event A)) → Along (Damaging A (Damage A)) (recountEvent A) (blank-books A x) es → Along (Possible A) (recountEvent A) (blank-books A x) es
   possible-damage x es ok = possible-zeroing x es

@@ -5,9 +5,10 @@ use mathlib.Core.List.{List, _++_, List·Memᴰ}
 use mathlib.Core.Option.{Option, some}
 use Prim.Native.Nat.{ℕ, _≤_, _<_}
 use Rattle.ledger.specs.Archive.{adds, Archive}
-use Rattle.ledger.specs.Ledger.{has, hasAll, Ledger, covers, intact, end, NoneWaits, told, atSettling, blocks, Doubtful}
+use Rattle.ledger.specs.Ledger.{has, hasAll, Ledger, covers, intact, end, NoneWaits, told, atSettling, crashed, blocks, Doubtful}
 use Rattle.ledger.specs.History.{Item, ruling, recount}
-use Rattle.ledger.specs.Events.{harm, crash, beginning, Possible, EventHistory, log-then, books-then}
+use Rattle.ledger.specs.Trace.{trace, Along}
+use Rattle.ledger.specs.Events.{Event, harm, crash, recountEvent, beginning, Possible, EventHistory, log-then, books-then}
 
 module _ (A : Archive) where
   open Archive A using (Log, extent, sectors, at, blank, fits, used, waits, start, Loan, Row, first, parts, sound, OfBytes)
@@ -65,6 +66,13 @@ module _ (A : Archive) where
   WaitingIsDropped = (h : EventHistory A) (q : Item A) (r : Row) → OfBytes (q .request) → waits (extent (log-then A h .log)) ≡ true
       → ruling A (books-then A h) q .effect ≡ adds r → atSettling A (recount A (books-then A h) q .state .ledger) ≡ atSettling A (ledger-then h)
 
+  -- ---- a row that does not wait is a row for good, whatever happens after, and never waits again
+
+  abbrev pub SettledForGood : Type 0
+  SettledForGood = (h : EventHistory A) (r : Row) → List·Memᴰ r (ledger-then h .rows) → first r < ledger-then h .start
+      → (es : List (Event A)) → Along (Possible A) (recountEvent A) (books-then A h) es
+      → let L = trace (recountEvent A) (books-then A h) es .left .ledger in List·Memᴰ r (L .rows) × (first r < L .start)
+
   -- ---- a stop inside a write, after a history
 
   module _ (h : EventHistory A) (q : Option (Item A)) (arrived torn : List ℕ) (l : Loan) (hurt : Log) where
@@ -88,6 +96,12 @@ module _ (A : Archive) where
     TornIsDoubtful = Stopped → (r : Row) → OnItsWay r → hasAll arrived (first r) (parts r) ≡ false
         → (n : ℕ) → covers A r n ≡ true → n < used hurt → Doubtful A hurt n
 
-    -- behind all that arrived it is as if never written
+    -- one none of whose sectors is in the used part is as if never written: the ledger has no row of it, and no sector of it is changed
     abbrev pub AsIfNeverWritten : Type 0
-    AsIfNeverWritten = Stopped → (n : ℕ) → used hurt ≤ n → at hurt n ≡ blank
+    AsIfNeverWritten = Stopped → (r : Row) → OnItsWay r → used hurt ≤ first r
+        → let L = crashed A arrived torn (beginning A (books-then A h) q) in
+        (List·Memᴰ r (L .rows) → ⊥) × ((n : ℕ) → covers A r n ≡ true → has n (L .changed) ≡ false)
+
+    -- behind all that arrived each sector is blank
+    abbrev pub NothingBehind : Type 0
+    NothingBehind = Stopped → (n : ℕ) → used hurt ≤ n → at hurt n ≡ blank

@@ -106,9 +106,9 @@ module _ (A : Archive) where
   abbrev pub Damaging : ((ℕ → Sector) → Extent → List ℕ → Log → Type 0) → Books A → Event → Type 0
   Damaging Kind b (ask q) = OfBytes (q .request)
   Damaging Kind b (harm cs hurt) = NoneWaits A (b .ledger) × Kind (cell A (b .ledger .rows)) (extent (b .begin)) cs hurt
-  Damaging Kind b (stop l) = ⊥
+  Damaging Kind b (stop l) = Unit {0}
   Damaging Kind b (crash q arrived torn l hurt) = ⊥
-  Damaging Kind b (grow g) = ⊥
+  Damaging Kind b (grow g) = growable (extent (b .begin)) ≡ true
 
   -- "at each moment every changed sector must meet demand 3's premises against that"
   abbrev pub AnyDamage : Type 0

@@ -32,7 +32,7 @@ module _ (A : Archive) where
     pub at-written : (log : Log) (r : Row) (n : ℕ) → valid r ≡ true → start log ≤ first r → hasRoom (extent log) (start log) r ≡ true
         → at (written log r) n ≡ cond (within (first r) (parts r) n) (image r (n - first r)) (at log n)
     -- all settled: the same sectors, and the waiting part starts behind them
-    pub extent-settled : (log : Log) → extent (settled log) ≡ extent log
+    pub extent-settled : (log : Log) → used log ≤ sectors (extent log) → extent (settled log) ≡ extent log
     pub start-settled : (log : Log) → used log ≤ sectors (extent log) → start (settled log) ≡ used log
     pub at-settled : (log : Log) (n : ℕ) → used log ≤ sectors (extent log) → at (settled log) n ≡ at log n
     -- the log alone: nothing from where the waiting part started

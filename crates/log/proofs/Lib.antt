@@ -11,3 +11,4 @@ pub mod Alike
 pub mod Parts
 pub mod Counted
 pub mod Gives
+pub mod Room

@@ -1,7 +1,7 @@
 -- Laws of a log and its waiting part: a row written there is written behind the used part of both; moving changes no sector; where nothing
 -- waits all is the log's.
 use mathlib.Core.Path.{_≡_, refl, sym, ap, ap₂, _∙_}
-use mathlib.Core.Bool.{Bool, true, false, cond}
+use mathlib.Core.Bool.{Bool, true, false, cond, _&&_}
 use mathlib.Core.List.{[], _++_, append-assoc}
 use mathlib.Core.Logic.{_⊎_, inl, inr}
 use Prim.Native.Nat.{ℕ, _+_, _-_, _*_, _≤_, _<_}
@@ -10,7 +10,7 @@ use lib.Dec.{ltb}
 use borrow.Author.Tests.{ltb-true, ltb-false}
 use lib.ListN.{length, take, drop, length-take, length-drop, take-append-drop}
 use lib.Seq.{take-append-add, drop-append-add, length-take-le, drop-drop}
-use Rattle.buffer.specs.Bytes.{Bytes, put}
+use Rattle.buffer.specs.Bytes.{Bytes}
 use Rattle.block.specs.Block.{Row, parts, images, written}
 use Rattle.block.specs.Log.{sectors, at, Alike, joined, usedOf, used}
 use Rattle.block.proofs.At.{piece, piece-front, at-piece, at-middle, at-aside}
@@ -20,7 +20,7 @@ use Rattle.block.proofs.Alike.{used-alike}
 use Rattle.kind.specs.Kind.{lawful}
 use Rattle.refusal.specs.declared.Refusal.the-variants.{LogLength, BlockType}
 use Rattle.log.specs.declared.Look.the-variants.{Refused}
-use Rattle.log.specs.LookUp.{held, absence, lookUp, firstDoubtful, logAllowed, lookUpAsked}
+use Rattle.log.specs.LookUp.{held, absence, lookUp, firstDoubtful, logAllowed, waitingAllowed, lentAllowed, lookUpAsked}
 use Rattle.log.specs.Parts.{tape, writtenFrom, moved}
 use Rattle.log.specs.Laws.{LookUpAlone}
 use Rattle.log.proofs.Alike.{held-alike, absence-alike, first-doubtful-alike, look-up-alike}
@@ -75,11 +75,6 @@ module _ (log waiting : Bytes) where
         ∙ ap (λ (x : Bytes). front ++ x) (sym (take-append-drop (512 * used waiting) (drop (512 * used log) log))
         ∙ ap (λ (x : Bytes). old ++ x) (drop-drop (512 * used waiting) (512 * used log) log ∙ ap (λ (x : ℕ). drop x log) m))
 
-    aside : (n : ℕ) → (n < used log) ⊎ (used log + used waiting ≤ n) → at (moved log waiting) n ≡ at log n
-    unfolding moved front move back
-    aside n h =
-        at-aside front move old back (used log) (used waiting) n length-front length-move length-old h ∙ ap (λ (x : Bytes). at x n) (sym three)
-
     inside : (n : ℕ) → used log ≤ n → n < used log + used waiting → at (moved log waiting) n ≡ at waiting (n - used log)
     unfolding moved front move back
     inside n a b =
@@ -87,6 +82,11 @@ module _ (log waiting : Bytes) where
         ∙ sym (piece-front move (drop (512 * used waiting) waiting) (used waiting) (n - used log) length-move (omega arith))
         ∙ ap (λ (x : Bytes). piece x (n - used log)) (take-append-drop (512 * used waiting) waiting)
         ∙ sym (at-piece waiting (n - used log) (omega (arith, used-le-sectors waiting)))
+
+    aside : (n : ℕ) → (n < used log) ⊎ (used log + used waiting ≤ n) → at (moved log waiting) n ≡ at log n
+    unfolding moved front move back
+    aside n h =
+        at-aside front move old back (used log) (used waiting) n length-front length-move length-old h ∙ ap (λ (x : Bytes). at x n) (sym three)
 
     pub at-moved : Alike (moved log waiting) (tape log waiting)
     at-moved n = go (ltb n (used log)) (ltb n (used log + used waiting)) refl refl
@@ -109,6 +109,15 @@ used-moved log waiting room = used-alike (moved log waiting) (tape log waiting) 
 -- nothing waits: the sectors are the log's
 pub tape-alone : (log waiting : Bytes) → used waiting ≡ 0 → Alike (tape log waiting) log
 tape-alone log waiting e n = at-alone (used log) log waiting (used-le-sectors log) (omega arith) e n
+
+-- test 3 of a log with no waiting part is the log's
+pub lent-alone : (m : ℕ) → lentAllowed m 0 ≡ logAllowed m
+unfolding lentAllowed waitingAllowed
+lent-alone m = and-true (logAllowed m)
+  where
+    and-true : (b : Bool) → (b && true) ≡ b
+    and-true true = refl
+    and-true false = refl
 
 -- and with them look-up and doubt
 module _ (log : Bytes) where
@@ -134,7 +143,7 @@ module _ (log : Bytes) where
   pub look-up-asked-alone : (t : ℕ) (s : Bytes)
       → lookUpAsked log [] t s ≡ cond (logAllowed (length log)) (cond (lawful t) (lookUp log t s) (Refused BlockType)) (Refused LogLength)
   unfolding lookUpAsked
-  look-up-asked-alone t s = rw (look-up-alone t s)
+  look-up-asked-alone t s = rw (lent-alone (length log), look-up-alone t s)
 
 pub look-up-only : LookUpAlone
 look-up-only log t s = (look-up-alone log t s, look-up-asked-alone log t s)

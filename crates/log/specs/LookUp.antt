@@ -2,7 +2,7 @@
 use mathlib.Core.Bool.{Bool, false, cond, _&&_, _||_}
 use mathlib.Core.List.{List, [], _∷_}
 use mathlib.Core.Option.{Option, none, some}
-use Prim.Native.Nat.{ℕ, zero, suc, _+_, _/_, _%_}
+use Prim.Native.Nat.{ℕ, zero, suc, _/_, _%_}
 use lib.Dec.{leb, ltb, eqb}
 use lib.ListN.{length}
 use Rattle.ground.specs.Choice.{on}
@@ -91,6 +91,18 @@ mostSectors = 1048576
 unfoldable pub logAllowed : ℕ → Bool
 logAllowed m = cond (eqb (m % 512) 0) (leb (m / 512) mostSectors) false
 
+-- "It must be whole sectors, at most 256, or it is 3": of the waiting part
+abbrev pub mostWaiting : ℕ
+mostWaiting = 256
+
+unfoldable pub waitingAllowed : ℕ → Bool
+waitingAllowed m = cond (eqb (m % 512) 0) (leb (m / 512) mostWaiting) false
+
+-- test 3 is one over all that is lent as sectors: a log of m bytes and a waiting part of w
+unfoldable pub lentAllowed : ℕ → ℕ → Bool
+lentAllowed m w = logAllowed m && waitingAllowed w
+
 -- look-up asked outside messages: tests 3, 9, then the look-up in the log and what waits behind its used part
 unfoldable pub lookUpAsked : Bytes → Bytes → ℕ → Bytes → Look
-lookUpAsked log waiting t s = cond (logAllowed (length log)) (cond (lawful t) (lookUp (tape log waiting) t s) (Refused BlockType)) (Refused LogLength)
+lookUpAsked log waiting t s =
+    cond (lentAllowed (length log) (length waiting)) (cond (lawful t) (lookUp (tape log waiting) t s) (Refused BlockType)) (Refused LogLength)

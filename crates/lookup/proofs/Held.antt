@@ -8,27 +8,29 @@ use lib.ListN.{length}
 use Rattle.buffer.specs.Bytes.{Bytes, same}
 use Rattle.kind.specs.Kind.{lawful, longest, zeroScore}
 use Rattle.block.specs.Block.{Row, parts, partsOf}
-use Rattle.block.specs.Log.{sectors, sound}
+use Rattle.block.specs.Log.{sectors, used, sound}
 use Rattle.block.proofs.Facts.{valid-facts}
 use Rattle.block.proofs.Sound.{sound-reads, sound-bytes}
+use Rattle.block.proofs.Apart.{sound-used}
 use Rattle.reader.specs.Reader.{bytesAt}
 use Rattle.log.specs.LookUp.{held, emptyRow}
 use Rattle.log.proofs.First.{first-sound}
 
--- a row's bytes are those in the log at its place, and no more than the longest block has
+-- a row's bytes are those in the log at its place, in its used part, and no more than the longest block has
 pub record Stands (log : Bytes) (r : Row) : Type 0 where
   pub bytes-there : r .bytes ≡ bytesAt log (r .first) (length (r .bytes))
+  pub in-used : r .first + parts r ≤ used log
   pub within : r .first + parts r ≤ sectors (length log)
   pub not-many : length (r .bytes) ≤ longest
 
 sound-stands : (log : Bytes) (r : Row) → sound log (r .first) ≡ some r → Stands log r
 sound-stands log r e =
     let p = sound-reads log (r .first) r e in
-    record { bytes-there = sound-bytes log (r .first) r e; within = p .2; not-many = (valid-facts r (p .0)) .not-many }
+    record { bytes-there = sound-bytes log (r .first) r e; in-used = sound-used log (r .first) r e; within = p .2; not-many = (valid-facts r (p .0)) .not-many }
 
 empty-stands : (log : Bytes) (t : ℕ) → Stands log (emptyRow t)
 unfolding partsOf
-empty-stands log t = record { bytes-there = refl; within = omega arith; not-many = omega arith }
+empty-stands log t = record { bytes-there = refl; in-used = omega arith; within = omega arith; not-many = omega arith }
 
 pub held-stands : (log : Bytes) (t : ℕ) (s : Bytes) (r : Row) → held log t s ≡ some r → Stands log r
 unfolding held

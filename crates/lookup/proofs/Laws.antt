@@ -1,9 +1,8 @@
 -- Case laws of the look-up's functions.
-use mathlib.Core.Path.{_≡_, refl, sym, ap, ap₂, _∙_}
-use mathlib.Core.Bool.{Bool, true, false, cond, _&&_, true≢false}
+use mathlib.Core.Path.{_≡_, refl, sym, ap, _∙_}
+use mathlib.Core.Bool.{Bool, true, false, _&&_, true≢false}
 use mathlib.Core.Option.{Option, none, some}
-use mathlib.Core.List.{List}
-use Prim.Native.Nat.{ℕ, zero, suc, _+_, _-_, _/_, _%_, _≤_, _<_}
+use Prim.Native.Nat.{ℕ, suc, _+_, _-_, _/_, _%_, _≤_, _<_}
 use native.Mathlib.Omega.{arith}
 use native.Mathlib.Numerals.{add-one}
 use lib.Dec.{leb, eqb}
@@ -11,13 +10,14 @@ use borrow.Author.Tests.{eq-eqb, ne-eqb, leb-true, lt-ltb, le-ltb}
 use lib.ListN.{length}
 use Rattle.ground.specs.Places.{foundFrom}
 use Rattle.ground.specs.Choice.{on}
+use Rattle.ground.proofs.Cases.{and-true}
 use Rattle.buffer.specs.Bytes.{Bytes, same}
 use Rattle.word.specs.Hex.{hexBytes}
 use Rattle.sector.specs.Sector.{scoreDigits}
 use Rattle.block.specs.Block.{Row, parts, partsOf}
 use Rattle.block.specs.Log.{sectors, at, Alike, joined, used, sound, soundAs}
 use Rattle.block.proofs.Used.{used-le-sectors}
-use Rattle.block.proofs.Joined.{at-alone, used-joined}
+use Rattle.block.proofs.Joined.{at-alone}
 use Rattle.block.proofs.Facts.{valid-facts}
 use Rattle.block.proofs.Sound.{sound-reads, as-reads, as-digits}
 use Rattle.block.proofs.Apart.{sound-used}
@@ -28,13 +28,13 @@ use Rattle.refusal.specs.declared.Refusal.the-variants.{LogLength, BlockType, N
 use Rattle.sector_number.specs.declared.SectorNumber.{SectorNumber}
 use Rattle.log.specs.declared.Look.{Look}
 use Rattle.log.specs.declared.Look.the-variants.{Found, Refused}
-use Rattle.log.specs.LookUp.{blocks, firstOf, outside, firstDoubtful, mostSectors, logAllowed, held, absence, lookUp, counted, lookUpAsked}
+use Rattle.log.specs.LookUp.{blocks, firstOf, outside, firstDoubtful, mostSectors, logAllowed, mostWaiting, waitingAllowed, lentAllowed, held, absence, lookUp, counted, lookUpAsked}
 use Rattle.log.specs.Parts.{tape}
 use Rattle.log.proofs.First.{first-none, first-some}
 use Rattle.log.specs.Laws.{PassedTo}
 use Rattle.log.proofs.Doubt.{walked-some, doubtful-at, doubt-some}
 use Rattle.log.proofs.FirstDoubt.{first-at, first-end, absence-known, absence-held}
-use Rattle.log.proofs.Alike.{blocks-alike}
+use Rattle.log.proofs.Alike.{look-up-alike}
 use Rattle.log.proofs.Parts.{tape-alone}
 use Rattle.lookup.specs.Place.{placeOf}
 use Rattle.lookup.specs.declared.Place.{Place}
@@ -48,6 +48,19 @@ ragged m h = rw (ne-eqb (m % 512) 0 h)
 pub whole : (m : ℕ) → m % 512 ≡ 0 → leb (m / 512) mostSectors ≡ logAllowed m
 unfolding logAllowed
 whole m h = rw (eq-eqb (m % 512) 0 h)
+
+-- test 3 of a log and a waiting part
+pub lent-log : (m w : ℕ) (a : Bool) → a ≡ logAllowed m → a ≡ false → false ≡ lentAllowed m w
+unfolding lentAllowed
+lent-log m w a p q = rw (sym p ∙ q)
+
+pub lent-ragged : (m w : ℕ) (a : Bool) → a ≡ logAllowed m → a ≡ true → (w % 512 ≡ 0 → ⊥) → false ≡ lentAllowed m w
+unfolding lentAllowed waitingAllowed
+lent-ragged m w a p q h = rw (sym p ∙ q, ne-eqb (w % 512) 0 h)
+
+pub lent-whole : (m w : ℕ) (a : Bool) → a ≡ logAllowed m → a ≡ true → w % 512 ≡ 0 → leb (w / 512) mostWaiting ≡ lentAllowed m w
+unfolding lentAllowed waitingAllowed
+lent-whole m w a p q h = rw (sym p ∙ q, eq-eqb (w % 512) 0 h)
 
 -- the size of a sound block is not 0
 pub sized : (o : Option Row) (n : ℕ) → n ≡ sizeOf o → 0 < n → (r : Row) × (o ≡ some r) × (n ≡ length (r .bytes))
@@ -176,7 +189,7 @@ pub count-found : (count : ℕ) (l w : Look) (f : SectorNumber) (n : ℕ) → l 
 count-found count l w f n e z h = rw (sym e ∙ z, le-ltb count n h)
 
 -- the public look-up
-module _ (log waiting : Bytes) (t : ℕ) (s : Bytes) (a : Bool) (p : a ≡ logAllowed (length log)) where
+module _ (log waiting : Bytes) (t : ℕ) (s : Bytes) (a : Bool) (p : a ≡ lentAllowed (length log) (length waiting)) where
   pub ask-log : a ≡ false → Refused LogLength ≡ lookUpAsked log waiting t s
   unfolding lookUpAsked
   ask-log q = rw (sym p ∙ q)
@@ -185,9 +198,10 @@ module _ (log waiting : Bytes) (t : ℕ) (s : Bytes) (a : Bool) (p : a ≡ logAl
   unfolding lookUpAsked
   ask-kind b q u v = rw (sym p ∙ q, sym u ∙ v)
 
-  pub ask-look : (b : Bool) (r : Look) → a ≡ true → b ≡ lawful t → b ≡ true → r ≡ lookUp (tape log waiting) t s → r ≡ lookUpAsked log waiting t s
+  pub ask-look : (b : Bool) (u : ℕ) (r : Look) → a ≡ true → b ≡ lawful t → b ≡ true → Alike (joined u log waiting) (tape log waiting)
+      → r ≡ lookUp (joined u log waiting) t s → r ≡ lookUpAsked log waiting t s
   unfolding lookUpAsked
-  ask-look b r q u v e = rw (sym p ∙ q, sym u ∙ v) e
+  ask-look b u r q v w f e = rw (sym p ∙ q, sym v ∙ w) (e ∙ look-up-alike (joined u log waiting) (tape log waiting) f t s)
 
 pub allowed-sectors : (m : ℕ) (a : Bool) → a ≡ logAllowed m → a ≡ true → m / 512 ≤ mostSectors
 unfolding logAllowed
@@ -196,6 +210,20 @@ allowed-sectors m a p q = go (eqb (m % 512) 0) refl
     go : (b : Bool) → eqb (m % 512) 0 ≡ b → m / 512 ≤ mostSectors
     go true e = leb-true (m / 512) mostSectors (rw e at (sym p ∙ q))
     go false e = absurd (true≢false (sym (rw e at (sym p ∙ q))))
+
+waiting-sectors : (m : ℕ) → waitingAllowed m ≡ true → m / 512 ≤ mostWaiting
+unfolding waitingAllowed
+waiting-sectors m q = go (eqb (m % 512) 0) refl
+  where
+    go : (b : Bool) → eqb (m % 512) 0 ≡ b → m / 512 ≤ mostWaiting
+    go true e = leb-true (m / 512) mostWaiting (rw e at q)
+    go false e = absurd (true≢false (sym (rw e at q)))
+
+pub lent-sectors : (m w : ℕ) (a : Bool) → a ≡ lentAllowed m w → a ≡ true → (m / 512 ≤ mostSectors) × (w / 512 ≤ mostWaiting)
+unfolding lentAllowed
+lent-sectors m w a p q =
+    let t = and-true (logAllowed m) (waitingAllowed w) (sym p ∙ q) in
+    (allowed-sectors m true (sym (t .0)) refl, waiting-sectors w (t .1))
 
 -- where the waiting sectors are read on from
 pub border-used : (u : ℕ) (log waiting : Bytes) → u ≡ used log → (u ≤ sectors (length log)) × Alike (joined u log waiting) (tape log waiting)
@@ -206,19 +234,10 @@ border-whole log waiting w e h n =
     let z : used waiting ≡ 0 = omega arith in
     at-alone (sectors (length log)) log waiting (omega arith) (used-le-sectors log) z n ∙ sym (tape-alone log waiting z n)
 
--- the used part of both
-pub used-both : (log waiting : Bytes) (u w m : ℕ) → u ≡ used log → w ≡ used waiting → m ≡ u + w → m ≡ used (joined u log waiting)
-used-both log waiting u w m a b e = e ∙ ap₂ (λ (x y : ℕ). x + y) a b ∙ sym (used-joined log waiting) ∙ ap (λ (x : ℕ). used (joined x log waiting)) (sym a)
+-- why a block is missing, by the first doubtful sector n and the end m of the used part
+module _ (log : Bytes) (n m : ℕ) (p : n ≡ firstDoubtful log) (q : m ≡ used log) where
+  pub absent-known : n < m → NotKnown (record { 0 = n }) ≡ absence log
+  absent-known h = ap (λ (x : ℕ). NotKnown (record { 0 = x })) p ∙ sym (absence-known log (omega arith))
 
--- what is found by any border
-pub find-border : (log waiting : Bytes) (u t : ℕ) (s : Bytes) (r : Place) → Alike (joined u log waiting) (tape log waiting)
-    → r ≡ placeOf (firstOf t s (blocks (joined u log waiting))) → r ≡ placeOf (firstOf t s (blocks (tape log waiting)))
-find-border log waiting u t s r f e = e ∙ ap (λ (l : List Row). placeOf (firstOf t s l)) (blocks-alike (joined u log waiting) (tape log waiting) f)
-
--- why a block is missing, by the first doubtful sector n and the end m of the used part of both
-module _ (log waiting : Bytes) (u n m : ℕ) (e : u ≡ used log) (p : n ≡ firstDoubtful (joined u log waiting)) (q : m ≡ used (joined u log waiting)) where
-  pub absent-known : n < m → NotKnown (record { 0 = n }) ≡ absence (tape log waiting)
-  absent-known h = ap (λ (x : ℕ). NotKnown (record { 0 = x })) p ∙ sym (absence-known (joined u log waiting) (omega arith)) ∙ ap (λ (x : ℕ). absence (joined x log waiting)) e
-
-  pub absent-held : m ≤ n → NotHeld ≡ absence (tape log waiting)
-  absent-held h = sym (absence-held (joined u log waiting) (omega arith)) ∙ ap (λ (x : ℕ). absence (joined x log waiting)) e
+  pub absent-held : m ≤ n → NotHeld ≡ absence log
+  absent-held h = sym (absence-held log (omega arith))

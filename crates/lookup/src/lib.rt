@@ -8,11 +8,14 @@ ghost use Prim.Native.Nat.{_+_, _≤_};
 ghost use lib.ListN.{length};
 ghost use Rattle.block.specs.Log.{sectors, Alike, joined, used};
 ghost use Rattle.log.specs.Parts.{tape};
-ghost use Rattle.log.specs.LookUp.{blocks, firstOf, held, absence, lookUp, counted, lookNumber, lookUpAsked, firstDoubtful, logAllowed};
+ghost use Rattle.log.specs.LookUp.{blocks, firstOf, held, absence, lookUp, counted, lookNumber, lookUpAsked, firstDoubtful, logAllowed, lentAllowed};
 ghost use Rattle.lookup.specs.Place.{placeOf};
 
 // The most sectors of a log.
 pub const MOST_SECTORS: usize = 1048576;
+
+// The most sectors of a waiting part.
+pub const MOST_WAITING: usize = 256;
 
 // Where a block stands, if it does.
 pub enum Place {
@@ -38,6 +41,19 @@ pub fn is_allowed(length: usize) -> bool
         return false;
     }
     length / SECTOR <= MOST_SECTORS
+}
+
+// Test 3 of a log and a waiting part, by their lengths: each is whole sectors, and not too many.
+pub fn are_allowed(log: usize, waiting: usize) -> bool
+    ensures { λ r. ⌜ r ≡ lentAllowed log waiting ⌝ }
+{
+    if !is_allowed(log) {
+        return false;
+    }
+    if waiting % SECTOR != 0 {
+        return false;
+    }
+    waiting / SECTOR <= MOST_WAITING
 }
 
 // Where the waiting sectors are read on from: the end of the used part. Where nothing waits the end of the log does as well, and nobody
@@ -79,9 +95,15 @@ fn find<'a>(log: &'a [u8], end: SectorNumber, waiting: &'a [u8], kind: u8, score
 }
 
 // What look-up finds: the empty block for the zero score, else the first sound block.
-pub fn find_held<'a>(log: &'a [u8], waiting: &'a [u8], kind: u8, score: &[u8]) -> Place
-    requires { ⌜ length (now score) ≡ 20 ⌝ }
-    ensures { λ r. ⌜ r ≡ placeOf (held (tape (now (log .entry)) (now (waiting .entry))) kind (now (score .entry))) ⌝ }
+pub fn find_held<'a>(
+    log: &'a [u8],
+    end: SectorNumber,
+    waiting: &'a [u8],
+    kind: u8,
+    score: &[u8],
+) -> Place
+    requires { ⌜ (end .0 ≤ sectors (length (now log))) × (length (now score) ≡ 20) ⌝ }
+    ensures { λ r. ⌜ r ≡ placeOf (held (joined (end .0) (now (log .entry)) (now (waiting .entry))) kind (now (score .entry))) ⌝ }
 {
     if kind::is_lawful(kind) {
         if kind::is_zero_score(score) {
@@ -91,7 +113,6 @@ pub fn find_held<'a>(log: &'a [u8], waiting: &'a [u8], kind: u8, score: &[u8]) -
             };
         }
     }
-    let end = border(log, waiting);
     find(log, end, waiting, kind, score)
 }
 
@@ -116,28 +137,47 @@ pub fn first_doubtful<'a>(
     last
 }
 
-// Why a block that wasn't found is missing: not known if any sector is doubtful, with the first one's number, else not held.
-pub fn why_absent<'a>(log: &'a [u8], waiting: &'a [u8]) -> Refusal
-    ensures { λ r. ⌜ r ≡ absence (tape (now (log .entry)) (now (waiting .entry))) ⌝ }
+// The end of the used part of both: among the waiting sectors if one of them isn't blank, else among the log's.
+pub fn used_both<'a>(log: &'a [u8], end: SectorNumber, waiting: &'a [u8]) -> SectorNumber
+    requires { ⌜ end .0 ≤ sectors (length (now log)) ⌝ }
+    ensures { λ r. ⌜ r .0 ≡ used (joined (end .0) (now (log .entry)) (now (waiting .entry))) ⌝ }
 {
-    let end = reader::used_part(log);
     let waits = reader::used_part(waiting);
+    if waits.0 == 0 {
+        let to = SECTOR * end.0;
+        return reader::used_part(&log[0..to]);
+    }
     let last = end.0 + waits.0;
-    let n = first_doubtful(log, end, waiting, SectorNumber(last));
-    if n.0 < last {
+    SectorNumber(last)
+}
+
+// Why a block that wasn't found is missing: not known if any sector is doubtful, with the first one's number, else not held.
+pub fn why_absent<'a>(log: &'a [u8], end: SectorNumber, waiting: &'a [u8]) -> Refusal
+    requires { ⌜ end .0 ≤ sectors (length (now log)) ⌝ }
+    ensures { λ r. ⌜ r ≡ absence (joined (end .0) (now (log .entry)) (now (waiting .entry))) ⌝ }
+{
+    let last = used_both(log, end, waiting);
+    let n = first_doubtful(log, end, waiting, last);
+    if n.0 < last.0 {
         return Refusal::NotKnown(n);
     }
     Refusal::NotHeld
 }
 
 // Look-up of a score and type.
-pub fn look_up<'a>(log: &'a [u8], waiting: &'a [u8], kind: u8, score: &[u8]) -> Look
-    requires { ⌜ length (now score) ≡ 20 ⌝ }
-    ensures { λ r. ⌜ r ≡ lookUp (tape (now (log .entry)) (now (waiting .entry))) kind (now (score .entry)) ⌝ }
+pub fn look_up<'a>(
+    log: &'a [u8],
+    end: SectorNumber,
+    waiting: &'a [u8],
+    kind: u8,
+    score: &[u8],
+) -> Look
+    requires { ⌜ (end .0 ≤ sectors (length (now log))) × (length (now score) ≡ 20) ⌝ }
+    ensures { λ r. ⌜ r ≡ lookUp (joined (end .0) (now (log .entry)) (now (waiting .entry))) kind (now (score .entry)) ⌝ }
 {
-    let place = find_held(log, waiting, kind, score);
+    let place = find_held(log, end, waiting, kind, score);
     let Place::At { first, size } = place else {
-        return Look::Refused(why_absent(log, waiting));
+        return Look::Refused(why_absent(log, end, waiting));
     };
     Look::Found {
         first: first,
@@ -146,11 +186,18 @@ pub fn look_up<'a>(log: &'a [u8], waiting: &'a [u8], kind: u8, score: &[u8]) -> 
 }
 
 // Look-up of a block that must not be longer than count. The refusal of a missing one is handed on.
-pub fn fetch<'a>(log: &'a [u8], waiting: &'a [u8], kind: u8, score: &[u8], count: usize) -> Look
-    requires { ⌜ length (now score) ≡ 20 ⌝ }
-    ensures { λ r. ⌜ r ≡ counted count (lookUp (tape (now (log .entry)) (now (waiting .entry))) kind (now (score .entry))) ⌝ }
+pub fn fetch<'a>(
+    log: &'a [u8],
+    end: SectorNumber,
+    waiting: &'a [u8],
+    kind: u8,
+    score: &[u8],
+    count: usize,
+) -> Look
+    requires { ⌜ (end .0 ≤ sectors (length (now log))) × (length (now score) ≡ 20) ⌝ }
+    ensures { λ r. ⌜ r ≡ counted count (lookUp (joined (end .0) (now (log .entry)) (now (waiting .entry))) kind (now (score .entry))) ⌝ }
 {
-    let look = look_up(log, waiting, kind, score);
+    let look = look_up(log, end, waiting, kind, score);
     let Look::Found { first, size } = look else {
         return look;
     };
@@ -167,11 +214,12 @@ pub fn fetch<'a>(log: &'a [u8], waiting: &'a [u8], kind: u8, score: &[u8], count
 pub fn ask<'a>(log: &'a [u8], waiting: &'a [u8], kind: u8, score: &[u8; 20]) -> Look
     ensures { λ r. ⌜ r ≡ lookUpAsked (now (log .entry)) (now (waiting .entry)) kind (now (score .entry)) ⌝ }
 {
-    if !is_allowed(log.len()) {
+    if !are_allowed(log.len(), waiting.len()) {
         return Look::Refused(Refusal::LogLength);
     }
     if !kind::is_lawful(kind) {
         return Look::Refused(Refusal::BlockType);
     }
-    look_up(log, waiting, kind, score)
+    let end = border(log, waiting);
+    look_up(log, end, waiting, kind, score)
 }

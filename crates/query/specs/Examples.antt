@@ -93,9 +93,39 @@ table =
     ∷ reads (notted 2 (0x61 ∷ [])) (one (negated (negated (letter 0x61))))
     ∷ ill notWord
     ∷ reads (notted 1 (bracketed 1)) (one (negated (group (just (0x61 ∷ [])))))
-    -- 16 and 17 brackets; 256 and 257 bytes
+    -- "a or b or c"; "a and b and c"; "a and ( b or c )"
+    ∷ reads (0x61 ∷ 0x20 ∷ (orWord ++ (0x20 ∷ 0x62 ∷ 0x20 ∷ (orWord ++ (0x20 ∷ 0x63 ∷ [])))))
+    (orElse (term (letter 0x61)) (orElse (term (letter 0x62)) (choice (term (letter 0x63)))))
+    ∷ reads (0x61 ∷ 0x20 ∷ (andWord ++ (0x20 ∷ 0x62 ∷ 0x20 ∷ (andWord ++ (0x20 ∷ 0x63 ∷ [])))))
+    (choice (andAlso (letter 0x61) (andAlso (letter 0x62) (term (letter 0x63)))))
+    ∷ reads (0x61 ∷ 0x20 ∷ (andWord ++ (0x20 ∷ 0x28 ∷ 0x20 ∷ 0x62 ∷ 0x20 ∷ (orWord ++ (0x20 ∷ 0x63 ∷ 0x20 ∷ 0x29 ∷ [])))))
+    (choice (andAlso (letter 0x61) (term (group (orElse (term (letter 0x62)) (choice (term (letter 0x63))))))))
+    -- " "; "not  a"; "(  a )"; "or"; "a or"; "a not b"; "( a ) b"; "( a ) )"
+    ∷ ill (0x20 ∷ [])
+    ∷ ill (notWord ++ (0x20 ∷ 0x20 ∷ 0x61 ∷ []))
+    ∷ ill (0x28 ∷ 0x20 ∷ 0x20 ∷ 0x61 ∷ 0x20 ∷ 0x29 ∷ [])
+    ∷ ill orWord
+    ∷ ill (0x61 ∷ 0x20 ∷ orWord)
+    ∷ ill (0x61 ∷ 0x20 ∷ notted 1 (0x62 ∷ []))
+    ∷ ill (bracketed 1 ++ (0x20 ∷ 0x62 ∷ []))
+    ∷ ill (bracketed 1 ++ (0x20 ∷ 0x29 ∷ []))
+    -- NOT and nota are names; a line feed, a zero, a byte past ASCII, and the neighbours of digits and letters are not
+    ∷ reads (0x4E ∷ 0x4F ∷ 0x54 ∷ []) (just (0x4E ∷ 0x4F ∷ 0x54 ∷ []))
+    ∷ reads (notWord ++ (0x61 ∷ [])) (just (notWord ++ (0x61 ∷ [])))
+    ∷ ill (0x61 ∷ 0x0A ∷ [])
+    ∷ ill (0x00 ∷ [])
+    ∷ ill (0x80 ∷ [])
+    ∷ ill (0x2F ∷ [])
+    ∷ ill (0x3A ∷ [])
+    ∷ ill (0x40 ∷ [])
+    ∷ ill (0x5B ∷ [])
+    ∷ ill (0x60 ∷ [])
+    ∷ ill (0x7B ∷ [])
+    -- 16 and 17 brackets; 32 of which 16 are open at a time; 256 and 257 bytes
     ∷ reads (bracketed 16) (groups 16 (just (0x61 ∷ [])))
     ∷ ill (bracketed 17)
+    ∷ reads (bracketed 16 ++ (0x20 ∷ (andWord ++ (0x20 ∷ bracketed 16))))
+    (choice (andAlso (group (groups 15 (just (0x61 ∷ [])))) (term (group (groups 15 (just (0x61 ∷ [])))))))
     ∷ reads (notted 62 eight) (one (negations 62 (name eight)))
     ∷ ill (notted 63 (0x61 ∷ 0x61 ∷ 0x61 ∷ 0x61 ∷ 0x61 ∷ []))
     ∷ []
@@ -128,13 +158,25 @@ values =
     ∷ has (notted 1 (0x61 ∷ [])) No
     ∷ has (notted 1 (0x62 ∷ [])) Yes
     ∷ has (notted 1 (0x63 ∷ [])) NotKnown
-    -- and
+    -- and, each of two
+    ∷ has (two 0x61 andWord 0x61) Yes
+    ∷ has (two 0x61 andWord 0x62) No
     ∷ has (two 0x61 andWord 0x63) NotKnown
+    ∷ has (two 0x62 andWord 0x61) No
+    ∷ has (two 0x62 andWord 0x62) No
     ∷ has (two 0x62 andWord 0x63) No
+    ∷ has (two 0x63 andWord 0x61) NotKnown
+    ∷ has (two 0x63 andWord 0x62) No
     ∷ has (two 0x63 andWord 0x63) NotKnown
-    -- or
+    -- or, each of two
+    ∷ has (two 0x61 orWord 0x61) Yes
+    ∷ has (two 0x61 orWord 0x62) Yes
     ∷ has (two 0x61 orWord 0x63) Yes
+    ∷ has (two 0x62 orWord 0x61) Yes
+    ∷ has (two 0x62 orWord 0x62) No
     ∷ has (two 0x62 orWord 0x63) NotKnown
+    ∷ has (two 0x63 orWord 0x61) Yes
+    ∷ has (two 0x63 orWord 0x62) NotKnown
     ∷ has (two 0x63 orWord 0x63) NotKnown
     -- "c or not c" is not known if c is
     ∷ has (0x63 ∷ 0x20 ∷ (orWord ++ (0x20 ∷ notted 1 (0x63 ∷ [])))) NotKnown

@@ -9,3 +9,4 @@ pub mod Packed
 pub mod Visits
 pub mod Unpacked
 pub mod Fills
+pub mod Searches

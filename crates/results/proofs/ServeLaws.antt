@@ -5,10 +5,10 @@ use native.Mathlib.Omega.{arith}
 use lib.Dec.{eqb}
 use borrow.Author.Tests.{eq-eqb, ne-eqb}
 use Rattle.buffer.specs.Bytes.{Bytes}
-use Rattle.archive.specs.Step.{Outcome, whole}
-use Rattle.archive.specs.declared.Session.{Session}
-use Rattle.archive.specs.declared.Session.the-variants.{Fresh, Greeted, Closed}
-use Rattle.archive.specs.declared.Answer.{Answer}
+use Rattle.request.specs.Step.{Outcome, outcomeOf}
+use Rattle.request.specs.declared.Session.{Session}
+use Rattle.request.specs.declared.Session.the-variants.{Fresh, Greeted, Closed}
+use Rattle.request.specs.declared.Answer.{Answer}
 use Rattle.results.specs.Serve.{sessionOf, sessionNumber, served, servedOf}
 
 pub is-fresh : (n : ℕ) → n ≡ 0 → Fresh ≡ sessionOf n
@@ -28,5 +28,5 @@ session-most Fresh k e = omega arith
 session-most Greeted k e = omega arith
 session-most Closed k e = omega arith
 
-pub served-so : (a : Answer) (log reply : Bytes) (o : Outcome) (k : ℕ) → whole a log reply ≡ o → k ≡ sessionNumber (a .session) → served (a .number + 256 * k) log reply ≡ servedOf o
-served-so a log reply o k e f = ap (λ (x : ℕ). served (a .number + 256 * x) log reply) f ∙ ap servedOf e
+pub served-so : (a : Answer) (log waiting reply : Bytes) (o : Outcome) (k : ℕ) → outcomeOf a log waiting reply ≡ o → k ≡ sessionNumber (a .session) → served (a .number + 256 * k) log waiting reply ≡ servedOf o
+served-so a log waiting reply o k e f = ap (λ (x : ℕ). served (a .number + 256 * x) log waiting reply) f ∙ ap servedOf e

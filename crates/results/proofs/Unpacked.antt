@@ -1,9 +1,8 @@
 -- What a caller reads back: each claim of specs/Unpacked.antt.
-use mathlib.Core.Path.{_≡_, refl, ap, _∙_}
+use mathlib.Core.Path.{_≡_, refl, sym, ap, _∙_}
 use mathlib.Core.Bool.{Bool, true, false, cond, not}
 use mathlib.Core.List.{[], _∷_}
-use mathlib.Core.Option.{Option, none, some}
-use Prim.Native.Nat.{ℕ, _+_, _*_, _/_, _%_, _≤_, _<_}
+use Prim.Native.Nat.{ℕ, _+_, _*_, _/_, _%_, _<_}
 use native.Mathlib.Omega.{arith}
 use lib.Dec.{ltb}
 use lib.ListN.{length}
@@ -18,19 +17,18 @@ use Rattle.kind.specs.declared.Wire.the-variants as wire
 use Rattle.message.specs.Message.{framed, tagOf, versionOf, scoreOf, dataOf, requestOf}
 use Rattle.message.specs.declared.Request.{Request}
 use Rattle.message.specs.declared.Request.the-variants.{Ping, Hello, Goodbye, Read, Write, Sync, Unknown, Ill}
-use Rattle.block.specs.Block.{Row}
 use Rattle.block.specs.Log.{sound}
 use Rattle.reader.specs.Reader.{sizeOf}
 use Rattle.log.specs.LookUp.{held, absence, logAllowed}
 use Rattle.log.specs.Store.{store}
 use Rattle.log.specs.declared.Stored.{Stored}
 use Rattle.log.specs.declared.Stored.the-variants as stored
-use Rattle.report.specs.declared.Reported.{Reported}
 use Rattle.report.specs.declared.Reported.the-variants as told
-use Rattle.archive.specs.Step as steps
-use Rattle.archive.specs.Step.{Outcome, step}
-use Rattle.archive.specs.declared.Session.{Session}
-use Rattle.archive.specs.declared.Session.the-variants.{Fresh, Greeted, Closed as Shut}
+use Rattle.log.specs.Parts.{Lent, oneLog, canSettle}
+use Rattle.request.specs.Step as steps
+use Rattle.request.specs.Step.{Outcome, step}
+use Rattle.request.specs.declared.Session.{Session}
+use Rattle.request.specs.declared.Session.the-variants.{Fresh, Greeted, Closed as Shut}
 use Rattle.fill.specs.declared.Stop.{Stop}
 use Rattle.fill.specs.declared.Stop.the-variants as to
 use Rattle.fill.specs.Fill.{stopNumber, fillOf}
@@ -43,7 +41,7 @@ use Rattle.visit.specs.Visit.{endNumber}
 use Rattle.results.specs.Serve.{sessionOf, sessionNumber}
 use Rattle.results.specs.Survey.{soundResult}
 use Rattle.results.specs.Blocks.{typeResult}
-use Rattle.results.specs.Tree.{runOf, endSector}
+use Rattle.results.specs.Tree.{run, runOf, stopSector, endSector}
 use Rattle.results.specs.Unpacked as claims
 use Rattle.results.specs.Unpacked.{numberIn, answerIn, wireNumber, typeIn}
 use Rattle.results.proofs.Numbers.{number-bounds}
@@ -69,26 +67,30 @@ Few o = o .number < 256
 few : (w : Refusal) → numberOf w < 256
 few w = omega (arith, number-bounds w .1)
 
-module _ (m log buffer : Bytes) where
-  read-few : (t count : ℕ) → Few (steps.read t count (tagOf m) (scoreOf m) log buffer)
+module _ (m : Bytes) (L : Lent) (buffer : Bytes) where
+  read-few : (t count : ℕ) → Few (steps.read t count (tagOf m) (scoreOf m) L buffer)
   unfolding steps.read
   read-few t count =
       cond-ind Few (not (lawful t)) _ _ (λ _. omega arith) (λ _.
-      on-ind Few (held log t (scoreOf m)) _ _ (λ _. few (absence log)) (λ r _. cond-ind Few (ltb count (length (r .bytes))) _ _ (λ _. omega arith) (λ _. omega arith)))
+      on-ind Few (held (oneLog L) t (scoreOf m)) _ _ (λ _. few (absence (oneLog L))) (λ r _. cond-ind Few (ltb count (length (r .bytes))) _ _ (λ _. omega arith) (λ _. omega arith)))
 
-  written-few : (s : Stored) (tag : ℕ) (score after : Bytes) → Few (steps.written s tag score after buffer)
+  written-few : (s : Stored) (tag : ℕ) (score : Bytes) (after : Lent) → Few (steps.written s tag score after buffer)
   written-few (stored.New at) tag score after = omega arith
   written-few (stored.Duplicate at) tag score after = omega arith
   written-few (stored.Refused w) tag score after = few w
 
-  write-few : (t : ℕ) → Few (steps.write t (tagOf m) (dataOf m) log buffer)
+  write-few : (t : ℕ) → Few (steps.write t (tagOf m) (dataOf m) L buffer)
   unfolding steps.write
   write-few t =
       cond-ind Few (not (lawful t)) _ _ (λ _. omega arith) (λ _.
       cond-ind Few (ltb longest (length (dataOf m))) _ _ (λ _. omega arith) (λ _.
-      let a = store log t (dataOf m) in written-few (a .receipt .stored) (tagOf m) (a .receipt .score) (a .log)))
+      let a = store L t (dataOf m) in written-few (a .receipt .stored) (tagOf m) (a .receipt .score) (a .lent)))
 
-  fresh-few : (q : Request) → Few (steps.fresh q (tagOf m) m log buffer)
+  sync-few : Few (steps.sync (tagOf m) L buffer)
+  unfolding steps.sync
+  sync-few = cond-ind Few (canSettle L) _ _ (λ _. omega arith) (λ _. omega arith)
+
+  fresh-few : (q : Request) → Few (steps.fresh q (tagOf m) m L buffer)
   unfolding steps.fresh
   fresh-few Unknown = omega arith
   fresh-few Ill = omega arith
@@ -99,29 +101,29 @@ module _ (m log buffer : Bytes) where
   fresh-few (Read t c) = omega arith
   fresh-few (Write t) = omega arith
 
-  greeted-few : (q : Request) → Few (steps.greeted q (tagOf m) m log buffer)
+  greeted-few : (q : Request) → Few (steps.greeted q (tagOf m) m L buffer)
   unfolding steps.greeted
   greeted-few Unknown = omega arith
   greeted-few Ill = omega arith
   greeted-few Goodbye = omega arith
   greeted-few Hello = omega arith
   greeted-few Ping = omega arith
-  greeted-few Sync = omega arith
+  greeted-few Sync = sync-few
   greeted-few (Read t c) = read-few t c
   greeted-few (Write t) = write-few t
 
-  session-few : (s : Session) → Few (steps.inSession s m log buffer)
+  session-few : (s : Session) → Few (steps.inSession s m L buffer)
   unfolding steps.inSession
   session-few Fresh = fresh-few (requestOf m)
   session-few Greeted = greeted-few (requestOf m)
   session-few Shut = omega arith
 
-  step-few : (s : Session) → Few (step s m log buffer)
+  step-few : (s : Session) → Few (step s m L buffer)
   unfolding step
   step-few s =
       cond-ind Few (not (framed m)) _ _ (λ _. omega arith) (λ _.
       cond-ind Few (ltb (length buffer) steps.replyRoom) _ _ (λ _. omega arith) (λ _.
-      cond-ind Few (not (logAllowed (length log))) _ _ (λ _. omega arith) (λ _. session-few s)))
+      cond-ind Few (not (steps.allowed L)) _ _ (λ _. omega arith) (λ _. session-few s)))
 
 pub session-goes-round : claims.SessionGoesRound
 unfolding sessionOf
@@ -130,9 +132,9 @@ session-goes-round Greeted = refl
 session-goes-round Shut = refl
 
 pub request-unpacks : claims.RequestUnpacks
-request-unpacks s m log buffer =
-    let o = step s m log buffer in
-    let b = beside (o .number) (sessionNumber (o .session)) (step-few m log buffer s) in
+request-unpacks s m L buffer =
+    let o = step s m L buffer in
+    let b = beside (o .number) (sessionNumber (o .session)) (step-few m L buffer s) in
     (b .0, ap sessionOf (b .1) ∙ session-goes-round (o .session))
 
 -- ---- the other calls
@@ -145,25 +147,30 @@ stop-few to.Done = omega arith
 stop-few (to.Refused w) = few w
 
 pub fill-refusal-unpacks : claims.FillRefusalUnpacks
-fill-refusal-unpacks log b offset d w q =
-    nothing-lost log (0 ∷ []) b (offset + fillOf log b offset d .filled .count) ∙ ap runOf (fill-refusal log (0 ∷ []) b offset d w zero-page q)
+fill-refusal-unpacks log waiting b offset d w q =
+    nothing-lost log waiting (0 ∷ []) b (offset + fillOf log waiting b offset d .filled .count)
+    ∙ ap runOf (fill-refusal log waiting (0 ∷ []) b offset d w zero-page q)
+    ∙ sym (ap (λ (s : Stop). run (numberOf w) 0 (stopSector s) 0) q)
 
 pub fill-unpacks : claims.FillUnpacks
-fill-unpacks log b offset d = let f = fillOf log b offset d .filled in beside (stopNumber (f .stop)) (f .count) (stop-few (f .stop))
+fill-unpacks log waiting b offset d =
+    let f = fillOf log waiting b offset d .filled in
+    let n = beside (stopNumber (f .stop)) (f .count) (stop-few (f .stop)) in
+    (n .0, n .1, refl, λ w q. ap stopSector q, λ q. ap stopSector q)
 
 end-few : (e : End) → endNumber e < 256
 end-few Done = omega arith
 end-few (Refused w) = few w
 
 pub walk-unpacks : claims.WalkUnpacks
-walk-unpacks log score allowance =
-    let w = walkOf log score allowance in
+walk-unpacks log waiting score allowance =
+    let w = walkOf log waiting score allowance in
     let n = endNumber (w .end) in
     let v = w .visits in
     let s = endSector (w .end) in
     let r = n + 256 * (v + 1048576 * s) in
     let few = end-few (w .end) in
-    let short = walk-within log score allowance .1 .few in
+    let short = walk-within log waiting score allowance .1 .few in
     let u : r / 256 ≡ v + 1048576 * s = omega arith in
     (omega arith, ap (λ (x : ℕ). x % 1048576) u ∙ omega arith, ap (λ (x : ℕ). x / 1048576) u ∙ omega arith)
 

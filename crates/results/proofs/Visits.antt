@@ -1,21 +1,21 @@
--- A walk never visits more than its allowance, which is at most 1,000,000, and the sector that it tells of is one of the longest log.
-use Prim.Native.Nat.{ℕ, zero, suc, _+_, _-_, _*_, _/_, _%_, _<_, _≤_}
+-- A walk never visits more than its allowance, which is at most 1,000,000, and the sector that it tells of is one of the longest log and waiting part.
+use Prim.Native.Nat.{ℕ, zero, suc, _+_, _-_, _*_, _/_, _%_, _≤_}
+use mathlib.Core.Bool.{Bool, true}
 use mathlib.Core.Path.{_≡_, refl, ap, ap₂, _∙_}
 use native.Mathlib.Omega.{arith}
 use lib.Dec.{eqb, ltb}
 use lib.ListN.{length}
 use borrow.Author.Tests.{eqb-false, ltb-false}
 use Rattle.buffer.specs.Bytes.{Bytes}
-use Rattle.refusal.specs.Number.{toldSector}
 use Rattle.kind.specs.Kind.{longest}
 use Rattle.block.specs.Log.{sectors}
-use Rattle.log.specs.LookUp.{held, absence, mostSectors, logAllowed}
-use Rattle.lookup.proofs.Laws.{allowed-sectors}
+use Rattle.log.specs.LookUp.{held, lentAllowed}
+use Rattle.log.specs.Parts.{tape}
 use Rattle.entry.specs.declared.Entry.{Entry}
 use Rattle.entry.specs.Entry.{entryOf, entryAllowed, scoreOf}
 use Rattle.entry.specs.Root.{rootWellFormed, rootScore}
-use Rattle.results.specs.Tree.{endSector, walkResult}
-use Rattle.results.proofs.Doubts.{absence-told}
+use Rattle.results.specs.Tree.{mostBoth, endSector, walkResult}
+use Rattle.results.proofs.Doubts.{absence-told, both-few}
 use Rattle.ground.proofs.Cases.{cond-ind, on-ind}
 use Rattle.visit.specs.declared.Walked.{Walked}
 use Rattle.visit.specs.declared.End.{End}
@@ -23,21 +23,21 @@ use Rattle.visit.specs.declared.End.the-variants.{Done, Refused}
 use Rattle.tree.specs.Tree.{piece, typeAt, countAt}
 use Rattle.visit.specs.Visit.{endNumber, visiting}
 use Rattle.descent.specs.Descent.{andThen, paddedTo, inOrder, nestOf, entriesOf, judged, visitDirectory, visitEntry}
-use Rattle.walk.specs.Walk.{walkTop, walkRoot, walkOf, mostAllowance}
+use Rattle.walk.specs.Walk.{walkTop, walkRoot, walkIn, walkOf, mostAllowance}
 
--- at most so many visits, and a sector of the longest log
+-- at most so many visits, and a sector of the longest log and waiting part
 pub record Within (left : ℕ) (w : Walked) : Type 0 where
   pub few : w .visits ≤ left
-  pub told : endSector (w .end) ≤ mostSectors
+  pub told : endSector (w .end) ≤ mostBoth
 
-within : {left : ℕ} {w : Walked} → w .visits ≤ left → endSector (w .end) ≤ mostSectors → Within left w
+within : {left : ℕ} {w : Walked} → w .visits ≤ left → endSector (w .end) ≤ mostBoth → Within left w
 within a b = record { few = a; told = b }
 
 -- an end that tells of no sector
 bare : {left : ℕ} {w : Walked} → w .visits ≤ left → endSector (w .end) ≡ 0 → Within left w
 bare a b = within a (omega arith)
 
-and-then-within : (left : ℕ) (e : End) (n : ℕ) (k : ℕ → Walked) → n ≤ left → endSector e ≤ mostSectors → Within left (k n) → Within left (andThen e n k)
+and-then-within : (left : ℕ) (e : End) (n : ℕ) (k : ℕ → Walked) → n ≤ left → endSector e ≤ mostBoth → Within left (k n) → Within left (andThen e n k)
 and-then-within left Done n k h t f = f
 and-then-within left (Refused r) n k h t f = within h t
 
@@ -54,7 +54,7 @@ unfolding judged
 judged-within x w left h =
     cond-ind (Within left) (entryOf x .active) _ _ (λ _. cond-ind (Within left) (entryAllowed x) _ _ (λ _. h) (λ _. bare (omega arith) refl)) (λ _. bare (omega arith) refl)
 
-module _ (log : Bytes) (h : sectors (length log) ≤ mostSectors) where
+module _ (log : Bytes) (h : sectors (length log) ≤ mostBoth) where
   visit-within : (nest left kind count : ℕ) (score : Bytes) (next : Bytes → Walked) → ((b : Bytes) → Within (left - 1) (next b))
       → Within left (visiting log nest left kind count score next)
   unfolding visiting
@@ -62,7 +62,7 @@ module _ (log : Bytes) (h : sectors (length log) ≤ mostSectors) where
       cond-ind (Within left) (ltb 16 nest) _ _ (λ _. bare (omega arith) refl)
       (λ _. cond-ind (Within left) (eqb left 0) _ _ (λ _. bare (omega arith) refl)
       (λ z. let some-left = eqb-false left 0 z in
-      on-ind (Within left) (held log kind score) _ _ (λ _. within (omega arith) (absence-told log h))
+      on-ind (Within left) (held log kind score) _ _ (λ _. within (omega arith) (absence-told mostBoth log h))
       (λ r _. cond-ind (Within left) (ltb count (length (r .bytes))) _ _ (λ _. bare (omega arith) refl)
       (λ _. within (omega (arith, g (r .bytes) .few)) (g (r .bytes) .told)))))
 
@@ -96,21 +96,26 @@ module _ (log : Bytes) (h : sectors (length log) ≤ mostSectors) where
       visit-within 0 left 1 300 score _
       (λ b. cond-ind (Within (left - 1)) (rootWellFormed (paddedTo 300 b)) _ _ (λ _. top-within (rootScore (paddedTo 300 b)) (left - 1)) (λ _. bare (omega arith) refl))
 
-pub walk-within : (log score : Bytes) (allowance : ℕ) → Within allowance (walkOf log score allowance) × Within mostAllowance (walkOf log score allowance)
-unfolding walkOf
-walk-within log score allowance =
-    cond-ind Both (logAllowed (length log)) _ _
+within-in : (lent : Bool) (log score : Bytes) (allowance : ℕ) → (lent ≡ true → sectors (length log) ≤ mostBoth)
+    → Within allowance (walkIn lent log score allowance) × Within mostAllowance (walkIn lent log score allowance)
+unfolding walkIn
+within-in lent log score allowance few =
+    cond-ind Both lent _ _
     (λ p. cond-ind Both (ltb mostAllowance allowance) _ _ (λ _. (bare (omega arith) refl, bare (omega arith) refl))
-    (λ q. let h = root-within log (allowed-sectors (length log) _ refl p) score allowance in
+    (λ q. let h = root-within log (few p) score allowance in
     (h, within (omega (arith, h .few, ltb-false mostAllowance allowance q)) (h .told))))
     (λ _. (bare (omega arith) refl, bare (omega arith) refl))
   where
     Both : Walked → Type 0
     Both w = Within allowance w × Within mostAllowance w
 
+pub walk-within : (log waiting score : Bytes) (allowance : ℕ)
+    → Within allowance (walkOf log waiting score allowance) × Within mostAllowance (walkOf log waiting score allowance)
+walk-within log waiting score allowance = within-in (lentAllowed (length log) (length waiting)) (tape log waiting) score allowance (both-few log waiting)
+
 -- of the code's answer
-pub walk-small : (log score : Bytes) (allowance : ℕ) (w : Walked) → w ≡ walkOf log score allowance → Within mostAllowance w
-walk-small log score allowance w e = rw e ((walk-within log score allowance) .1)
+pub walk-small : (log waiting score : Bytes) (allowance : ℕ) (w : Walked) → w ≡ walkOf log waiting score allowance → Within mostAllowance w
+walk-small log waiting score allowance w e = rw e ((walk-within log waiting score allowance) .1)
 
 pub walked-so : (w v : Walked) (k s : ℕ) → w ≡ v → k ≡ endNumber (w .end) → s ≡ endSector (w .end) → k + 256 * (w .visits + 1048576 * s) ≡ walkResult v
 walked-so w v k s e f g = ap₂ (λ (x y : ℕ). x + 256 * (w .visits + 1048576 * y)) f g ∙ ap walkResult e

@@ -3,4 +3,5 @@ pub mod Serve
 pub mod Blocks
 pub mod Survey
 pub mod Tree
+pub mod Search
 pub mod Unpacked

@@ -3,9 +3,10 @@ use mathlib.Core.Bool.{cond}
 use Prim.Native.Nat.{ℕ, _+_, _*_}
 use lib.Dec.{eqb}
 use Rattle.buffer.specs.Bytes.{Bytes}
-use Rattle.archive.specs.Step.{Outcome}
-use Rattle.archive.specs.declared.Session.{Session}
-use Rattle.archive.specs.declared.Session.the-variants.{Fresh, Greeted, Closed}
+use Rattle.log.specs.Parts.{Lent, beside}
+use Rattle.request.specs.Step.{Outcome}
+use Rattle.request.specs.declared.Session.{Session}
+use Rattle.request.specs.declared.Session.the-variants.{Fresh, Greeted, Closed}
 
 -- a session as a number: 0 is fresh, 1 greeted, and anything else closed
 unfoldable pub sessionOf : ℕ → Session
@@ -16,15 +17,15 @@ sessionNumber Fresh = 0
 sessionNumber Greeted = 1
 sessionNumber Closed = 2
 
--- what the call gives: its result, and what both lent buffers then hold
+-- what the call gives: its result, and what the log, its waiting part and the reply buffer then hold
 pub record Served : Type 0 where
   pub result : ℕ
-  pub log : Bytes
+  pub lent : Lent
   pub reply : Bytes
 
-abbrev pub served : ℕ → Bytes → Bytes → Served
-served r log reply = record { result = r; log = log; reply = reply }
+abbrev pub served : ℕ → Bytes → Bytes → Bytes → Served
+served r log waiting reply = record { result = r; lent = beside log waiting; reply = reply }
 
 -- the same of the archive's step: the number, and 256 times the session
 abbrev pub servedOf : Outcome → Served
-servedOf o = record { result = o .number + 256 * sessionNumber (o .session); log = o .log; reply = o .reply }
+servedOf o = record { result = o .number + 256 * sessionNumber (o .session); lent = o .lent; reply = o .reply }

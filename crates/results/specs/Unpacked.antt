@@ -1,7 +1,8 @@
 -- Nothing is lost in packing: what a caller reads back from the one number that each call answers with is what the call's definition says.
 use mathlib.Core.Path.{_≡_}
-use mathlib.Core.Bool.{false, cond}
+use mathlib.Core.Bool.{cond}
 use mathlib.Core.List.{[], _∷_}
+use mathlib.Core.Option.{Option, none, some}
 use Prim.Native.Nat.{ℕ, _+_, _/_, _%_, _≤_, _<_}
 use lib.ListN.{length}
 use Rattle.buffer.specs.Bytes.{Bytes}
@@ -16,20 +17,25 @@ use Rattle.cut.specs.declared.Kept.the-variants.{Length, Refused}
 use Rattle.cut.specs.Cut.{cutOf}
 use Rattle.report.specs.declared.Reported.{Reported}
 use Rattle.report.specs.declared.Reported.the-variants as told
-use Rattle.report.specs.Report.{reportOf}
 use Rattle.log.specs.LookUp.{logAllowed}
 use Rattle.reader.specs.Reader.{sizeOf}
-use Rattle.archive.specs.Step.{step}
-use Rattle.archive.specs.declared.Session.{Session}
+use Rattle.log.specs.Parts.{Lent}
+use Rattle.request.specs.Step.{step}
+use Rattle.request.specs.declared.Session.{Session}
 use Rattle.file.specs.File.{located}
 use Rattle.fill.specs.declared.Stop.the-variants as stop
 use Rattle.fill.specs.Fill.{stopNumber, fillOf}
 use Rattle.walk.specs.Walk.{walkOf}
+use Rattle.kleene.specs.declared.Value.{Value}
+use Rattle.evaluate.specs.declared.Answer.{Answer}
+use Rattle.evaluate.specs.declared.Answer.the-variants as says
+use Rattle.search.specs.Search.{answerNumber}
 use Rattle.results.specs.Serve.{sessionOf, sessionNumber, servedOf}
 use Rattle.visit.specs.Visit.{endNumber}
 use Rattle.results.specs.Blocks.{typeResult, cutResult}
 use Rattle.results.specs.Survey.{reportNumber, textLength, soundResult}
-use Rattle.results.specs.Tree.{packed, unpacked, run, runOf, filledNumber, walkResult, endSector}
+use Rattle.results.specs.Tree.{packed, unpacked, run, runOf, fillResult, walkResult, endSector}
+use Rattle.results.specs.Search.{valueNumber, valueFrom, answerSector, searchResult}
 
 -- in the lowest 8 bits the number of the refusal, 0 for none; above them the answer
 abbrev pub numberIn : ℕ → ℕ
@@ -43,23 +49,29 @@ abbrev pub SessionGoesRound : Type 0
 SessionGoesRound = (s : Session) → sessionOf (sessionNumber s) ≡ s
 
 abbrev pub RequestUnpacks : Type 0
-RequestUnpacks = (s : Session) (m log buffer : Bytes)
-    → let o = step s m log buffer in (numberIn (servedOf o .result) ≡ o .number) × (sessionOf (answerIn (servedOf o .result)) ≡ o .session)
+RequestUnpacks = (s : Session) (m : Bytes) (L : Lent) (buffer : Bytes)
+    → let o = step s m L buffer in (numberIn (servedOf o .result) ≡ o .number) × (sessionOf (answerIn (servedOf o .result)) ≡ o .session)
 
--- a file's run: the number, whether it is the page's, its start and its length
+-- a file's run: the number, the slice in which it lies, its start and its length
 abbrev pub RunUnpacks : Type 0
-RunUnpacks = (log page b : Bytes) (offset : ℕ) → unpacked (packed (located log page b offset)) ≡ runOf (located log page b offset)
+RunUnpacks = (log waiting page b : Bytes) (offset : ℕ) → unpacked (packed (located log waiting page b offset)) ≡ runOf (located log waiting page b offset)
 
--- filling a buffer: the number and the count
+-- filling a buffer: the number, the count, and the buffer; the sector that a refusal tells of, 0 without one
 abbrev pub FillUnpacks : Type 0
-FillUnpacks = (log b : Bytes) (offset : ℕ) (d : Bytes)
-    → let f = fillOf log b offset d .filled in (numberIn (filledNumber f) ≡ stopNumber (f .stop)) × (answerIn (filledNumber f) ≡ f .count)
+FillUnpacks = (log waiting b : Bytes) (offset : ℕ) (d : Bytes)
+    → let o = fillOf log waiting b offset d in
+    let r = fillResult o in
+    (numberIn (r .result) ≡ stopNumber (o .filled .stop))
+    × (answerIn (r .result) ≡ o .filled .count)
+    × (r .buffer ≡ o .buffer)
+    × ((w : Refusal) → o .filled .stop ≡ stop.Refused w → r .told ≡ toldSector w)
+    × (o .filled .stop ≡ stop.Done → r .told ≡ 0)
 
 -- a refusal that ends filling: locating the first offset behind the bytes has its number too, and the sector that it tells of
 abbrev pub FillRefusalUnpacks : Type 0
-FillRefusalUnpacks = (log b : Bytes) (offset : ℕ) (d : Bytes) (w : Refusal)
-    → let f = fillOf log b offset d .filled in
-    f .stop ≡ stop.Refused w → unpacked (packed (located log (0 ∷ []) b (offset + f .count))) ≡ run (numberOf w) false (toldSector w) 0
+FillRefusalUnpacks = (log waiting b : Bytes) (offset : ℕ) (d : Bytes) (w : Refusal)
+    → let o = fillOf log waiting b offset d in
+    o .filled .stop ≡ stop.Refused w → unpacked (packed (located log waiting (0 ∷ []) b (offset + o .filled .count))) ≡ run (numberOf w) 0 (fillResult o .told) 0
 
 -- a walk: the number, the visits, and the sector that it tells of
 abbrev pub visitsIn : ℕ → ℕ
@@ -69,9 +81,27 @@ abbrev pub sectorIn : ℕ → ℕ
 sectorIn r = r / 256 / 1048576
 
 abbrev pub WalkUnpacks : Type 0
-WalkUnpacks = (log score : Bytes) (allowance : ℕ)
-    → let w = walkOf log score allowance in
+WalkUnpacks = (log waiting score : Bytes) (allowance : ℕ)
+    → let w = walkOf log waiting score allowance in
     (numberIn (walkResult w) ≡ endNumber (w .end)) × (visitsIn (walkResult w) ≡ w .visits) × (sectorIn (walkResult w) ≡ endSector (w .end))
+
+-- a card search: the number, the value, none where it is refused, and the sector that it tells of
+abbrev pub ValueGoesRound : Type 0
+ValueGoesRound = (v : Value) → valueFrom (valueNumber v) ≡ some v
+
+abbrev pub valueIn : ℕ → Option Value
+valueIn r = valueFrom (r / 256 % 256)
+
+abbrev pub doubtIn : ℕ → ℕ
+doubtIn r = r / 256 / 256
+
+abbrev pub valueTold : Answer → Option Value
+valueTold (says.Told v) = some v
+valueTold (says.Refused w) = none
+
+abbrev pub SearchUnpacks : Type 0
+SearchUnpacks = (a : Answer)
+    → (numberIn (searchResult a) ≡ answerNumber a) × (valueIn (searchResult a) ≡ valueTold a) × (doubtIn (searchResult a) ≡ answerSector a)
 
 -- a report: the number, 0 where it is written, and the length of its text
 abbrev pub reportedNumber : Reported → ℕ

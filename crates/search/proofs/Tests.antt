@@ -6,7 +6,7 @@ use borrow.Author.Tests.{le-leb, lt-leb}
 use lib.ListN.{length}
 use Rattle.buffer.specs.Bytes.{Bytes}
 use Rattle.refusal.specs.declared.Refusal.the-variants as why
-use Rattle.log.specs.LookUp.{logAllowed}
+use Rattle.log.specs.LookUp.{lentAllowed}
 use Rattle.entry.specs.declared.Entry.{Entry}
 use Rattle.entry.specs.Entry.{entryOf}
 use Rattle.file.specs.File.{pageAllowed, entryReadable}
@@ -25,26 +25,26 @@ module _ (card query : Bytes) (t : Bool) (e : t ≡ wellFormed card) where
   unfolding judged
   judged-well q x f = rw (sym e ∙ q) f
 
-module _ (log page entry query : Bytes) (a : Bool) (ea : a ≡ logAllowed (length log)) where
-  pub search-log : a ≡ false → Refused why.LogLength ≡ searchOf log page entry query
+module _ (log waiting page entry query : Bytes) (a : Bool) (ea : a ≡ lentAllowed (length log) (length waiting)) where
+  pub search-log : a ≡ false → Refused why.LogLength ≡ searchOf log waiting page entry query
   unfolding searchOf
   search-log q = rw (sym ea ∙ q)
 
   module _ (ta : a ≡ true) (g : Bool) (eg : g ≡ pageAllowed page) where
-    pub search-page : g ≡ false → Refused why.Page ≡ searchOf log page entry query
+    pub search-page : g ≡ false → Refused why.Page ≡ searchOf log waiting page entry query
     unfolding searchOf
     search-page q = rw (sym ea ∙ ta, sym eg ∙ q)
 
     module _ (tg : g ≡ true) (r : Bool) (er : r ≡ entryReadable entry) where
-      pub search-entry : r ≡ false → Refused why.Entry ≡ searchOf log page entry query
+      pub search-entry : r ≡ false → Refused why.Entry ≡ searchOf log waiting page entry query
       unfolding searchOf
       search-entry q = rw (sym ea ∙ ta, sym eg ∙ tg, sym er ∙ q)
 
       module _ (tr : r ≡ true) (e : Entry) (ee : e ≡ entryOf entry) where
-        pub search-long : longestCard < e .size → Refused why.Card ≡ searchOf log page entry query
+        pub search-long : longestCard < e .size → Refused why.Card ≡ searchOf log waiting page entry query
         unfolding searchOf
         search-long h = rw (sym ea ∙ ta, sym eg ∙ tg, sym er ∙ tr, ← ee, lt-leb (e .size) longestCard h)
 
-        pub search-reads : e .size ≤ longestCard → (x : Answer) → x ≡ onceRead (cardOf log entry .stop) (cardOf log entry .bytes) query → x ≡ searchOf log page entry query
+        pub search-reads : e .size ≤ longestCard → (x : Answer) → x ≡ onceRead (cardOf log waiting entry .stop) (cardOf log waiting entry .bytes) query → x ≡ searchOf log waiting page entry query
         unfolding searchOf
         search-reads h x f = f ∙ sym (rw (sym ea ∙ ta, sym eg ∙ tg, sym er ∙ tr, ← ee, le-leb (e .size) longestCard h) refl)

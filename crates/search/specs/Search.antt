@@ -7,7 +7,8 @@ use Rattle.buffer.specs.Bytes.{Bytes}
 use Rattle.refusal.specs.declared.Refusal.{Refusal}
 use Rattle.refusal.specs.declared.Refusal.the-variants as why
 use Rattle.refusal.specs.Number.{numberOf}
-use Rattle.log.specs.LookUp.{logAllowed}
+use Rattle.log.specs.LookUp.{lentAllowed}
+use Rattle.log.specs.Parts.{tape}
 use Rattle.entry.specs.Entry.{entryOf}
 use Rattle.file.specs.File.{pageAllowed, entryReadable}
 use Rattle.fill.specs.declared.Stop.{Stop}
@@ -27,9 +28,10 @@ answerNumber (Refused w) = numberOf w
 abbrev pub longestCard : ℕ
 longestCard = 4096
 
--- the bytes of the file from its first to its last, or to the first refused offset, and how that ended; none of a file of size 0
-abbrev pub cardOf : Bytes → Bytes → Gathered
-cardOf log entry = gathered (byteAt log entry) ((entryOf entry) .size) 0
+-- the bytes of the file from its first to its last, or to the first refused offset, and how that ended; none of a file of size 0. The file is read in
+-- "the log's used part and then the waiting part as one log"
+abbrev pub cardOf : Bytes → Bytes → Bytes → Gathered
+cardOf log waiting entry = gathered (byteAt (lentAllowed (length log) (length waiting)) (tape log waiting) entry) ((entryOf entry) .size) 0
 
 -- a test, which refuses or lets through
 abbrev pub test : Bool → Refusal → Answer → Answer
@@ -45,10 +47,10 @@ onceRead stop.Done card query = judged card query
 onceRead (stop.Refused w) card query = Refused w
 
 -- "longer is 25, unread, after 3, 19 and 16"
-unfoldable pub searchOf : Bytes → Bytes → Bytes → Bytes → Answer
-searchOf log page entry query =
-    test (logAllowed (length log)) why.LogLength
+unfoldable pub searchOf : Bytes → Bytes → Bytes → Bytes → Bytes → Answer
+searchOf log waiting page entry query =
+    test (lentAllowed (length log) (length waiting)) why.LogLength
     (test (pageAllowed page) why.Page
     (test (entryReadable entry) why.Entry
     (test (leb ((entryOf entry) .size) longestCard) why.Card
-    (onceRead (cardOf log entry .stop) (cardOf log entry .bytes) query))))
+    (onceRead (cardOf log waiting entry .stop) (cardOf log waiting entry .bytes) query))))

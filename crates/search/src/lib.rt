@@ -6,7 +6,7 @@ ghost use mathlib.Core.Path.{_≡_};
 ghost use mathlib.Core.Bool.{true};
 ghost use Prim.Native.Nat.{_≤_};
 ghost use lib.ListN.{length};
-ghost use Rattle.log.specs.LookUp.{logAllowed};
+ghost use Rattle.log.specs.LookUp.{lentAllowed};
 ghost use Rattle.entry.specs.Entry.{entryOf};
 ghost use Rattle.file.specs.File.{entryReadable};
 ghost use Rattle.search.specs.Search.{cardOf, judged, onceRead, searchOf, answerNumber};
@@ -32,14 +32,21 @@ fn judge(card: &[u8], query: &[u8]) -> Answer
 }
 
 // Reads a file of `size` bytes into d, which has room for it, and judges it once it is read whole. A file of no bytes isn't read.
-fn read_and_judge(log: &[u8], entry: &[u8], size: u64, query: &[u8], d: &mut [u8]) -> Answer
-    requires { ⌜ (logAllowed (length (now log)) ≡ true) × (entryReadable (now entry) ≡ true) × (size ≡ entryOf (now entry) .size) × (size ≤ length (now d)) ⌝ }
-    ensures { λ r. ⌜ r ≡ onceRead (cardOf (now (log .entry)) (now (entry .entry)) .stop) (cardOf (now (log .entry)) (now (entry .entry)) .bytes) (now (query .entry)) ⌝ }
+fn read_and_judge<'a>(
+    log: &'a [u8],
+    waiting: &'a [u8],
+    entry: &[u8],
+    size: u64,
+    query: &[u8],
+    d: &mut [u8],
+) -> Answer
+    requires { ⌜ (lentAllowed (length (now log)) (length (now waiting)) ≡ true) × (entryReadable (now entry) ≡ true) × (size ≡ entryOf (now entry) .size) × (size ≤ length (now d)) ⌝ }
+    ensures { λ r. ⌜ r ≡ onceRead (cardOf (now (log .entry)) (now (waiting .entry)) (now (entry .entry)) .stop) (cardOf (now (log .entry)) (now (waiting .entry)) (now (entry .entry)) .bytes) (now (query .entry)) ⌝ }
 {
     if size == 0 {
         return judge(&d[..0], query);
     }
-    let filled = fill::fill(log, entry, 0, d);
+    let filled = fill::fill(log, waiting, entry, 0, d);
     let count = filled.count;
     let stop = filled.stop;
     match stop {
@@ -48,11 +55,17 @@ fn read_and_judge(log: &[u8], entry: &[u8], size: u64, query: &[u8], d: &mut [u8
     }
 }
 
-// Asks a query of the card that an entry leads to: any log, page, entry and query.
-pub fn search(log: &[u8], page: &[u8], entry: &[u8], query: &[u8]) -> Answer
-    ensures { λ r. ⌜ r ≡ searchOf (now (log .entry)) (now (page .entry)) (now (entry .entry)) (now (query .entry)) ⌝ }
+// Asks a query of the card that an entry leads to: any log, waiting part, page, entry and query.
+pub fn search<'a>(
+    log: &'a [u8],
+    waiting: &'a [u8],
+    page: &[u8],
+    entry: &[u8],
+    query: &[u8],
+) -> Answer
+    ensures { λ r. ⌜ r ≡ searchOf (now (log .entry)) (now (waiting .entry)) (now (page .entry)) (now (entry .entry)) (now (query .entry)) ⌝ }
 {
-    if !lookup::is_allowed(log.len()) {
+    if !lookup::are_allowed(log.len(), waiting.len()) {
         return Answer::Refused(Refusal::LogLength);
     }
     if !file::is_page(page) {
@@ -66,5 +79,5 @@ pub fn search(log: &[u8], page: &[u8], entry: &[u8], query: &[u8]) -> Answer
         return Answer::Refused(Refusal::Card);
     }
     let mut card = [0u8; 4096];
-    read_and_judge(log, entry, e.size, query, &mut card)
+    read_and_judge(log, waiting, entry, e.size, query, &mut card)
 }

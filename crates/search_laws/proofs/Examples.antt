@@ -8,7 +8,7 @@ use Rattle.word.specs.Number.{digits, valueFrom}
 use Rattle.buffer.specs.Bytes.{Bytes}
 use Rattle.refusal.specs.declared.Refusal.{Refusal}
 use Rattle.refusal.specs.declared.Refusal.the-variants as why
-use Rattle.log.specs.LookUp.{logAllowed}
+use Rattle.log.specs.LookUp.{lentAllowed}
 use Rattle.entry.specs.Entry.{entryOf, wellFormed}
 use Rattle.file.specs.File.{pageAllowed, entryReadable, located}
 use Rattle.file.specs.declared.Located.the-variants as run
@@ -22,21 +22,22 @@ use Rattle.search.specs.Search.{judged, searchOf}
 use Rattle.search_laws.specs.Examples.{Example, cardEntry, onePage, table, Examples}
 use Rattle.search_laws.proofs.Unreadable.{unreadable-is-refused}
 
-bad-log : (log page entry query : Bytes) → logAllowed (length log) ≡ false → searchOf log page entry query ≡ Refused why.LogLength
+bad-log : (log waiting page entry query : Bytes) → lentAllowed (length log) (length waiting) ≡ false → searchOf log waiting page entry query ≡ Refused why.LogLength
 unfolding searchOf
-bad-log log page entry query e = rw e
+bad-log log waiting page entry query e = rw e
 
-computed : (log : Bytes) → logAllowed (length log) ≡ true → map (λ (e : Example). searchOf log (e .page) (e .entry) (e .query)) table ≡ map (λ (e : Example). e .answer) table
+computed : (log waiting : Bytes) → lentAllowed (length log) (length waiting) ≡ true
+    → map (λ (e : Example). searchOf log waiting (e .page) (e .entry) (e .query)) table ≡ map (λ (e : Example). e .answer) table
 unfolding digits valueFrom entryOf wellFormed pageAllowed entryReadable gathered letterOrDigit reserved isName text goodFrom linesAt frontLines isCard say valueIn words after nameAt listAt readingOf valueOf judged searchOf
-computed log e = rw e refl
+computed log waiting e = rw e refl
 
-longest : (log query : Bytes) (w : Refusal) → located log onePage (cardEntry 4096) 0 ≡ run.Refused w → searchOf log onePage (cardEntry 4096) query ≡ Refused w
+longest : (log waiting query : Bytes) (w : Refusal) → located log waiting onePage (cardEntry 4096) 0 ≡ run.Refused w → searchOf log waiting onePage (cardEntry 4096) query ≡ Refused w
 unfolding digits valueFrom entryOf
-longest log query w e = unreadable-is-refused log onePage (cardEntry 4096) query 0 w (omega arith) (omega arith) (λ p h. absurd (omega arith)) e
+longest log waiting query w e = unreadable-is-refused log waiting onePage (cardEntry 4096) query 0 w (omega arith) (omega arith) (λ p h. absurd (omega arith)) e
 
-longer : (log query : Bytes) → logAllowed (length log) ≡ true → searchOf log onePage (cardEntry 4097) query ≡ Refused why.Card
+longer : (log waiting query : Bytes) → lentAllowed (length log) (length waiting) ≡ true → searchOf log waiting onePage (cardEntry 4097) query ≡ Refused why.Card
 unfolding digits valueFrom entryOf wellFormed pageAllowed entryReadable searchOf
-longer log query e = rw e
+longer log waiting query e = rw e
 
 pub examples : Examples
 examples = record { bad-log = bad-log; computed = computed; longest = longest; longer = longer }

@@ -60,9 +60,9 @@ unfolding valueOf choiceValue termValue
 just-value f n = refl
 
 pub never-tested-never-absent : NeverTestedNeverAbsent
-never-tested-never-absent log page entry n ls r e f =
-    let card = cardOf log entry .bytes in
-    read-answer log page entry n ls r
+never-tested-never-absent log waiting page entry n ls r e f =
+    let card = cardOf log waiting entry .bytes in
+    read-answer log waiting page entry n ls r
     ∙ rw (just-read n e) (ap (λ (v : Value). Told v) (just-value (valueIn card) n ∙ says card ls (r .lines) .silent n f))
 
 -- ---- lines added
@@ -91,7 +91,7 @@ lines-added-to-a-card card card′ query ls ms v r r′ more n e = go (ask card 
         rw p (ap (λ (x : Value). Told x) (stays q f (monotone (valueIn card) (valueIn card′) (lines-added card card′ ls ms r r′ more) q)))
 
 pub lines-added-over-logs : LinesAddedOverLogs
-lines-added-over-logs log page entry log′ page′ entry′ query ls ms v r r′ more n e =
-    read-answer log′ page′ entry′ query ms r′
-    ∙ lines-added-to-a-card (cardOf log entry .bytes) (cardOf log′ entry′ .bytes) query ls ms v (r .lines) (r′ .lines) more n
-    (sym (read-answer log page entry query ls r) ∙ e)
+lines-added-over-logs log waiting page entry log′ waiting′ page′ entry′ query ls ms v r r′ more n e =
+    read-answer log′ waiting′ page′ entry′ query ms r′
+    ∙ lines-added-to-a-card (cardOf log waiting entry .bytes) (cardOf log′ waiting′ entry′ .bytes) query ls ms v (r .lines) (r′ .lines) more n
+    (sym (read-answer log waiting page entry query ls r) ∙ e)

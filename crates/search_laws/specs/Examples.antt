@@ -8,7 +8,7 @@ use Rattle.word.specs.Number.{beBytes}
 use Rattle.buffer.specs.Bytes.{Bytes}
 use Rattle.refusal.specs.declared.Refusal.{Refusal}
 use Rattle.refusal.specs.declared.Refusal.the-variants as why
-use Rattle.log.specs.LookUp.{logAllowed}
+use Rattle.log.specs.LookUp.{lentAllowed}
 use Rattle.file.specs.File.{located}
 use Rattle.file.specs.declared.Located.the-variants as run
 use Rattle.kleene.specs.declared.Value.the-variants.{NotKnown}
@@ -49,9 +49,10 @@ table =
 
 pub record Examples : Type 0 where
   -- 3 before all others
-  pub bad-log : (log page entry query : Bytes) → logAllowed (length log) ≡ false → searchOf log page entry query ≡ Refused why.LogLength
-  -- the table, on any log of lawful length
-  pub computed : (log : Bytes) → logAllowed (length log) ≡ true → map (λ (e : Example). searchOf log (e .page) (e .entry) (e .query)) table ≡ map (λ (e : Example). e .answer) table
+  pub bad-log : (log waiting page entry query : Bytes) → lentAllowed (length log) (length waiting) ≡ false → searchOf log waiting page entry query ≡ Refused why.LogLength
+  -- the table, on any log and waiting part of lawful lengths
+  pub computed : (log waiting : Bytes) → lentAllowed (length log) (length waiting) ≡ true
+      → map (λ (e : Example). searchOf log waiting (e .page) (e .entry) (e .query)) table ≡ map (λ (e : Example). e .answer) table
   -- "at most 4,096 bytes": this card is read, and where its first byte is refused that is the answer; one byte more is "25, unread"
-  pub longest : (log query : Bytes) (w : Refusal) → located log onePage (cardEntry 4096) 0 ≡ run.Refused w → searchOf log onePage (cardEntry 4096) query ≡ Refused w
-  pub longer : (log query : Bytes) → logAllowed (length log) ≡ true → searchOf log onePage (cardEntry 4097) query ≡ Refused why.Card
+  pub longest : (log waiting query : Bytes) (w : Refusal) → located log waiting onePage (cardEntry 4096) 0 ≡ run.Refused w → searchOf log waiting onePage (cardEntry 4096) query ≡ Refused w
+  pub longer : (log waiting query : Bytes) → lentAllowed (length log) (length waiting) ≡ true → searchOf log waiting onePage (cardEntry 4097) query ≡ Refused why.Card

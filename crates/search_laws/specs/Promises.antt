@@ -9,8 +9,9 @@ use Prim.Native.Nat.{ℕ, _≤_, _<_}
 use lib.ListN.{length, getD}
 use Rattle.buffer.specs.Bytes.{Bytes}
 use Rattle.refusal.specs.declared.Refusal.{Refusal}
-use Rattle.log.specs.LookUp.{logAllowed}
-use Rattle.archive.specs.declared.Session.{Session}
+use Rattle.log.specs.LookUp.{lentAllowed}
+use Rattle.log.specs.Parts.{tape, Lent}
+use Rattle.request.specs.declared.Session.{Session}
 use Rattle.ledger.specs.History.{Item, AllOfBytes}
 use Rattle.demands.specs.Instance.{archive}
 use Rattle.demands.specs.Histories.{afterwards}
@@ -19,6 +20,7 @@ use Rattle.file.specs.File.{pageAllowed, entryReadable, located}
 use Rattle.file.specs.declared.Located.the-variants as run
 use Rattle.file_laws.specs.Path.{Answers, Whole}
 use Rattle.file_laws.specs.Bytes.{fileByte}
+use Rattle.trees.specs.Again.{waitingOf}
 use Rattle.kleene.specs.declared.Value.{Value}
 use Rattle.kleene.specs.declared.Value.the-variants.{NotKnown}
 use Rattle.card.specs.Name.{isName}
@@ -29,43 +31,43 @@ use Rattle.evaluate.specs.Evaluate.{evaluateOf}
 use Rattle.search.specs.Search.{longestCard, cardOf, searchOf}
 
 -- the entry's file is no longer than a card, every offset of it reads, and its bytes are a card with these lines
-pub record ReadAs (log page entry : Bytes) (ls : List Line) : Type 0 where
-  pub log-allowed : logAllowed (length log) ≡ true
+pub record ReadAs (log waiting page entry : Bytes) (ls : List Line) : Type 0 where
+  pub log-allowed : lentAllowed (length log) (length waiting) ≡ true
   pub page-allowed : pageAllowed page ≡ true
   pub entry-readable : entryReadable entry ≡ true
   pub short : entryOf entry .size ≤ longestCard
-  pub reads : (o : ℕ) → o < entryOf entry .size → Answers (located log page entry o)
-  pub lines : linesOf (cardOf log entry .bytes) ≡ some ls
+  pub reads : (o : ℕ) → o < entryOf entry .size → Answers (located log waiting page entry o)
+  pub lines : linesOf (cardOf log waiting entry .bytes) ≡ some ls
 
 -- yes, no and not known are said only of a card that was read whole and is well-formed
 abbrev pub OnlyOfACard : Type 0
-OnlyOfACard = (log page entry query : Bytes) (v : Value) → searchOf log page entry query ≡ Told v → (ls : List Line) × ReadAs log page entry ls
+OnlyOfACard = (log waiting page entry query : Bytes) (v : Value) → searchOf log waiting page entry query ≡ Told v → (ls : List Line) × ReadAs log waiting page entry ls
 
 -- the bytes that are judged are the file's: as many as its size, each the byte that is the file's there
 abbrev pub CardIsTheFile : Type 0
-CardIsTheFile = (log page entry : Bytes) (ls : List Line) → ReadAs log page entry ls
-    → let b = cardOf log entry .bytes in
-    (length b ≡ entryOf entry .size) × ((i : ℕ) → i < entryOf entry .size → fileByte log entry i ≡ some (getD b i 0))
+CardIsTheFile = (log waiting page entry : Bytes) (ls : List Line) → ReadAs log waiting page entry ls
+    → let b = cardOf log waiting entry .bytes in
+    (length b ≡ entryOf entry .size) × ((i : ℕ) → i < entryOf entry .size → fileByte (tape log waiting) entry i ≡ some (getD b i 0))
 
 -- "a card the archive can't read keeps the archive's number at the first refused offset"; a reason has its number, and 12 its sector
 abbrev pub UnreadableIsRefused : Type 0
-UnreadableIsRefused = (log page entry query : Bytes) (o : ℕ) (w : Refusal) → entryOf entry .size ≤ longestCard → o < entryOf entry .size
-    → ((p : ℕ) → p < o → Answers (located log page entry p)) → located log page entry o ≡ run.Refused w → searchOf log page entry query ≡ Refused w
+UnreadableIsRefused = (log waiting page entry query : Bytes) (o : ℕ) (w : Refusal) → entryOf entry .size ≤ longestCard → o < entryOf entry .size
+    → ((p : ℕ) → p < o → Answers (located log waiting page entry p)) → located log waiting page entry o ≡ run.Refused w → searchOf log waiting page entry query ≡ Refused w
 
 -- a refused offset anywhere in the card: no value
 abbrev pub UnreadableHasNoValue : Type 0
-UnreadableHasNoValue = (log page entry query : Bytes) (o : ℕ) (w : Refusal) (v : Value) → o < entryOf entry .size → located log page entry o ≡ run.Refused w
-    → searchOf log page entry query ≢ Told v
+UnreadableHasNoValue = (log waiting page entry query : Bytes) (o : ℕ) (w : Refusal) (v : Value) → o < entryOf entry .size → located log waiting page entry o ≡ run.Refused w
+    → searchOf log waiting page entry query ≢ Told v
 
 -- a value comes only where every block of the card is held, down to the leaf of each offset or to a zero score
 abbrev pub EveryBlockHeld : Type 0
-EveryBlockHeld = (log page entry query : Bytes) (v : Value) → searchOf log page entry query ≡ Told v
-    → (o : ℕ) → o < entryOf entry .size → Whole log (entryOf entry) o (entryOf entry .depth) (scoreOf entry)
+EveryBlockHeld = (log waiting page entry query : Bytes) (v : Value) → searchOf log waiting page entry query ≡ Told v
+    → (o : ℕ) → o < entryOf entry .size → Whole (tape log waiting) (entryOf entry) o (entryOf entry .depth) (scoreOf entry)
 
 -- "an antigen with no line is not known": what nobody tested is never absent
 abbrev pub NeverTestedNeverAbsent : Type 0
-NeverTestedNeverAbsent = (log page entry name : Bytes) (ls : List Line) → ReadAs log page entry ls → isName name ≡ true
-    → ((l : Line) → Among l ls → l .name ≢ name) → searchOf log page entry name ≡ Told NotKnown
+NeverTestedNeverAbsent = (log waiting page entry name : Bytes) (ls : List Line) → ReadAs log waiting page entry ls → isName name ≡ true
+    → ((l : Line) → Among l ls → l .name ≢ name) → searchOf log waiting page entry name ≡ Told NotKnown
 
 -- "lines added to a card that stays well-formed and readable never turn a yes or a no into anything else": of two cards
 abbrev pub LinesAddedToACard : Type 0
@@ -74,10 +76,11 @@ LinesAddedToACard = (card card′ query : Bytes) (ls ms : List Line) (v : Value)
 
 -- and of what entries lead to: the entry and the log may differ
 abbrev pub LinesAddedOverLogs : Type 0
-LinesAddedOverLogs = (log page entry log′ page′ entry′ query : Bytes) (ls ms : List Line) (v : Value) → ReadAs log page entry ls → ReadAs log′ page′ entry′ ms
-    → ((l : Line) → Among l ls → Among l ms) → v ≢ NotKnown → searchOf log page entry query ≡ Told v → searchOf log′ page′ entry′ query ≡ Told v
+LinesAddedOverLogs = (log waiting page entry log′ waiting′ page′ entry′ query : Bytes) (ls ms : List Line) (v : Value) → ReadAs log waiting page entry ls → ReadAs log′ waiting′ page′ entry′ ms
+    → ((l : Line) → Among l ls → Among l ms) → v ≢ NotKnown → searchOf log waiting page entry query ≡ Told v → searchOf log′ waiting′ page′ entry′ query ≡ Told v
 
--- what was said of an entry is said of it again after any requests
+-- what was said of an entry is said of it again after any requests, with the log and the waiting part as these leave them
 abbrev pub AgainAfterAny : Type 0
-AgainAfterAny = (log : Bytes) (past : List Session) (qs : List (Item archive)) → AllOfBytes archive qs → (page entry query : Bytes) (v : Value)
-    → searchOf log page entry query ≡ Told v → searchOf (afterwards log past qs) page entry query ≡ Told v
+AgainAfterAny = (L : Lent) (past : List Session) (qs : List (Item archive)) → AllOfBytes archive qs → (page entry query : Bytes) (v : Value)
+    → let later = afterwards L past qs in
+    searchOf (L .log) (waitingOf L) page entry query ≡ Told v → searchOf (later .log) (waitingOf later) page entry query ≡ Told v

@@ -1,21 +1,19 @@
 -- Case laws of the store's functions.
-use mathlib.Core.Path.{_≡_, refl, sym, ap, _∙_}
+use mathlib.Core.Path.{_≡_, refl, sym, ap, ap₂, _∙_}
 use mathlib.Core.Bool.{Bool, true, false, cond}
 use mathlib.Core.Option.{Option, none, some}
-use Prim.Native.Nat.{ℕ, _+_, _-_, _≤_, _<_}
+use Prim.Native.Nat.{ℕ, _+_, _*_, _≤_, _<_}
 use native.Mathlib.Omega.{arith}
-use lib.Dec.{leb}
-use borrow.Author.Tests.{le-leb, lt-leb}
-use lib.ListN.{length}
+use lib.ListN.{length, take, replicate}
 use Rattle.ground.specs.Choice.{on}
-use Rattle.buffer.specs.Bytes.{Bytes, same}
+use Rattle.buffer.specs.Bytes.{Bytes, same, put}
 use Rattle.buffer.proofs.Bytes.{same-false}
 use Rattle.sha1.specs.Sha1.{sha1Of}
-use Rattle.refusal.specs.declared.Refusal.{Refusal}
 use Rattle.refusal.specs.declared.Refusal.the-variants.{NoRoom, Clash}
 use Rattle.sector_number.specs.declared.SectorNumber.{SectorNumber}
-use Rattle.block.specs.Block.{Row, partsOf, written}
-use Rattle.block.specs.Log.{sectors, used}
+use Rattle.block.specs.Block.{Row, partsOf}
+use Rattle.block.specs.Log.{sectors, joined, used}
+use Rattle.block.proofs.Joined.{used-joined}
 use Rattle.reader.specs.Reader.{bytesAt}
 use Rattle.reader.proofs.Pieces.{length-bytes}
 use Rattle.lookup.proofs.Held.{held-stands}
@@ -23,38 +21,45 @@ use Rattle.lookup.specs.Place.{placeOf}
 use Rattle.lookup.specs.declared.Place.{Place}
 use Rattle.lookup.specs.declared.Place.the-variants.{At, Nowhere}
 use Rattle.log.specs.LookUp.{held}
-use Rattle.log.specs.Store.{AfterStore, afterStore, receipt, newRow, roomFor, appended, compared, store}
+use Rattle.log.specs.Parts.{tape, writtenFrom, moved, Lent, beside, roomFor, appendRow, canSettle, settled}
+use Rattle.log.specs.Store.{afterStore, receipt, newRow, appended, compared, store}
 use Rattle.log.specs.declared.Stored.{Stored}
 use Rattle.log.specs.declared.Stored.the-variants.{New, Duplicate, Refused}
+use Rattle.log.proofs.Room.{room-there, lacks-in-log, lacks-in-waiting, can-settle, cannot-settle}
 
--- no room, and room
-pub no-room : (log : Bytes) (t : ℕ) (d : Bytes) → sectors (length log) < used log + partsOf (length d)
-    → afterStore (receipt (sha1Of d) (Refused NoRoom)) log ≡ appended log t d
-unfolding roomFor
-no-room log t d h = rw (lt-leb (used log + partsOf (length d)) (sectors (length log)) h)
+-- ---- a block that look-up did not find
 
-pub room : (log : Bytes) (t : ℕ) (d : Bytes) (u : ℕ) (s log′ : Bytes) → u ≡ used log → s ≡ sha1Of d → u + partsOf (length d) ≤ sectors (length log)
-    → log′ ≡ written log (record { kind = t; score = s; bytes = d; first = u })
-    → afterStore (receipt (sha1Of d) (New (record { 0 = u }))) log′ ≡ appended log t d
-unfolding roomFor
-room log t d u s log′ e f h w =
-    let q : log′ ≡ written log (newRow log t d) = w ∙ (λ i. written log (record { kind = t; score = f i; bytes = d; first = e i })) in
-    let g : used log + partsOf (length d) ≤ sectors (length log) = omega arith in
-    rw (le-leb (used log + partsOf (length d)) (sectors (length log)) g) (λ i. afterStore (receipt (sha1Of d) (New (record { 0 = e i }))) (q i))
+module _ (log w : Bytes) (t : ℕ) (d : Bytes) where
+  pub no-room : roomFor (beside log w) (partsOf (length d)) ≡ false
+      → afterStore (receipt (sha1Of d) (Refused NoRoom)) (beside log w) ≡ appended (beside log w) t d
+  no-room h = rw h
 
--- a found block compared
-pub other-length : (log : Bytes) (n k : ℕ) (d : Bytes) → (k ≡ length d → ⊥) → afterStore (receipt (sha1Of d) (Refused Clash)) log ≡ compared log (bytesAt log n k) n d
-other-length log n k d h = rw (same-false (bytesAt log n k) d (λ e. h (sym (length-bytes log n k) ∙ ap length e)))
+  pub room : (n : ℕ) (s w′ : Bytes) → n ≡ used log + used w → s ≡ sha1Of d
+      → used log + used w + partsOf (length d) ≤ sectors (length log) → used w + partsOf (length d) ≤ sectors (length w)
+      → w′ ≡ writtenFrom (used log) w (record { kind = t; score = s; bytes = d; first = n })
+      → afterStore (receipt (sha1Of d) (New (record { 0 = n }))) (beside log w′) ≡ appended (beside log w) t d
+  unfolding appendRow
+  room n s w′ e f a b p =
+      let g : n ≡ used (tape log w) = e ∙ sym (used-joined log w) in
+      let q : w′ ≡ writtenFrom (used log) w (newRow (beside log w) t d) =
+      p ∙ (λ i. writtenFrom (used log) w (record { kind = t; score = f i; bytes = d; first = g i })) in
+      rw (room-there log w (partsOf (length d)) a b) (λ i. afterStore (receipt (sha1Of d) (New (record { 0 = g i }))) (beside log (q i)))
 
-pub same-block : (log : Bytes) (n k : ℕ) (d : Bytes) (b : Bool) → k ≡ length d → b ≡ same (bytesAt log n (length d)) d → b ≡ true
-    → afterStore (receipt (sha1Of d) (Duplicate (record { 0 = n }))) log ≡ compared log (bytesAt log n k) n d
-same-block log n k d b e p q = rw (ap (λ (x : ℕ). same (bytesAt log n x) d) e ∙ sym p ∙ q)
+-- ---- a found block compared, in the log of both parts; L is what was lent
 
-pub other-block : (log : Bytes) (n k : ℕ) (d : Bytes) (b : Bool) → k ≡ length d → b ≡ same (bytesAt log n (length d)) d → b ≡ false
-    → afterStore (receipt (sha1Of d) (Refused Clash)) log ≡ compared log (bytesAt log n k) n d
-other-block log n k d b e p q = rw (ap (λ (x : ℕ). same (bytesAt log n x) d) e ∙ sym p ∙ q)
+module _ (L : Lent) (log : Bytes) (n k : ℕ) (d : Bytes) where
+  pub other-length : (k ≡ length d → ⊥) → afterStore (receipt (sha1Of d) (Refused Clash)) L ≡ compared L (bytesAt log n k) n d
+  other-length h = rw (same-false (bytesAt log n k) d (λ e. h (sym (length-bytes log n k) ∙ ap length e)))
 
--- the place that look-up gives, as a row
+  module _ (b : Bool) (e : k ≡ length d) (p : b ≡ same (bytesAt log n (length d)) d) where
+    pub same-block : b ≡ true → afterStore (receipt (sha1Of d) (Duplicate (record { 0 = n }))) L ≡ compared L (bytesAt log n k) n d
+    same-block q = rw (ap (λ (x : ℕ). same (bytesAt log n x) d) e ∙ sym p ∙ q)
+
+    pub other-block : b ≡ false → afterStore (receipt (sha1Of d) (Refused Clash)) L ≡ compared L (bytesAt log n k) n d
+    other-block q = rw (ap (λ (x : ℕ). same (bytesAt log n x) d) e ∙ sym p ∙ q)
+
+-- ---- the place that look-up gives, as a row
+
 found-row : (o : Option Row) (p : Place) (f : SectorNumber) (n : ℕ) → p ≡ placeOf o → p ≡ At f n → (r : Row) × (o ≡ some r) × (f .0 ≡ r .first) × (n ≡ length (r .bytes))
 found-row none p f n e z = let y : _≡_ {A = ℕ} 0 1 = cc in absurd (omega arith)
 found-row (some r) p f n e z =
@@ -70,20 +75,42 @@ found-within log t s p f n e z =
     let b : partsOf n ≡ partsOf (length ((q .0) .bytes)) = ap partsOf (q .3) in
     omega (arith, a, b, w)
 
-pub store-found : (log : Bytes) (t : ℕ) (d s : Bytes) (p : Place) (f : SectorNumber) (n : ℕ) (r : Stored) → s ≡ sha1Of d → p ≡ placeOf (held log t s) → p ≡ At f n
-    → afterStore (receipt (sha1Of d) r) log ≡ compared log (bytesAt log (f .0) n) (f .0) d → afterStore (receipt s r) log ≡ store log t d
-unfolding store
-store-found log t d s p f n r g e z c =
-    let q = found-row (held log t s) p f n e z in
-    let h : held log t (sha1Of d) ≡ some (q .0) = ap (held log t) (sym g) ∙ q .1 in
-    let b : bytesAt log (f .0) n ≡ (q .0) .bytes = (λ i. bytesAt log (q .2 i) (q .3 i)) ∙ sym ((held-stands log t s (q .0) (q .1)) .bytes-there) in
-    rw (g, h) (c ∙ (λ i. compared log (b i) (q .2 i) d))
-
 none-row : (o : Option Row) (p : Place) → p ≡ placeOf o → p ≡ Nowhere → o ≡ none
 none-row none p e z = refl
 none-row (some r) p e z = let y : _≡_ {A = ℕ} 0 1 = cc in absurd (omega arith)
 
-pub store-new : (log log′ : Bytes) (t : ℕ) (d s : Bytes) (p : Place) (r : Stored) → s ≡ sha1Of d → p ≡ placeOf (held log t s) → p ≡ Nowhere
-    → afterStore (receipt (sha1Of d) r) log′ ≡ appended log t d → afterStore (receipt s r) log′ ≡ store log t d
-unfolding store
-store-new log log′ t d s p r g e z c = rw (g, ap (held log t) (sym g) ∙ none-row (held log t s) p e z) c
+-- ---- a store, by what look-up finds in the log of both parts; u is where the waiting sectors are read on from
+
+module _ (log w : Bytes) (u t : ℕ) (d s : Bytes) (p : Place) (r : Stored) (v : u ≡ used log) (g : s ≡ sha1Of d) (e : p ≡ placeOf (held (joined u log w) t s)) where
+  abbrev L : Lent
+  L = beside log w
+
+  found : p ≡ placeOf (held (tape log w) t s)
+  found = e ∙ ap (λ (n : ℕ). placeOf (held (joined n log w) t s)) v
+
+  pub store-found : (f : SectorNumber) (n : ℕ) → p ≡ At f n
+      → afterStore (receipt (sha1Of d) r) L ≡ compared L (bytesAt (joined u log w) (f .0) n) (f .0) d → afterStore (receipt s r) L ≡ store L t d
+  unfolding store
+  store-found f n z c =
+      let q = found-row (held (tape log w) t s) p f n found z in
+      let h : held (tape log w) t (sha1Of d) ≡ some (q .0) = ap (held (tape log w) t) (sym g) ∙ q .1 in
+      let b : bytesAt (joined u log w) (f .0) n ≡ (q .0) .bytes =
+      (λ i. bytesAt (joined (v i) log w) (q .2 i) (q .3 i)) ∙ sym ((held-stands (tape log w) t s (q .0) (q .1)) .bytes-there) in
+      rw (g, h) (c ∙ (λ i. compared L (b i) (q .2 i) d))
+
+  pub store-new : (L′ : Lent) → p ≡ Nowhere → afterStore (receipt (sha1Of d) r) L′ ≡ appended L t d → afterStore (receipt s r) L′ ≡ store L t d
+  unfolding store
+  store-new L′ z c = rw (g, ap (held (tape log w) t) (sym g) ∙ none-row (held (tape log w) t s) p found z) c
+
+-- ---- settling
+
+module _ (log w : Bytes) where
+  pub nothing-moved : sectors (length log) < used log + used w → beside log w ≡ cond (canSettle (beside log w)) (settled (beside log w)) (beside log w)
+  nothing-moved h = rw (cannot-settle log w h)
+
+  pub all-moved : (u n : ℕ) (log′ w′ : Bytes) → u ≡ used log → n ≡ used w → used log + used w ≤ sectors (length log)
+      → log′ ≡ put log (512 * u) (take (512 * n) w) → w′ ≡ replicate (length w) 0
+      → beside log′ w′ ≡ cond (canSettle (beside log w)) (settled (beside log w)) (beside log w)
+  unfolding settled moved
+  all-moved u n log′ w′ a b h p q =
+      rw (can-settle log w h) (ap₂ beside (p ∙ (λ i. put log (512 * a i) (take (512 * b i) w))) q)

@@ -40,12 +40,14 @@ fn begin(log: &mut [u8], name: &[u8]) {
     print(b"\n");
 }
 
-// Stores a block; its score.
+// Stores a block and settles it; its score.
 fn put(log: &mut [u8], kind: u8, data: &[u8]) -> [u8; 20] {
     if LONGEST < data.len() {
         return kind::zero_score();
     }
-    let receipt = store::store(log, kind, data);
+    let mut waiting = [0u8; 8192];
+    let receipt = store::store(log, &mut waiting, kind, data);
+    store::settle(log, &mut waiting);
     receipt.score
 }
 
@@ -182,6 +184,9 @@ fn print_place(run: Located) {
         Located::Stored { at, length: _ } => {
             print_number(b" from=log start=", at as u64);
         }
+        Located::Waiting { at, length: _ } => {
+            print_number(b" from=waiting start=", at as u64);
+        }
         Located::Zeros { length: _ } => {
             print(b" from=page start=0");
         }
@@ -190,9 +195,15 @@ fn print_place(run: Located) {
 }
 
 // Prints the answer at an offset; the run's length.
-fn read_at<'a>(log: &'a [u8], page: &'a [u8], entry: &[u8], offset: u64) -> usize {
-    let run = file::locate(log, page, entry, offset);
-    let bytes = file::read(log, page, entry, offset);
+fn read_at<'a>(
+    log: &'a [u8],
+    waiting: &'a [u8],
+    page: &'a [u8],
+    entry: &[u8],
+    offset: u64,
+) -> usize {
+    let run = file::locate(log, waiting, page, entry, offset);
+    let bytes = file::read(log, waiting, page, entry, offset);
     print_number(b"offset=", offset);
     print_number(b" number=", wide(file::number(run)));
     print_place(run);
@@ -214,26 +225,41 @@ fn step(length: usize, dsize: u64) -> u64
 }
 
 // Reads a file from run to run, and once at its end.
-fn read_file<'a>(log: &'a [u8], page: &'a [u8], entry: &[u8], dsize: u64, size: u64)
+fn read_parts<'a>(
+    log: &'a [u8],
+    waiting: &'a [u8],
+    page: &'a [u8],
+    entry: &[u8],
+    dsize: u64,
+    size: u64,
+)
     requires { ⌜ 0 < dsize ⌝ }
 {
     let mut offset: u64 = 0;
     while offset < size {
-        let n = step(read_at(log, page, entry, offset), dsize);
+        let n = step(read_at(log, waiting, page, entry, offset), dsize);
         if size - offset < n {
             offset = size;
         } else {
             offset += n;
         }
     }
-    read_at(log, page, entry, size);
+    read_at(log, waiting, page, entry, size);
+}
+
+// The same with nothing waiting.
+fn read_file<'a>(log: &'a [u8], page: &'a [u8], entry: &[u8], dsize: u64, size: u64)
+    requires { ⌜ 0 < dsize ⌝ }
+{
+    let none = [0u8; 0];
+    read_parts(log, &none, page, entry, dsize, size);
 }
 
 // ---- walking
 
 // Prints the answer of a walk; its visits.
-fn walk_with(log: &[u8], root: &[u8; 20], allowance: u64) -> u64 {
-    let w = walk::walk(log, root, allowance);
+fn walk_with<'a>(log: &'a [u8], waiting: &'a [u8], root: &[u8; 20], allowance: u64) -> u64 {
+    let w = walk::walk(log, waiting, root, allowance);
     let end = w.end;
     print_number(b"allowance=", allowance);
     print_number(b" number=", wide(walk::number(end)));
@@ -243,14 +269,20 @@ fn walk_with(log: &[u8], root: &[u8; 20], allowance: u64) -> u64 {
 }
 
 // Walks with a large allowance, with the visits that it spent, and with one less.
-fn walk_thrice(log: &[u8], root: &[u8; 20]) {
+fn walk_parts<'a>(log: &'a [u8], waiting: &'a [u8], root: &[u8; 20]) {
     print_bytes(b"root=", root);
     print(b"\n");
-    let visits = walk_with(log, root, 1000);
-    walk_with(log, root, visits);
+    let visits = walk_with(log, waiting, root, 1000);
+    walk_with(log, waiting, root, visits);
     if 0 < visits {
-        walk_with(log, root, visits - 1);
+        walk_with(log, waiting, root, visits - 1);
     }
+}
+
+// The same with nothing waiting.
+fn walk_thrice(log: &[u8], root: &[u8; 20]) {
+    let none = [0u8; 0];
+    walk_parts(log, &none, root);
 }
 
 // Walks from a root above a directory block of some entries.
@@ -381,10 +413,11 @@ fn walk_directories(log: &mut [u8], d: &[u8]) {
     let directory = put(log, 2, d);
     let root = put_root(log, &directory);
     walk_thrice(log, &root);
-    walk_with(log, &root, walk::MOST_ALLOWANCE);
-    walk_with(log, &root, 1000001);
-    walk_with(log, &root, 0);
-    walk_with(log, &directory, 1000);
+    let none = [0u8; 0];
+    walk_with(log, &none, &root, walk::MOST_ALLOWANCE);
+    walk_with(log, &none, &root, 1000001);
+    walk_with(log, &none, &root, 0);
+    walk_with(log, &none, &directory, 1000);
 }
 
 // A tree of depth 2 with damage in a sector: leaf k is sector k, the pointer block above leaf 3k is sector 9 + k.
@@ -400,6 +433,32 @@ fn damaged(log: &mut [u8], name: &[u8], sector: usize)
     let page = [0u8; 64];
     read_file(log, &page, &e, 5, 45);
     walk_thrice(log, &root);
+}
+
+// Reads and walks a tree of which the first five sectors are the log, and all others wait.
+fn in_two_parts(log: &[u8], entry: &[u8], root: &[u8; 20]) {
+    if 2560 <= log.len() {
+        let page = [0u8; 64];
+        read_parts(&log[..2560], &log[2560..], &page, entry, 5, 45);
+        walk_parts(&log[..2560], &log[2560..], root);
+    }
+}
+
+// The same, and again with damage in a waiting sector.
+fn in_two_parts_twice(log: &mut [u8], entry: &[u8], root: &[u8; 20]) {
+    in_two_parts(log, entry, root);
+    damage(log, 7);
+    in_two_parts(log, entry, root);
+}
+
+// A tree of depth 2 in two parts: leaf k is sector k, and the other blocks come behind.
+fn waiting(log: &mut [u8]) {
+    begin(log, b"tree=waiting");
+    let top = put_tree(log, 2);
+    let e = entry(5, 9, 45, &top);
+    let directory = put(log, 2, &e);
+    let root = put_short_root(log, &directory);
+    in_two_parts_twice(log, &e, &root);
 }
 
 // n directories, each the only entry of the one before, and a file in the last.
@@ -421,7 +480,8 @@ fn nest(log: &mut [u8], name: &[u8], n: usize)
 // Prints the answer at the offset 0.
 fn read_once(log: &[u8], entry: &[u8]) {
     let page = [0u8; 64];
-    read_at(log, &page, entry, 0);
+    let none = [0u8; 0];
+    read_at(log, &none, &page, entry, 0);
 }
 
 // The same of an entry without its last byte.
@@ -528,6 +588,7 @@ fn trees(log: &mut [u8]) {
     whole_files(log);
     holes(log);
     directories(log);
+    waiting(log);
     damages_and_nests(log);
     refusals(log);
 }

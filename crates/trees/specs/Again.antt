@@ -1,42 +1,53 @@
 -- "reading a file again after appends gives the same run", and so of a walk: what an archive answered about a tree it answers again, on any log.
 use mathlib.Core.Path.{_≡_}
 use mathlib.Core.Bool.{true}
-use mathlib.Core.List.{List}
+use mathlib.Core.List.{List, []}
 use Prim.Native.Nat.{ℕ}
+use lib.ListN.{length}
+use Rattle.ground.specs.Choice.{on}
 use Rattle.buffer.specs.Bytes.{Bytes}
 use Rattle.word.specs.Number.{small}
-use Rattle.archive.specs.Step.{step}
-use Rattle.archive.specs.declared.Session.{Session}
+use Rattle.log.specs.LookUp.{lentAllowed}
+use Rattle.log.specs.Parts.{tape, Lent}
+use Rattle.request.specs.Step.{step}
+use Rattle.request.specs.declared.Session.{Session}
 use Rattle.ledger.specs.History.{Item, AllOfBytes}
 use Rattle.demands.specs.Instance.{archive}
 use Rattle.demands.specs.Histories.{Keeps, afterwards}
-use Rattle.file.specs.File.{located}
+use Rattle.file.specs.File.{extentAt, located}
 use Rattle.file_laws.specs.Path.{Answers}
 use Rattle.file_laws.specs.Bytes.{runBytes}
 use Rattle.walk.specs.Walk.{walkOf}
 use Rattle.visit.specs.declared.End.the-variants.{Done}
 use Rattle.visit.specs.Visit.{walked}
 
--- a file that answers at an offset answers there alike later: the same run, by its place and its bytes
-abbrev pub ReadsAlike : Bytes → Bytes → Type 0
-ReadsAlike log later =
-    (page entry : Bytes) (offset : ℕ) → Answers (located log page entry offset)
-    → (located later page entry offset ≡ located log page entry offset)
-    × (runBytes later page (located later page entry offset) ≡ runBytes log page (located log page entry offset))
+-- the waiting part, as reading and walking are lent it: an empty one where none is
+abbrev pub waitingOf : Lent → Bytes
+waitingOf L = on (L .waiting) [] (λ w. w)
+
+-- a file that answers at an offset answers there alike later: the same run, by its place in the log and the waiting part read as one, and by its bytes
+abbrev pub ReadsAlike : Lent → Lent → Type 0
+ReadsAlike L later =
+    (page entry : Bytes) (offset : ℕ) → Answers (located (L .log) (waitingOf L) page entry offset)
+    → let lent = lentAllowed (length (L .log)) (length (waitingOf L)) in
+    (extentAt lent (tape (later .log) (waitingOf later)) page entry offset ≡ extentAt lent (tape (L .log) (waitingOf L)) page entry offset)
+    × (runBytes (later .log) (waitingOf later) page (located (later .log) (waitingOf later) page entry offset)
+    ≡ runBytes (L .log) (waitingOf L) page (located (L .log) (waitingOf L) page entry offset))
 
 -- a walk that ends does so later with as many visits
-abbrev pub WalksAlike : Bytes → Bytes → Type 0
-WalksAlike log later = (score : Bytes) (allowance visits : ℕ) → walkOf log score allowance ≡ walked visits Done → walkOf later score allowance ≡ walked visits Done
+abbrev pub WalksAlike : Lent → Lent → Type 0
+WalksAlike L later = (score : Bytes) (allowance visits : ℕ)
+    → walkOf (L .log) (waitingOf L) score allowance ≡ walked visits Done → walkOf (later .log) (waitingOf later) score allowance ≡ walked visits Done
 
 -- all three
-pub record Alike (log later : Bytes) : Type 0 where
-  pub keeps : Keeps log later
-  pub reads : ReadsAlike log later
-  pub walks : WalksAlike log later
+pub record Alike (L later : Lent) : Type 0 where
+  pub keeps : Keeps L later
+  pub reads : ReadsAlike L later
+  pub walks : WalksAlike L later
 
 -- after any request, on any log; and after any list of requests
 abbrev pub AfterOne : Type 0
-AfterOne = (s : Session) (m log buffer : Bytes) → small m ≡ true → Alike log (step s m log buffer .log)
+AfterOne = (s : Session) (m : Bytes) (L : Lent) (buffer : Bytes) → small m ≡ true → Alike L (step s m L buffer .lent)
 
 abbrev pub AfterAny : Type 0
-AfterAny = (log : Bytes) (past : List Session) (qs : List (Item archive)) → AllOfBytes archive qs → Alike log (afterwards log past qs)
+AfterAny = (L : Lent) (past : List Session) (qs : List (Item archive)) → AllOfBytes archive qs → Alike L (afterwards L past qs)

@@ -1,3 +1,2 @@
 -- The laws of a visit.
-pub mod Alone
 pub mod Visits

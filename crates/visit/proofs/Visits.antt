@@ -1,7 +1,6 @@
 -- What a visit meets in the program, and what goes on by the definition.
 use mathlib.Core.Path.{_≡_, refl, sym, ap, ap₂, _∙_}
 use mathlib.Core.Bool.{Bool, true, false, cond}
-use mathlib.Core.List.{[]}
 use mathlib.Core.Option.{Option, none, some}
 use Prim.Native.Nat.{ℕ, _+_, _≤_, _<_}
 use native.Mathlib.Omega.{arith}
@@ -15,13 +14,12 @@ use Rattle.refusal.specs.declared.Refusal.the-variants.{OverCount, Nest, Spent}
 use Rattle.sector_number.specs.declared.SectorNumber.{SectorNumber}
 use Rattle.kind.specs.Kind.{longest}
 use Rattle.block.specs.Block.{Row, parts, partsOf}
-use Rattle.block.specs.Log.{sectors}
+use Rattle.block.specs.Log.{sectors, joined}
+use Rattle.block.proofs.Joined.{sectors-joined}
 use Rattle.reader.specs.Reader.{bytesAt}
 use Rattle.log.specs.declared.Look.{Look}
 use Rattle.log.specs.declared.Look.the-variants.{Found, Refused}
 use Rattle.log.specs.LookUp.{held, absence, lookUp, counted}
-use Rattle.log.specs.Parts.{tape}
-use Rattle.log.proofs.Parts.{look-up-alone}
 use Rattle.lookup.proofs.Held.{held-stands}
 use Rattle.entry.specs.declared.Entry.{Entry}
 use Rattle.tree.specs.Tree.{typeAt, countAt}
@@ -108,10 +106,9 @@ module _ (log : Bytes) (nest left kind count : ℕ) (score : Bytes) where
     unfolding metOf
     met-spent e = rw (le-ltb 16 nest h, eq-eqb left 0 e)
 
-    -- nothing waits behind the log
-    pub met-looked : (left ≡ 0 → ⊥) → (l : Look) → l ≡ counted count (lookUp (tape log []) kind score) → met 1 l ≡ metOf log nest left kind count score
+    pub met-looked : (left ≡ 0 → ⊥) → (l : Look) → l ≡ counted count (lookUp log kind score) → met 1 l ≡ metOf log nest left kind count score
     unfolding metOf
-    met-looked k l e = rw (le-ltb 16 nest h, ne-eqb left 0 k) (ap (met 1) (e ∙ ap (counted count) (look-up-alone log kind score)))
+    met-looked k l e = rw (le-ltb 16 nest h, ne-eqb left 0 k) (ap (met 1) e)
 
 -- by the type and the count of a level
 pub met-level : (log : Bytes) (e : Entry) (level nest left : ℕ) (score : Bytes) {m : Met} {kind count : ℕ} → m ≡ metOf log nest left kind count score
@@ -119,6 +116,10 @@ pub met-level : (log : Bytes) (e : Entry) (level nest left : ℕ) (score : Bytes
 met-level log e level nest left score em ek ec = em ∙ ap₂ (λ (x y : ℕ). metOf log nest left x y score) ek ec
 
 -- ---- what a caller learns of it
+
+-- what ends within both parts read as one
+pub in-both : (u : ℕ) (log waiting : Bytes) → u ≤ sectors (length log) → (n : ℕ) → n ≤ sectors (length (joined u log waiting)) → n ≤ u + sectors (length waiting)
+in-both u log waiting h n e = omega (arith, sectors-joined u log waiting h)
 
 pub record Known (log : Bytes) (nest left kind count : ℕ) (score : Bytes) (first size spent : ℕ) : Type 0 where
   pub not-deep : nest ≤ 16

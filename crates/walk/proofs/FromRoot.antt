@@ -4,7 +4,7 @@ use mathlib.Core.Bool.{Bool, true, false, cond}
 use Prim.Native.Nat.{ℕ, _+_, _-_, _≤_, _<_}
 use native.Mathlib.Omega.{arith}
 use borrow.Author.Tests.{lt-ltb, le-ltb}
-use lib.ListN.{length, take, drop}
+use lib.ListN.{take, drop}
 use Rattle.buffer.specs.Bytes.{Bytes}
 use Rattle.refusal.specs.declared.Refusal.{Refusal}
 use Rattle.refusal.specs.declared.Refusal.the-variants.{LogLength, Entry as IllFormed, Allowance}
@@ -13,14 +13,13 @@ use Rattle.sector.specs.Sector.{filled}
 use Rattle.reader.specs.Reader.{bytesAt}
 use Rattle.reader.proofs.Pieces.{length-bytes}
 use Rattle.log.specs.declared.Look.the-variants.{Refused}
-use Rattle.log.specs.LookUp.{logAllowed}
 use Rattle.entry.specs.Root.{rootWellFormed, rootScore}
 use Rattle.visit.specs.declared.Walked.{Walked}
 use Rattle.visit.specs.declared.Met.{Met}
 use Rattle.visit.specs.declared.End.the-variants.{Refused as Stopped}
 use Rattle.visit.specs.Visit.{walked, more}
 use Rattle.descent.specs.Descent.{paddedTo, visitDirectory}
-use Rattle.walk.specs.Walk.{walkTop, walkRoot, walkOf, mostAllowance}
+use Rattle.walk.specs.Walk.{walkTop, walkRoot, walkIn, mostAllowance}
 use Rattle.visit.specs.Met.{metOf, answerOf}
 use Rattle.descent.proofs.Padded.{root-padded}
 use Rattle.visit.proofs.Visits.{Known, refused-known, spent-within}
@@ -73,15 +72,15 @@ module _ {log score : Bytes} {left first size spent : ℕ} (K : Known log 0 left
 
 -- ---- the tests of a walk
 
-module _ (log score : Bytes) (allowance : ℕ) (a : Bool) (e : a ≡ logAllowed (length log)) where
-  pub log-not-allowed : a ≡ false → walked 0 (Stopped LogLength) ≡ walkOf log score allowance
-  unfolding walkOf
+module _ (lent : Bool) (log score : Bytes) (allowance : ℕ) (a : Bool) (e : a ≡ lent) where
+  pub log-not-allowed : a ≡ false → walked 0 (Stopped LogLength) ≡ walkIn lent log score allowance
+  unfolding walkIn
   log-not-allowed q = rw (sym e ∙ q)
 
-  pub allowance-too-large : a ≡ true → mostAllowance < allowance → walked 0 (Stopped Allowance) ≡ walkOf log score allowance
-  unfolding walkOf
+  pub allowance-too-large : a ≡ true → mostAllowance < allowance → walked 0 (Stopped Allowance) ≡ walkIn lent log score allowance
+  unfolding walkIn
   allowance-too-large q h = rw (sym e ∙ q, lt-ltb mostAllowance allowance h)
 
-  pub tests-passed : a ≡ true → allowance ≤ mostAllowance → (r : Walked) → r ≡ walkRoot log score allowance → r ≡ walkOf log score allowance
-  unfolding walkOf
+  pub tests-passed : a ≡ true → allowance ≤ mostAllowance → (r : Walked) → r ≡ walkRoot log score allowance → r ≡ walkIn lent log score allowance
+  unfolding walkIn
   tests-passed q h r d = rw (sym e ∙ q, le-ltb mostAllowance allowance h) d

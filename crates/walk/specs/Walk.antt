@@ -1,18 +1,13 @@
 -- "Walking from a root score", by look-up's definition.
-use mathlib.Core.Bool.{cond}
-use mathlib.Core.List.{_++_}
-use Prim.Native.Nat.{ℕ, zero, suc, _+_, _-_, _*_, _/_, _%_, _≤_}
-use lib.Dec.{eqb, ltb}
-use lib.ListN.{length, take, drop, replicate}
-use Rattle.ground.specs.Choice.{on}
+use mathlib.Core.Bool.{Bool, cond}
+use Prim.Native.Nat.{ℕ, _+_, _-_}
+use lib.Dec.{ltb}
+use lib.ListN.{length}
 use Rattle.buffer.specs.Bytes.{Bytes}
-use Rattle.refusal.specs.declared.Refusal.the-variants.{LogLength, OverCount, Entry as IllFormed, Pointers, Nest, Spent, Allowance}
-use Rattle.refusal.specs.Number.{numberOf}
+use Rattle.refusal.specs.declared.Refusal.the-variants.{LogLength, Entry as IllFormed, Allowance}
 use Rattle.kind.specs.Kind.{longest}
-use Rattle.block.specs.Block.{Row}
-use Rattle.log.specs.LookUp.{held, absence, logAllowed}
-use Rattle.entry.specs.declared.Entry.{Entry}
-use Rattle.entry.specs.Entry.{entryOf, entryAllowed, scoreOf}
+use Rattle.log.specs.LookUp.{lentAllowed}
+use Rattle.log.specs.Parts.{tape}
 use Rattle.entry.specs.Root.{rootWellFormed, rootScore}
 use Rattle.visit.specs.declared.End.the-variants.{Refused}
 use Rattle.visit.specs.declared.Walked.{Walked}
@@ -33,9 +28,13 @@ walkRoot log score left =
 abbrev pub mostAllowance : ℕ
 mostAllowance = 1000000
 
--- "Tests: 3, 23"
-unfoldable pub walkOf : Bytes → Bytes → ℕ → Walked
-walkOf log score allowance =
-    cond (logAllowed (length log))
+-- "Tests: 3, 23", in one log of bytes, where `lent` is what test 3 gave
+unfoldable pub walkIn : Bool → Bytes → Bytes → ℕ → Walked
+walkIn lent log score allowance =
+    cond lent
     (cond (ltb mostAllowance allowance) (walked 0 (Refused Allowance)) (walkRoot log score allowance))
     (walked 0 (Refused LogLength))
+
+-- the same in "the log's used part and then the waiting part as one log"
+abbrev pub walkOf : Bytes → Bytes → Bytes → ℕ → Walked
+walkOf log waiting score allowance = walkIn (lentAllowed (length log) (length waiting)) (tape log waiting) score allowance

@@ -1,6 +1,7 @@
 -- A walk that ends, ends the same on a log that holds the same blocks and perhaps more.
-use mathlib.Core.Path.{_≡_, refl, ap, _∙_}
+use mathlib.Core.Path.{_≡_, refl, sym, ap, _∙_}
 use mathlib.Core.Bool.{Bool, true, false, cond}
+use mathlib.Core.List.{[]}
 use mathlib.Core.Option.{Option, none, some}
 use Prim.Native.Nat.{ℕ, zero, suc, _+_, _-_, _*_, _/_, _%_}
 use lib.Dec.{eqb, ltb}
@@ -9,7 +10,9 @@ use Rattle.buffer.specs.Bytes.{Bytes}
 use Rattle.refusal.specs.declared.Refusal.{Refusal}
 use Rattle.kind.specs.Kind.{longest}
 use Rattle.block.specs.Block.{Row}
-use Rattle.log.specs.LookUp.{held, absence, logAllowed}
+use Rattle.log.specs.LookUp.{held, absence, lentAllowed}
+use Rattle.log.specs.Parts.{tape}
+use Rattle.log.proofs.Parts.{held-alone}
 use Rattle.entry.specs.declared.Entry.{Entry}
 use Rattle.entry.specs.Entry.{entryOf, entryAllowed, scoreOf}
 use Rattle.entry.specs.Root.{rootWellFormed, rootScore}
@@ -18,7 +21,7 @@ use Rattle.visit.specs.declared.End.the-variants.{Done, Refused}
 use Rattle.tree.specs.Tree.{piece, typeAt, countAt}
 use Rattle.visit.specs.Visit.{walked, more, visiting}
 use Rattle.descent.specs.Descent.{andThen, paddedTo, inOrder, nestOf, entriesOf, judged, visitDirectory, visitEntry}
-use Rattle.walk.specs.Walk.{walkTop, walkRoot, walkOf, mostAllowance}
+use Rattle.walk.specs.Walk.{walkTop, walkRoot, walkIn, walkOf, mostAllowance}
 use Rattle.visit.proofs.Visits.{visitBy}
 use Rattle.walk_laws.proofs.Found.{not-done, and-then-done}
 
@@ -99,11 +102,22 @@ module _ (log log′ : Bytes) (h : (t : ℕ) (s : Bytes) (r : Row) → held log 
       visit-again 0 left 1 300 score _ _
       (λ b. cond-again (rootWellFormed (paddedTo 300 b)) (top-again (rootScore (paddedTo 300 b)) (left - 1)) (λ d. refl))
 
-pub walk-again : (log log′ score : Bytes) (n v : ℕ) → length log′ ≡ length log
+  again-in : (lent : Bool) (score : Bytes) (n v : ℕ) → walkIn lent log score n ≡ walked v Done → walkIn lent log′ score n ≡ walked v Done
+  unfolding walkIn
+  again-in lent score n v e =
+      cond-again lent (cond-again (ltb mostAllowance n) (λ d. refl) (root-again score n)) (λ d. refl) (ap (λ (w : Walked). w .end) e) ∙ e
+
+-- of parts that hold what earlier ones held
+pub walk-again : (log waiting log′ waiting′ score : Bytes) (n v : ℕ) → lentAllowed (length log′) (length waiting′) ≡ lentAllowed (length log) (length waiting)
+    → ((t : ℕ) (s : Bytes) (r : Row) → held (tape log waiting) t s ≡ some r → held (tape log′ waiting′) t s ≡ some r)
+    → walkOf log waiting score n ≡ walked v Done → walkOf log′ waiting′ score n ≡ walked v Done
+walk-again log waiting log′ waiting′ score n v l h e =
+    ap (λ (b : Bool). walkIn b (tape log′ waiting′) score n) l
+    ∙ again-in (tape log waiting) (tape log′ waiting′) h (lentAllowed (length log) (length waiting)) score n v e
+
+-- of a log with nothing behind it
+pub walk-again-alone : (log log′ score : Bytes) (n v : ℕ) → length log′ ≡ length log
     → ((t : ℕ) (s : Bytes) (r : Row) → held log t s ≡ some r → held log′ t s ≡ some r)
-    → walkOf log score n ≡ walked v Done → walkOf log′ score n ≡ walked v Done
-unfolding walkOf
-walk-again log log′ score n v l h e =
-    rw l
-    (cond-again (logAllowed (length log)) (cond-again (ltb mostAllowance n) (λ d. refl) (root-again log log′ h score n)) (λ d. refl) (ap (λ (w : Walked). w .end) e)
-    ∙ e)
+    → walkOf log [] score n ≡ walked v Done → walkOf log′ [] score n ≡ walked v Done
+walk-again-alone log log′ score n v l h e =
+    walk-again log [] log′ [] score n v (ap (λ (m : ℕ). lentAllowed m 0) l) (λ t s r q. held-alone log′ t s ∙ h t s r (sym (held-alone log t s) ∙ q)) e

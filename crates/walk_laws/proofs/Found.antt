@@ -12,7 +12,8 @@ use Rattle.refusal.specs.declared.Refusal.{Refusal}
 use Rattle.refusal.specs.declared.Refusal.the-variants.{OverCount, Entry as IllFormed, Pointers, LogLength, Allowance}
 use Rattle.kind.specs.Kind.{longest}
 use Rattle.block.specs.Block.{Row}
-use Rattle.log.specs.LookUp.{held, absence, logAllowed}
+use Rattle.log.specs.LookUp.{held, absence, lentAllowed}
+use Rattle.log.specs.Parts.{tape}
 use Rattle.entry.specs.declared.Entry.{Entry}
 use Rattle.entry.specs.Entry.{entryOf, entryAllowed, scoreOf}
 use Rattle.entry.specs.Root.{rootWellFormed, rootScore}
@@ -22,7 +23,7 @@ use Rattle.visit.specs.declared.End.the-variants.{Done, Refused}
 use Rattle.tree.specs.Tree.{piece, typeAt, countAt}
 use Rattle.visit.specs.Visit.{walked, more, visiting}
 use Rattle.descent.specs.Descent.{andThen, paddedTo, inOrder, nestOf, entriesOf, judged, visitDirectory, visitEntry}
-use Rattle.walk.specs.Walk.{walkTop, walkRoot, walkOf, mostAllowance}
+use Rattle.walk.specs.Walk.{walkTop, walkRoot, walkIn, mostAllowance}
 use Rattle.descent.specs.Parts.{entryIn}
 use Rattle.walk_laws.specs.Found.{Found, leaf, directory, FoundEntries, FoundRoot, WalkFinds, pointers, entries}
 use Rattle.visit.proofs.Visits.{visitBy}
@@ -172,9 +173,12 @@ tests-passed true true w e = not-done _ e
 tests-passed true false w e = e
 tests-passed false b w e = not-done _ e
 
-pub walk-found : WalkFinds
-unfolding walkOf walkRoot
-walk-found log score n v e =
-    let d = tests-passed (logAllowed (length log)) (ltb mostAllowance n) (walkRoot log score n) (ap (λ (w : Walked). w .end) e) in
+found-in : (lent : Bool) (log score : Bytes) (n v : ℕ) → walkIn lent log score n ≡ walked v Done → FoundRoot log score
+unfolding walkIn walkRoot
+found-in lent log score n v e =
+    let d = tests-passed lent (ltb mostAllowance n) (walkRoot log score n) (ap (λ (w : Walked). w .end) e) in
     let s = seen log 0 n 1 300 score _ d in
     root-done-found log score (n - 1) (s .row) (s .row-held) (rootWellFormed (paddedTo 300 (s .row .bytes))) refl (s .rest-done)
+
+pub walk-found : WalkFinds
+walk-found log waiting score n v e = found-in (lentAllowed (length log) (length waiting)) (tape log waiting) score n v e

@@ -7,6 +7,7 @@ use lib.ListN.{length}
 use Rattle.buffer.specs.Bytes.{Bytes}
 use Rattle.block.specs.Block.{Row}
 use Rattle.log.specs.LookUp.{held}
+use Rattle.log.specs.Parts.{tape}
 use Rattle.entry.specs.declared.Entry.{Entry}
 use Rattle.entry.specs.Entry.{entryOf, entryAllowed, scoreOf}
 use Rattle.entry.specs.Root.{rootWellFormed, rootScore}
@@ -42,4 +43,4 @@ pub record FoundRoot (log score : Bytes) : Type 0 where
 
 -- a walk that ends found every block below the root: "The first refusal stops all", so none was missing
 abbrev pub WalkFinds : Type 0
-WalkFinds = (log score : Bytes) (n v : ℕ) → walkOf log score n ≡ walked v Done → FoundRoot log score
+WalkFinds = (log waiting score : Bytes) (n v : ℕ) → walkOf log waiting score n ≡ walked v Done → FoundRoot (tape log waiting) score

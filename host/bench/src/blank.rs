@@ -3,7 +3,7 @@
 use boundary::{serve, Refusal, Session};
 use plain::random::Random;
 
-use crate::log::{read_message, time, write_message};
+use crate::log::{read_message, time, write_message, SYNC};
 
 const BLOCK: usize = 8192;
 const BLOCKS: usize = 100;
@@ -13,19 +13,27 @@ const ROUNDS: usize = 5;
 pub fn run(lengths: &[usize]) {
     println!("\nmilliseconds a request, {BLOCKS} blocks of {BLOCK} bytes at the front of a log that is blank from there on");
     println!(
-        "{:>9} {:>9} {:>9} {:>9} {:>9} {:>9}",
-        "sectors", "ping", "read", "absent", "write", "again"
+        "{:>9} {:>9} {:>9} {:>9} {:>9} {:>9} {:>9}",
+        "sectors", "ping", "read", "absent", "write", "sync", "again"
     );
     for &sectors in lengths {
         let mut random = Random::new(3);
         // written once: pages that were only read would all be one page of zeros
         let mut log = vec![1; sectors * 512];
         log.fill(0);
+        let mut waiting = vec![0; 256 * 512];
         let mut reply = vec![0; 57_348];
         let mut ask = |message: &[u8], expected: Result<(), Refusal>| {
             let mut answer = Ok(());
             let spent = time(|| {
-                answer = serve(Session::Greeted, message, &mut log, &mut reply).outcome;
+                let served = serve(
+                    Session::Greeted,
+                    message,
+                    &mut log,
+                    &mut waiting,
+                    &mut reply,
+                );
+                answer = served.outcome;
             });
             assert_eq!(answer, expected);
             1e3 * spent
@@ -34,10 +42,11 @@ pub fn run(lengths: &[usize]) {
         for round in 0..ROUNDS {
             let count = if round == 0 { BLOCKS } else { 1 };
             let mut last = vec![];
-            let mut write = 0.0;
+            let (mut write, mut sync) = (0.0, 0.0);
             for _ in 0..count {
                 last = random.bytes(BLOCK);
                 write = ask(&write_message(&last), Ok(()));
+                sync = ask(&SYNC, Ok(()));
             }
             let score = plain::sha1::sha1(&last);
             rounds.push([
@@ -45,17 +54,19 @@ pub fn run(lengths: &[usize]) {
                 ask(&read_message(&score), Ok(())),
                 ask(&read_message(&[7; 20]), Err(Refusal::NotHeld)),
                 write,
+                sync,
                 ask(&write_message(&last), Ok(())),
             ]);
         }
         let cost = |k: usize| crate::median(rounds.iter().map(|round| round[k]));
         println!(
-            "{sectors:>9} {:>9.3} {:>9.2} {:>9.2} {:>9.2} {:>9.2}",
+            "{sectors:>9} {:>9.3} {:>9.2} {:>9.2} {:>9.2} {:>9.2} {:>9.2}",
             cost(0),
             cost(1),
             cost(2),
             cost(3),
-            cost(4)
+            cost(4),
+            cost(5)
         );
     }
 }

@@ -1,4 +1,5 @@
-//! Storing and reading blocks by scan, beside an ordinary Rust log with the same checks and the same bytes.
+//! Storing and reading blocks by scan, beside an ordinary Rust log with the same checks and the same
+//! bytes. A sync comes after every ten writes.
 
 use boundary::{serve, Refusal, Session};
 use plain::log as ordinary;
@@ -10,6 +11,9 @@ const BLOCKS: usize = 1000;
 /// The sectors of a block, and of the log that the absent block is looked for in.
 const PARTS: usize = BLOCK.div_ceil(403);
 const SOUND: usize = 20_000;
+/// The writes before a sync, and the sectors of the waiting part.
+const BATCH: usize = 10;
+const WAITING: usize = 256;
 const DATA: u8 = 13;
 const ROUNDS: usize = 5;
 
@@ -25,7 +29,7 @@ pub fn run() {
     let blocks: Vec<Vec<u8>> = (0..BLOCKS).map(|_| random.bytes(BLOCK)).collect();
     let messages: Vec<Vec<u8>> = blocks.iter().map(|b| write_message(b)).collect();
     let scores: Vec<[u8; 20]> = blocks.iter().map(|b| plain::sha1::sha1(b)).collect();
-    let names = ["store", "read", "absent"];
+    let names = ["store", "read", "waiting", "absent"];
     let mut measured = names.map(|name| Measured {
         name,
         bytes: BLOCKS * BLOCK,
@@ -35,59 +39,83 @@ pub fn run() {
     let mut out = vec![0; 57_344];
     let mut log = vec![0; BLOCKS * PARTS * 512];
     let mut other = log.clone();
+    let mut waiting = vec![0; WAITING * 512];
+    let mut others = waiting.clone();
+    let reads: Vec<Vec<u8>> = scores.iter().map(read_message).collect();
     for _ in 0..ROUNDS {
         log.fill(0);
         other.fill(0);
+        let mut ask = |log: &mut [u8], waiting: &mut [u8], message: &[u8]| {
+            serve(Session::Greeted, message, log, waiting, &mut reply).outcome
+        };
         let ours = time(|| {
-            for m in &messages {
-                let served = serve(Session::Greeted, m, &mut log, &mut reply);
-                assert_eq!(served.outcome, Ok(()));
+            for batch in messages.chunks(BATCH) {
+                for m in batch.iter().map(|m| &m[..]).chain([&SYNC[..]]) {
+                    assert_eq!(ask(&mut log, &mut waiting, m), Ok(()));
+                }
             }
         });
         let theirs = time(|| {
-            for b in &blocks {
-                let stored = ordinary::store(&mut other, DATA, b);
-                assert!(matches!(stored, ordinary::Stored::New(_)));
+            for batch in blocks.chunks(BATCH) {
+                for b in batch {
+                    let stored = ordinary::store(&other, &mut others, DATA, b);
+                    assert!(matches!(stored, ordinary::Stored::New(_)));
+                }
+                assert_eq!(ordinary::settle(&mut other, &mut others), Ok(()));
             }
         });
-        assert!(log == other, "the same log bytes");
+        assert!(log == other && waiting == others, "the same log bytes");
         measured[0].rounds.push([ours, theirs]);
 
-        let reads: Vec<Vec<u8>> = scores.iter().map(read_message).collect();
-        let ours = time(|| {
-            for m in &reads {
-                let served = serve(Session::Greeted, m, &mut log, &mut reply);
-                assert_eq!(served.outcome, Ok(()));
-            }
-        });
-        let theirs = time(|| {
-            for s in &scores {
-                assert_eq!(ordinary::read(&other, DATA, s, &mut out), Ok(BLOCK));
-            }
-        });
-        measured[1].rounds.push([ours, theirs]);
+        let mut read = |log: &mut [u8], other: &[u8], waiting: &mut [u8]| {
+            let ours = time(|| {
+                for m in &reads {
+                    assert_eq!(ask(log, waiting, m), Ok(()));
+                }
+            });
+            let theirs = time(|| {
+                for s in &scores {
+                    let size = ordinary::read(other, waiting, DATA, s, &mut out);
+                    assert_eq!(size, Ok(BLOCK));
+                }
+            });
+            [ours, theirs]
+        };
+        measured[1]
+            .rounds
+            .push(read(&mut log, &other, &mut waiting));
+        // the same with the last blocks waiting
+        let border = (BLOCKS - BATCH) * PARTS * 512;
+        let last = &log[border..];
+        let mut moved = waiting.clone();
+        moved[..last.len()].copy_from_slice(last);
+        let settled = &mut log[..border];
+        measured[2]
+            .rounds
+            .push(read(settled, &other[..border], &mut moved));
 
         let whole = SOUND / PARTS * PARTS * 512;
         let absent = read_message(&[7; 20]);
         let ours = time(|| {
             for _ in 0..10 {
-                let served = serve(Session::Greeted, &absent, &mut log[..whole], &mut reply);
-                assert_eq!(served.outcome, Err(Refusal::NotHeld));
+                let answer = ask(&mut log[..whole], &mut waiting, &absent);
+                assert_eq!(answer, Err(Refusal::NotHeld));
             }
         });
         let theirs = time(|| {
             for _ in 0..10 {
                 assert_eq!(
-                    ordinary::read(&other[..whole], DATA, &[7; 20], &mut out),
+                    ordinary::read(&other[..whole], &waiting, DATA, &[7; 20], &mut out),
                     Err(ordinary::Refused::Number(11))
                 );
             }
         });
-        measured[2].rounds.push([ours, theirs]);
-        measured[2].bytes = 10 * whole;
+        measured[3].rounds.push([ours, theirs]);
+        measured[3].bytes = 10 * whole;
     }
     println!(
-        "\nby scan: {BLOCKS} different blocks of {BLOCK} bytes, a log of {} bytes; a block that is absent from {} sound sectors",
+        "\nby scan: {BLOCKS} different blocks of {BLOCK} bytes, a log of {} bytes, a sync after every {BATCH} writes; \
+         waiting: read with the last {BATCH} not settled; a block that is absent from {} sound sectors",
         log.len(),
         SOUND / PARTS * PARTS
     );
@@ -106,6 +134,9 @@ pub fn run() {
         );
     }
 }
+
+/// A sync.
+pub const SYNC: [u8; 4] = [0, 2, 16, 1];
 
 pub fn write_message(data: &[u8]) -> Vec<u8> {
     let size = (data.len() + 6) as u16;

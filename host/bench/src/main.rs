@@ -19,7 +19,7 @@ const HELP: &str = "\
 bench [--help]
 
 Measures the proved functions beside ordinary Rust, both built for release, by turns on the same
-input, and prints a table; it takes about 20 seconds. Where two results differ it stops before that.
+input, and prints a table; it takes about half a minute. Where two results differ it stops before that.
 ";
 
 fn main() -> ExitCode {

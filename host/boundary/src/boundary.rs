@@ -10,6 +10,8 @@ extern "C" {
         message_len: usize,
         log: *mut u8,
         log_len: usize,
+        waiting: *mut u8,
+        waiting_len: usize,
         reply: *mut u8,
         reply_len: usize,
     ) -> u32;
@@ -31,6 +33,8 @@ extern "C" {
     pub fn skywimple_locate(
         log: *const u8,
         log_len: usize,
+        waiting: *const u8,
+        waiting_len: usize,
         page: *const u8,
         page_len: usize,
         entry: *const u8,
@@ -40,17 +44,35 @@ extern "C" {
     pub fn skywimple_fill(
         log: *const u8,
         log_len: usize,
+        waiting: *const u8,
+        waiting_len: usize,
         entry: *const u8,
         entry_len: usize,
         offset: u64,
         buffer: *mut u8,
         buffer_len: usize,
+        told: *mut u64,
     ) -> u64;
     pub fn skywimple_walk(
         log: *const u8,
         log_len: usize,
+        waiting: *const u8,
+        waiting_len: usize,
         score: *const [u8; 20],
         allowance: u64,
     ) -> u64;
+    pub fn skywimple_search(
+        log: *const u8,
+        log_len: usize,
+        waiting: *const u8,
+        waiting_len: usize,
+        page: *const u8,
+        page_len: usize,
+        entry: *const u8,
+        entry_len: usize,
+        query: *const u8,
+        query_len: usize,
+    ) -> u64;
+    pub fn skywimple_is_card(bytes: *const u8, bytes_len: usize) -> u32;
     pub fn skywimple_block_type(number: u64) -> u32;
 }

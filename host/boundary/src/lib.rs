@@ -2,6 +2,7 @@
 //! Each that can refuse says so by a `Result` with a `Refusal`.
 
 mod boundary;
+mod cards;
 mod digest;
 mod refusal;
 mod report;
@@ -9,6 +10,7 @@ mod request;
 mod tree;
 mod zeros;
 
+pub use cards::{is_card, search, Value};
 pub use digest::{crc32, sha1, sha1_into};
 pub use refusal::Refusal;
 pub use report::{report, sound_at};
@@ -18,6 +20,8 @@ pub use zeros::{cut, pad};
 
 /// The most sectors of a log: one more is refused with 3.
 pub const MOST_SECTORS: usize = 1_048_576;
+/// The most sectors of a waiting part: one more is refused with 3.
+pub const MOST_WAITING: usize = 256;
 
 /// A result that is a refusal's number, or 0 and 256 times the answer.
 fn answer(result: u32) -> Result<usize, Refusal> {

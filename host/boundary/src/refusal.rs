@@ -11,7 +11,7 @@ pub enum Refusal {
     Frame,
     /// A lent buffer that is too short.
     Buffer,
-    /// A log that isn't whole sectors, or too long.
+    /// A log or a waiting part that isn't whole sectors, or too long.
     LogLength,
     /// The session is closed.
     Closed,
@@ -33,7 +33,7 @@ pub enum Refusal {
     NotKnown { sector: usize },
     /// The block is longer than the count.
     OverCount,
-    /// Too few sectors are left after the used part.
+    /// Too few sectors are left after the used ones, in the log or in the waiting part.
     NoRoom,
     /// A block of that score and type has other bytes.
     Clash,
@@ -53,11 +53,15 @@ pub enum Refusal {
     Pad,
     /// An allowance over the limit.
     Allowance,
+    /// An ill-formed card, or one that is too long.
+    Card,
+    /// An ill-formed query.
+    Query,
 }
 
 impl Refusal {
-    /// All of them, in the order of their numbers, from 1 on; the doubt is at sector 0.
-    pub const ALL: [Refusal; 23] = [
+    /// All of them, in the order of their numbers: 1 to 23, 25 and 26. The doubt is at sector 0.
+    pub const ALL: [Refusal; 25] = [
         Refusal::Frame,
         Refusal::Buffer,
         Refusal::LogLength,
@@ -81,6 +85,8 @@ impl Refusal {
         Refusal::Spent,
         Refusal::Pad,
         Refusal::Allowance,
+        Refusal::Card,
+        Refusal::Query,
     ];
 
     /// Its number.
@@ -109,6 +115,8 @@ impl Refusal {
             Refusal::Spent => 21,
             Refusal::Pad => 22,
             Refusal::Allowance => 23,
+            Refusal::Card => 25,
+            Refusal::Query => 26,
         }
     }
 
@@ -128,12 +136,13 @@ impl Refusal {
     /// The same where a sector stands beside the number: the first doubtful one for 12, and 0 for all
     /// other refusals. Beside 0 it says something else.
     pub(crate) fn with_sector(number: u8, sector: usize) -> Result<(), Refusal> {
-        let Some(index) = usize::from(number).checked_sub(1) else {
+        if number == 0 {
             return Ok(());
-        };
-        match (Refusal::ALL.get(index), sector) {
+        }
+        let mut all = Refusal::ALL.into_iter();
+        match (all.find(|refusal| refusal.number() == number), sector) {
             (Some(Refusal::NotKnown { .. }), _) => Err(Refusal::NotKnown { sector }),
-            (Some(refusal), 0) => Err(*refusal),
+            (Some(refusal), 0) => Err(refusal),
             (Some(_), _) => panic!("the library says {number}, which has no sector, at {sector}"),
             (None, _) => panic!("the library says {number}, which is no refusal's number"),
         }
@@ -159,12 +168,13 @@ mod tests {
     #[test]
     fn numbers_and_back() {
         assert_eq!(Refusal::of(0), Ok(()));
-        for (number, refusal) in (1..).zip(Refusal::ALL) {
+        let numbers = (1..=23).chain([25, 26]);
+        for (number, refusal) in numbers.zip(Refusal::ALL) {
             assert_eq!(refusal.number(), number);
             assert_eq!(Refusal::with_sector(number, 0), Err(refusal));
         }
-        let named = [Refusal::NotHeld, Refusal::Clash, Refusal::Allowance];
-        assert_eq!(named.map(Refusal::number), [11, 15, 23]);
+        let named = [Refusal::NotHeld, Refusal::Allowance, Refusal::Query];
+        assert_eq!(named.map(Refusal::number), [11, 23, 26]);
         assert_eq!(Refusal::Clash.to_string(), "refused with 15");
     }
 
@@ -177,6 +187,12 @@ mod tests {
         let words = "refused with 12, the first doubtful sector is 1048575";
         assert_eq!(refusal.to_string(), words);
         assert_eq!(Refusal::NotHeld.first_doubtful(), None);
+    }
+
+    #[test]
+    #[should_panic = "no refusal's number"]
+    fn a_number_that_no_refusal_has() {
+        let _ = Refusal::of(24);
     }
 
     #[test]

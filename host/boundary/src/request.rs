@@ -23,8 +23,15 @@ const BEFORE_TEXT: usize = 6;
 const DOUBT_AT: &[u8] = b"why=12 at=";
 
 /// Answers one request. The reply stands at the front of `reply`, its length in the first two bytes;
-/// an appended block in `log`.
-pub fn serve(session: Session, message: &[u8], log: &mut [u8], reply: &mut [u8]) -> Served {
+/// an appended block in `waiting`, until a sync moves what is there into `log`. A waiting part begins
+/// all zeros, and each request is lent the one that the last request left.
+pub fn serve(
+    session: Session,
+    message: &[u8],
+    log: &mut [u8],
+    waiting: &mut [u8],
+    reply: &mut [u8],
+) -> Served {
     let number = match session {
         Session::Fresh => 0,
         Session::Greeted => 1,
@@ -39,6 +46,8 @@ pub fn serve(session: Session, message: &[u8], log: &mut [u8], reply: &mut [u8])
             message.len(),
             log.as_mut_ptr(),
             log.len(),
+            waiting.as_mut_ptr(),
+            waiting.len(),
             reply.as_mut_ptr(),
             reply.len(),
         )

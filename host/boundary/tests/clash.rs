@@ -32,13 +32,20 @@ fn a_block_of_the_same_score_with_other_bytes_is_refused() {
     assert_ne!(first, second);
 
     let mut log = vec![0; 512 * 4];
+    let mut waiting = vec![0; 512 * 4];
     let mut reply = vec![0; 57_348];
     let mut write = |kind: u8, data: &[u8]| {
         let size = (data.len() + 6) as u16;
         let message = [&size.to_be_bytes()[..], &[14, 7, kind, 0, 0, 0], data].concat();
-        let served = serve(Session::Greeted, &message, &mut log, &mut reply);
+        let served = serve(
+            Session::Greeted,
+            &message,
+            &mut log,
+            &mut waiting,
+            &mut reply,
+        );
         assert_eq!(served.session, Session::Greeted);
-        (served.outcome, log.clone())
+        (served.outcome, [&log[..], &waiting].concat())
     };
     let (outcome, stored) = write(13, &first);
     assert_eq!(outcome, Ok(()));

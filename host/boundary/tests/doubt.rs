@@ -1,7 +1,7 @@
 //! Where the doubt is: refusal 12 with the log's first doubtful sector, in a reply's text, in reading
-//! a file and in a walk.
+//! a file and in a walk; the same where the doubt is among the waiting sectors.
 
-use boundary::{locate, serve, sha1, walk, Refusal, Session, Walked};
+use boundary::{fill, locate, serve, sha1, walk, Filled, Refusal, Run, Session, Walked};
 
 const SECTOR: usize = 512;
 
@@ -10,19 +10,32 @@ fn message(kind: u8, body: &[u8]) -> Vec<u8> {
     [&size.to_be_bytes()[..], &[kind, 9], body].concat()
 }
 
-/// Serves one message of tag 9; gives the outcome and the reply.
+/// Serves one message of tag 9 with nothing waiting; gives the outcome and the reply.
 fn ask(log: &mut [u8], message: &[u8]) -> (Result<(), Refusal>, Vec<u8>) {
+    ask_both(log, &mut [], message)
+}
+
+fn ask_both(log: &mut [u8], waiting: &mut [u8], message: &[u8]) -> (Result<(), Refusal>, Vec<u8>) {
     let mut reply = vec![0xee; 57_348];
-    let served = serve(Session::Greeted, message, log, &mut reply);
+    let served = serve(Session::Greeted, message, log, waiting, &mut reply);
     let size = 2 + usize::from(reply[0]) * 256 + usize::from(reply[1]);
     assert!(reply[size..].iter().all(|byte| *byte == 0xee));
     reply.truncate(size);
     (served.outcome, reply)
 }
 
+/// Stores a block and settles it.
 fn write(log: &mut [u8], kind: u8, data: &[u8]) -> [u8; 20] {
-    let stored = ask(log, &message(14, &[&[kind, 0, 0, 0], data].concat()));
-    assert_eq!(stored.0, Ok(()));
+    let mut waiting = vec![0; 143 * SECTOR];
+    let score = write_waiting(log, &mut waiting, kind, data);
+    let synced = ask_both(log, &mut waiting, &message(16, b""));
+    assert_eq!(synced, (Ok(()), vec![0, 2, 17, 9]));
+    score
+}
+
+fn write_waiting(log: &mut [u8], waiting: &mut [u8], kind: u8, data: &[u8]) -> [u8; 20] {
+    let write = message(14, &[&[kind, 0, 0, 0], data].concat());
+    assert_eq!(ask_both(log, waiting, &write).0, Ok(()));
     sha1(data)
 }
 
@@ -86,7 +99,7 @@ fn everywhere_the_same() {
         };
         let refusal = Err(Refusal::NotKnown { sector });
         assert_eq!(ask(&mut log, &read(13, &lost)).0, refusal);
-        assert_eq!(locate(&log, &[0], &files[1], 3).map(|_| ()), refusal);
+        assert_eq!(locate(&log, &[], &[0], &files[1], 3).map(|_| ()), refusal);
         let visits = match doubtful {
             0 | 1 => 3,
             2 => 2,
@@ -94,7 +107,7 @@ fn everywhere_the_same() {
             _ => 4,
         };
         let outcome = refusal;
-        assert_eq!(walk(&log, &top, 1_000_000), Walked { outcome, visits });
+        assert_eq!(walk(&log, &[], &top, 1_000_000), Walked { outcome, visits });
     }
     assert_eq!(ask(&mut log.clone(), &read(13, &leaf)).0, Ok(()));
     assert_eq!(
@@ -102,7 +115,7 @@ fn everywhere_the_same() {
         Err(Refusal::NotHeld)
     );
     let outcome = Err(Refusal::NotHeld);
-    assert_eq!(walk(&whole, &top, 9), Walked { outcome, visits: 4 });
+    assert_eq!(walk(&whole, &[], &top, 9), Walked { outcome, visits: 4 });
 }
 
 /// The longest blocks one after the other, and damage behind them: a sector of five digits.
@@ -124,7 +137,66 @@ fn past_many_sectors() {
     assert_eq!(outcome, refusal);
     assert!(reply.ends_with(b"why=12 at=00012307"));
     let file = entry(&never);
-    assert_eq!(locate(&log, &[0], &file, 0).map(|_| ()), refusal);
+    assert_eq!(locate(&log, &[], &[0], &file, 0).map(|_| ()), refusal);
     let (outcome, visits) = (refusal, 1);
-    assert_eq!(walk(&log, &never, 1_000_000), Walked { outcome, visits });
+    assert_eq!(
+        walk(&log, &[], &never, 1_000_000),
+        Walked { outcome, visits }
+    );
+}
+
+/// A file whose leaf is settled and whose root waits; then damage in each sector of both parts.
+#[test]
+fn in_both_parts() {
+    let mut log = vec![0; 30 * SECTOR];
+    let mut waiting = vec![0; 6 * SECTOR];
+    let leaf = write(&mut log, 13, &[5; 800]);
+    let lost = sha1(b"lost");
+    let next = write_waiting(&mut log, &mut waiting, 13, &[6; 500]);
+    let files = [entry(&leaf), entry(&next), entry(&lost)];
+    let mut root = vec![0; 300];
+    root[1] = 2;
+    let directory = write_waiting(&mut log, &mut waiting, 2, &files.concat());
+    root[258..278].copy_from_slice(&directory);
+    let top = write_waiting(&mut log, &mut waiting, 1, &root);
+    let run = |log: &[u8], waiting: &[u8], file: usize, offset| {
+        locate(log, waiting, &[0; 9], &files[file], offset)
+    };
+    let settled = Run::Log {
+        at: 96 + 3,
+        length: 6,
+    };
+    assert_eq!(run(&log, &waiting, 0, 3), Ok(settled));
+    let waits = Run::Waiting {
+        at: 96 + 3,
+        length: 6,
+    };
+    assert_eq!(run(&log, &waiting, 1, 3), Ok(waits));
+    let mut filled = [9; 12];
+    let done = Filled {
+        count: 6,
+        outcome: Ok(()),
+    };
+    assert_eq!(fill(&log, &waiting, &files[1], 3, &mut filled), done);
+    assert_eq!(filled, [6, 6, 6, 6, 6, 6, 9, 9, 9, 9, 9, 9]);
+    let outcome = Err(Refusal::NotHeld);
+    let walked = Walked { outcome, visits: 5 };
+    assert_eq!(walk(&log, &waiting, &top, 9), walked);
+    // two sectors are settled, then wait two of the leaf, the directory, the root and two blank ones
+    for doubtful in 0..8 {
+        let (mut log, mut waiting) = (log.clone(), waiting.clone());
+        match doubtful {
+            0 | 1 => log[doubtful * SECTOR + 50] ^= 1,
+            _ => waiting[(doubtful - 2) * SECTOR + 50] ^= 1,
+        }
+        let sector = [0, 0, 2, 2, 4, 5, 6, 6][doubtful];
+        let refusal = Err(Refusal::NotKnown { sector });
+        let asked = ask_both(&mut log, &mut waiting, &read(13, &lost));
+        assert_eq!(asked.0, refusal, "{doubtful}");
+        assert_eq!(run(&log, &waiting, 2, 3).map(|_| ()), refusal);
+        let outcome = refusal;
+        let visits = [3, 3, 4, 4, 2, 1, 5, 5][doubtful];
+        let walked = Walked { outcome, visits };
+        assert_eq!(walk(&log, &waiting, &top, 9), walked, "{doubtful}");
+    }
 }

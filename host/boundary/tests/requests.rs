@@ -1,13 +1,14 @@
 //! The paper's examples about messages, and each refusal of a request, through the proved call.
 
 use boundary::Session::{self, Closed, Fresh, Greeted};
-use boundary::{crc32, serve, sha1, Refusal, MOST_SECTORS};
+use boundary::{crc32, serve, sha1, Refusal, MOST_SECTORS, MOST_WAITING};
 
 const REPLY: usize = 57_348;
 
-/// A log and a reply buffer, with the session that the last request left.
+/// A log, its waiting part and a reply buffer, with the session that the last request left.
 struct Archive {
     log: Vec<u8>,
+    waiting: Vec<u8>,
     reply: Vec<u8>,
     session: Session,
 }
@@ -16,6 +17,7 @@ impl Archive {
     fn new(sectors: usize) -> Archive {
         Archive {
             log: vec![0; 512 * sectors],
+            waiting: vec![0; 512 * 8],
             reply: vec![0xee; REPLY],
             session: Fresh,
         }
@@ -30,9 +32,22 @@ impl Archive {
     /// The number of the answer. The reply buffer is filled anew before.
     fn ask(&mut self, message: &[u8]) -> u8 {
         self.reply.fill(0xee);
-        let served = serve(self.session, message, &mut self.log, &mut self.reply);
+        let served = serve(
+            self.session,
+            message,
+            &mut self.log,
+            &mut self.waiting,
+            &mut self.reply,
+        );
         self.session = served.session;
         served.outcome.map_or_else(Refusal::number, |()| 0)
+    }
+
+    /// Moves what waits into the log.
+    fn sync(&mut self) {
+        assert_eq!(self.ask(&message(16, 6, b"")), 0);
+        assert_eq!(self.answer(), message(17, 6, b""));
+        assert!(self.waiting.iter().all(|b| *b == 0));
     }
 
     /// The reply, by its size; nothing past it was written.
@@ -131,6 +146,12 @@ fn refusals_without_a_reply() {
     a.log.truncate(512 * MOST_SECTORS);
     assert_eq!(a.ask(&[0, 2, 2, 7]), 4, "as many as there may be");
     a.log.truncate(512);
+    for waiting in [1, 511, 513, 512 * (MOST_WAITING + 1)] {
+        a.waiting = vec![0; waiting];
+        assert_eq!(a.ask(&[0, 2, 2, 7]), 3, "{waiting} bytes that wait");
+        assert!(a.untouched());
+    }
+    a.waiting = vec![0; 512 * MOST_WAITING];
     assert_eq!(a.ask(&[0, 2, 99, 7]), 4, "4 before 5");
     assert!(a.untouched() && a.session == Closed);
 }
@@ -189,7 +210,8 @@ fn refusals_by_order() {
             (&refused(tag, number)[..], Greeted)
         );
     }
-    assert!(a.log.iter().all(|b| *b == 0), "nothing was stored");
+    let mut both = a.log.iter().chain(&a.waiting);
+    assert!(both.all(|b| *b == 0), "nothing was stored");
     assert_eq!(a.ask(&message(16, 5, b"")), 0);
     assert_eq!(a.answer(), message(17, 5, b""));
     assert_eq!(a.ask(&message(6, 5, b"")), 0);
@@ -205,8 +227,10 @@ fn a_history_with_damage() {
     for b in blocks {
         assert_eq!(a.ask(&write(13, 1, b)), 0);
     }
+    a.sync();
     let before = a.log.clone();
     assert_eq!(a.ask(&write(13, 1, blocks[1])), 0, "a duplicate");
+    a.sync();
     assert_eq!(a.log, before, "adds nothing");
     assert_eq!(a.ask(&read(13, 1, [9; 20], 1)), 11, "not held");
     a.log[512 + 300] ^= 1; // within four neighbouring bytes of the first block's second sector
@@ -223,11 +247,10 @@ fn a_history_with_damage() {
         assert_eq!(a.answer(), message(13, 1, b));
     }
     assert_eq!(a.ask(&write(13, 1, blocks[0])), 0, "stored again");
-    assert_eq!(
-        &a.log[512 * 6..512 * 6 + 13],
-        b"rec=00000006\n",
-        "after the changed sectors"
-    );
+    let first = b"rec=00000006\n";
+    assert_eq!(&a.waiting[..13], first, "after the changed sectors");
+    a.sync();
+    assert_eq!(&a.log[512 * 6..512 * 6 + 13], first);
     assert_eq!(a.ask(&read(13, 1, sha1(blocks[0]), 999)), 0, "healed");
     assert_eq!(a.answer(), message(13, 1, blocks[0]));
     assert_eq!(
@@ -245,5 +268,61 @@ fn sector_bytes() {
     let label = b"rec=00000000\npart=0000\nof=0001\ntype=02\nsize=0003\nscore=a9993e364706816aba3e25717850c26c9cd0d89d\n";
     let body = [&label[..], b"abc", &[0; 400]].concat();
     let check = format!("crc={:08x}\n", crc32(&body));
-    assert_eq!(a.log, [&body[..], check.as_bytes()].concat());
+    let sector = [&body[..], check.as_bytes()].concat();
+    assert_eq!(a.waiting[..512], sector);
+    assert_eq!(a.log, [0; 512], "not before a sync");
+    a.sync();
+    assert_eq!(a.log, sector);
+}
+
+/// A block is found while it waits, and where it is moved to; nothing else moves it.
+#[test]
+fn what_waits_is_held() {
+    let mut a = Archive::greeted(12);
+    assert_eq!(a.ask(&write(13, 1, b"settled")), 0);
+    a.sync();
+    let settled = a.log.clone();
+    let waits = [5; 1000];
+    assert_eq!(a.ask(&write(13, 2, &waits)), 0);
+    assert_eq!(&a.waiting[..13], b"rec=00000001\n", "behind the log's");
+    let both = a.waiting.clone();
+    for m in [
+        write(13, 3, &waits),
+        write(13, 3, b"settled"),
+        message(2, 3, b""),
+    ] {
+        assert_eq!(a.ask(&m), 0);
+        assert!(a.log == settled && a.waiting == both);
+    }
+    assert_eq!(a.ask(&read(13, 4, sha1(&waits), 1000)), 0);
+    assert_eq!(a.answer(), message(13, 4, &waits));
+    a.sync();
+    assert_eq!(a.log[..512], settled[..512]);
+    assert_eq!(a.log[512..4 * 512], both[..3 * 512]);
+    assert_eq!(a.ask(&read(13, 4, sha1(&waits), 1000)), 0);
+    assert_eq!(a.answer(), message(13, 4, &waits));
+}
+
+/// 14 by either part: the waiting part is full, or the log has no room beyond what waits.
+#[test]
+fn no_room_in_either_part() {
+    let mut a = Archive::greeted(12);
+    for block in 0..8 {
+        assert_eq!(a.ask(&write(13, 1, &[block])), 0);
+    }
+    let full = (a.log.clone(), a.waiting.clone());
+    assert_eq!(a.ask(&write(13, 2, b"ninth")), 14);
+    assert_eq!(a.answer(), refused(2, 14));
+    assert_eq!((&a.log, &a.waiting), (&full.0, &full.1));
+    a.sync();
+    assert_eq!(a.ask(&write(13, 2, b"ninth")), 0);
+    assert_eq!(a.ask(&write(13, 2, &[9; 4 * 403])), 14, "three are left");
+    assert_eq!(a.ask(&write(13, 2, &[9; 3 * 403])), 0);
+    assert_eq!(a.ask(&write(13, 2, b"thirteenth")), 14);
+    a.sync();
+    assert_eq!(a.ask(&write(13, 2, b"thirteenth")), 14);
+    let mut none = Archive::greeted(12);
+    none.waiting.clear();
+    assert_eq!(none.ask(&write(13, 1, b"x")), 14, "nothing is lent to wait");
+    none.sync();
 }

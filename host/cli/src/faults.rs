@@ -1,5 +1,5 @@
-//! A disk that fails at any step of writing, syncing or renaming, and loses what was not synced:
-//! nothing that was acknowledged is lost.
+//! A disk for tests, that fails at any step of writing, syncing or renaming, and loses what was not
+//! synced: all of it, or some sectors, or parts of sectors.
 
 use std::cell::{Cell, RefCell};
 use std::fs::{self, File, Metadata};
@@ -53,7 +53,7 @@ enum Undo {
 thread_local! {
     static DISK: RefCell<Option<Disk>> = const { RefCell::new(None) };
     /// The sector of a log that cannot be read.
-    static UNREADABLE: Cell<Option<u64>> = const { Cell::new(None) };
+    pub static UNREADABLE: Cell<Option<u64>> = const { Cell::new(None) };
 }
 
 pub fn read(length: usize, at: u64) -> io::Result<()> {
@@ -188,13 +188,27 @@ pub fn sync_folder() -> Option<io::Result<()>> {
 
 /// What is lost of what was not synced, when the machine stops.
 #[derive(Clone, Copy, Debug, PartialEq, Eq)]
-enum Lost {
+pub enum Lost {
     Nothing,
     All,
     Bytes,
     Names,
     /// The second half of each write.
     Halves,
+    /// Any of the sectors of each write, whole or in part, and any of the names, by this number.
+    Torn(u64),
+}
+
+/// Numbers that look random.
+pub struct Random(pub u64);
+
+impl Random {
+    /// One below a limit.
+    pub fn below(&mut self, limit: usize) -> usize {
+        self.0 = self.0.wrapping_mul(6_364_136_223_846_793_005);
+        self.0 = self.0.wrapping_add(1_442_695_040_888_963_407);
+        (self.0 >> 33) as usize % limit
+    }
 }
 
 impl Undo {
@@ -215,7 +229,7 @@ impl Undo {
         }
     }
 
-    fn undo(self, lost: Lost) {
+    fn undo(self, lost: Lost, random: &mut Random) {
         match self {
             Undo::Bytes {
                 file,
@@ -223,369 +237,101 @@ impl Undo {
                 at,
                 before,
                 ..
-            } if matches!(lost, Lost::All | Lost::Bytes | Lost::Halves) => {
-                let kept = if lost == Lost::Halves {
-                    before.len() / 2
-                } else {
-                    0
+            } => {
+                let kept = match lost {
+                    Lost::Nothing | Lost::Names => return,
+                    Lost::All | Lost::Bytes => 0,
+                    Lost::Halves => before.len() / 2,
+                    Lost::Torn(_) => return tear(&file, at, &before, random),
                 };
-                file.write_all_at(&before[kept..], at + kept as u64)
-                    .unwrap();
+                let written = file.write_all_at(&before[kept..], at + kept as u64);
+                written.unwrap();
                 if kept == 0 {
                     file.set_len(length).unwrap();
                 }
             }
-            Undo::Name { path, before } if matches!(lost, Lost::All | Lost::Names) => {
+            Undo::Name { path, before } => {
+                let kept = match lost {
+                    Lost::All | Lost::Names => false,
+                    Lost::Torn(_) => random.below(2) == 0,
+                    _ => true,
+                };
                 match before {
+                    _ if kept => {}
                     Some(bytes) => fs::write(path, bytes).unwrap(),
                     None => fs::remove_file(path).unwrap(),
                 }
             }
-            _ => {}
         }
     }
 }
 
-#[cfg(test)]
-mod tests {
-    use super::*;
-    use crate::command;
-    use crate::mark::{self, Found, Mark};
-    use crate::reader::{self, Reader};
-    use crate::session::{Answers, Client};
-    use crate::status::Failure;
-    use crate::streams::Streams;
-    use crate::unique;
-    use crate::writer::Writer;
-    use boundary::{sha1, Refusal};
-    use std::ffi::OsString;
-    use std::thread;
-
-    const LOSSES: [Lost; 5] = [
-        Lost::Nothing,
-        Lost::All,
-        Lost::Bytes,
-        Lost::Names,
-        Lost::Halves,
-    ];
-
-    /// Does the work on a disk that fails at this step; then the machine stops. Whether it failed.
-    fn on_failing_disk(fails: usize, how: How, lost: Lost, work: impl FnOnce()) -> bool {
-        DISK.set(Some(Disk {
-            fails,
-            how,
-            steps: 0,
-            failed: false,
-            unsynced: Vec::new(),
-        }));
-        work();
-        let disk = DISK.take().unwrap();
-        for undo in disk.unsynced.into_iter().rev() {
-            undo.undo(lost);
-        }
-        disk.failed
+/// Has each sector of a write arrive whole, not at all, or its front or its rear alone; most of them
+/// in one of these ways.
+fn tear(file: &File, at: u64, before: &[u8], random: &mut Random) {
+    let usual = random.below(5);
+    for (number, sector) in before.chunks(SECTOR).enumerate() {
+        let cut = random.below(sector.len());
+        let way = match random.below(3) {
+            0 => random.below(4),
+            _ => usual,
+        };
+        let lost = match way {
+            1 => 0..sector.len(),
+            2 => cut..sector.len(),
+            3 => 0..cut,
+            _ => 0..0,
+        };
+        let start = at + (number * SECTOR + lost.start) as u64;
+        file.write_all_at(&sector[lost], start).unwrap();
     }
+}
 
-    /// Does the work on one that never fails, nor loses anything; it takes no time to sync either.
-    fn on_good_disk<R>(work: impl FnOnce() -> R) -> R {
-        let mut result = None;
-        on_failing_disk(usize::MAX, How::Before, Lost::Nothing, || {
-            result = Some(work())
-        });
-        result.unwrap()
+/// All but the torn ones.
+pub const LOSSES: [Lost; 5] = [
+    Lost::Nothing,
+    Lost::All,
+    Lost::Bytes,
+    Lost::Names,
+    Lost::Halves,
+];
+
+/// Does the work on a disk that fails at this step; then the machine stops. Whether it failed.
+pub fn on_failing_disk(fails: usize, how: How, lost: Lost, work: impl FnOnce()) -> bool {
+    DISK.set(Some(Disk {
+        fails,
+        how,
+        steps: 0,
+        failed: false,
+        unsynced: Vec::new(),
+    }));
+    work();
+    let disk = DISK.take().unwrap();
+    let mut random = match lost {
+        Lost::Torn(seed) => Random(seed),
+        _ => Random(0),
+    };
+    for undo in disk.unsynced.into_iter().rev() {
+        undo.undo(lost, &mut random);
     }
+    disk.failed
+}
 
-    /// For each way to fail and to lose, each step in turn fails, until there are no more of them.
-    fn every_fault(case: impl Fn(usize, How, Lost) -> bool) {
-        for how in [How::Before, How::Half, How::After, How::Forgets] {
-            for lost in LOSSES {
-                let steps = (0..).find(|step| !case(*step, how, lost)).unwrap();
-                assert!(steps >= 4, "{steps} steps");
-            }
-        }
-    }
+/// Does the work on one that never fails, nor loses anything; it takes no time to sync either.
+pub fn on_good_disk<R>(work: impl FnOnce() -> R) -> R {
+    let mut result = None;
+    on_failing_disk(usize::MAX, How::Before, Lost::Nothing, || {
+        result = Some(work())
+    });
+    result.unwrap()
+}
 
-    /// A folder of its own, removed at the end.
-    struct Folder(PathBuf);
-
-    impl Folder {
-        fn new() -> Folder {
-            let thread = format!("{:?}", thread::current().id());
-            let name = format!("skywimple-fault-{}-{thread}", unique::name());
-            // In memory where that is to be had: a disk takes its time to replace what isn't synced.
-            let memory = PathBuf::from("/dev/shm");
-            let base = if memory.is_dir() {
-                memory
-            } else {
-                std::env::temp_dir()
-            };
-            let path = base.join(name);
-            fs::create_dir(&path).unwrap();
-            Folder(path)
-        }
-
-        /// A folder with a log of 24 sectors that has one of the blocks.
-        fn with(at: usize) -> Folder {
-            let folder = Folder::new();
-            on_good_disk(|| {
-                assert_eq!(folder.run("init", &["--sectors", "24"]), 0);
-                quietly(|streams| {
-                    let mut writer = Writer::open(&folder.log(), false, streams).unwrap();
-                    let mut client = Client::greet_on_disk(&mut writer, streams).unwrap();
-                    let stored = client.store(&mut writer, 13, &blocks()[at], streams);
-                    assert!(stored.unwrap().is_ok());
-                });
-            });
-            folder
-        }
-
-        fn log(&self) -> PathBuf {
-            self.0.join("log")
-        }
-
-        /// The status of a command on the log.
-        fn run(&self, command: &str, more: &[&str]) -> u8 {
-            let mut words = vec![OsString::from(command), self.log().into_os_string()];
-            words.extend(more.iter().map(OsString::from));
-            quietly(|streams| command::run(&words, streams))
-        }
-
-        fn files(&self) -> usize {
-            fs::read_dir(&self.0).unwrap().count()
-        }
-    }
-
-    impl Drop for Folder {
-        fn drop(&mut self) {
-            let _ = fs::remove_dir_all(&self.0);
-        }
-    }
-
-    fn quietly<R>(act: impl FnOnce(&mut Streams) -> R) -> R {
-        act(&mut Streams {
-            input: &mut io::empty(),
-            out: &mut io::sink(),
-            err: &mut io::sink(),
-            out_terminal: false,
-            err_terminal: false,
-            progress: false,
-        })
-    }
-
-    fn block(seed: u8, length: usize) -> Vec<u8> {
-        vec![seed; length]
-    }
-
-    /// The first is stored before anything fails, is damaged later and stored once more.
-    fn blocks() -> [Vec<u8>; 4] {
-        [block(1, 500), block(2, 1000), block(3, 10), block(4, 404)]
-    }
-
-    /// Stores the blocks, in order 1, 2, 0, 3, until a step fails. Which were acknowledged.
-    fn store(log: &Path) -> Result<Vec<usize>, (Vec<usize>, Failure)> {
-        let mut acknowledged = vec![0];
-        let stored = quietly(|streams| {
-            let mut writer = Writer::open(log, false, streams)?;
-            let mut client = Client::greet_on_disk(&mut writer, streams)?;
-            for at in [1, 2, 0, 3] {
-                if at == 0 {
-                    damage_first(log);
-                    acknowledged.retain(|at| *at != 0);
-                }
-                let stored = client.store(&mut writer, 13, &blocks()[at], streams)?;
-                assert_eq!(stored, Ok(sha1(&blocks()[at])));
-                acknowledged.push(at);
-            }
-            Ok(())
-        });
-        match stored {
-            Ok(()) => Ok(acknowledged),
-            Err(failure) => Err((acknowledged, failure)),
-        }
-    }
-
-    /// Damage in the first block's second sector, on disk.
-    fn damage_first(log: &Path) {
-        let file = File::options().write(true).open(log).unwrap();
-        file.write_all_at(b"damage", SECTOR as u64 + 200).unwrap();
-    }
-
-    /// What is acknowledged is read; any other block is whole, not held or not known.
-    fn check(log: &Path, acknowledged: &[usize]) {
-        let mut bytes = quietly(|streams| reader::read(log, false, streams)).unwrap();
-        let mut client = Client::greet(&mut bytes).unwrap();
-        for (at, block) in blocks().iter().enumerate() {
-            let read = client.read(&mut bytes, 13, &sha1(block), u16::MAX);
-            match read {
-                Ok(found) => assert_eq!(found, block),
-                Err(refusal) => {
-                    assert!(!acknowledged.contains(&at), "block {at} is lost: {refusal}");
-                    assert!(matches!(
-                        refusal,
-                        Refusal::NotHeld | Refusal::NotKnown { .. }
-                    ));
-                }
-            }
-        }
-    }
-
-    #[test]
-    fn nothing_acknowledged_is_lost() {
-        every_fault(|step, how, lost| {
-            let folder = Folder::with(0);
-            let log = folder.log();
-            let mut acknowledged = Vec::new();
-            let failed = on_failing_disk(step, how, lost, || {
-                let stored = store(&log);
-                acknowledged = match stored {
-                    Ok(all) => all,
-                    Err((some, failure)) => {
-                        assert_eq!(failure.status, 74, "{}", failure.words);
-                        assert!(failure.words.contains("the disk failed"));
-                        some
-                    }
-                };
-            });
-            assert_eq!(failed, acknowledged.len() < 4, "a failed step ends it");
-            on_good_disk(|| {
-                check(&log, &acknowledged);
-                // And the log goes on, with nothing left over.
-                store(&log).map_err(|(_, failure)| failure.words).unwrap();
-                check(&log, &[0, 1, 2, 3]);
-            });
-            assert_eq!(folder.files(), 2);
-            failed
-        });
-    }
-
-    /// The next writer after one whose disk failed, before the machine stops: it finds in the file
-    /// what the disk may not have, and acknowledges nothing that can be lost.
-    #[test]
-    fn the_writer_after_a_failure() {
-        every_fault(|step, how, lost| {
-            let folder = Folder::with(0);
-            let log = folder.log();
-            let failed = on_failing_disk(step, how, lost, || {
-                let _ = store(&log);
-                store(&log).map_err(|(_, failure)| failure.words).unwrap();
-            });
-            on_good_disk(|| check(&log, &[1, 2, 3]));
-            failed
-        });
-    }
-
-    /// The mark of a log.
-    fn marked(log: &Path) -> usize {
-        match Mark::find(&mark::path_of(log)) {
-            Ok(Found::Good(mark)) => mark.used,
-            _ => panic!("no mark"),
-        }
-    }
-
-    /// Stores a block in a log that is open.
-    fn store_one(log: &mut dyn Answers, block: &[u8]) -> Result<(), Refusal> {
-        quietly(|streams| {
-            let mut client = Client::greet_on_disk(log, streams).unwrap();
-            let stored = client.store(log, 13, block, streams).unwrap();
-            stored.map(|score| assert_eq!(score, sha1(block)))
-        })
-    }
-
-    /// A block that a crash left behind the mark, in a log with a sector that cannot be read: it is
-    /// acknowledged once it is synced and marked.
-    #[test]
-    fn found_behind_the_mark_beside_an_unreadable_sector() {
+/// For each way to fail and to lose, each step in turn fails, until there are no more of them.
+pub fn every_fault(case: impl Fn(usize, How, Lost) -> bool) {
+    for how in [How::Before, How::Half, How::After, How::Forgets] {
         for lost in LOSSES {
-            let folder = Folder::with(0);
-            let log = folder.log();
-            on_failing_disk(usize::MAX, How::Before, lost, || {
-                let left = {
-                    let mut bytes = fs::read(&log).unwrap();
-                    let mut client = Client::greet(&mut bytes).unwrap();
-                    client.write(&mut bytes, 13, &blocks()[1]).unwrap();
-                    bytes[2 * SECTOR..5 * SECTOR].to_vec()
-                };
-                let file = File::options().read(true).write(true).open(&log).unwrap();
-                write(&file, &left, 2 * SECTOR as u64).unwrap().unwrap();
-                UNREADABLE.set(Some(0));
-                let mut writer = quietly(|streams| Writer::open(&log, false, streams)).unwrap();
-                assert_eq!(marked(&log), 2);
-                assert_eq!(store_one(&mut writer, &blocks()[1]), Ok(()));
-                assert_eq!(marked(&log), 5);
-                UNREADABLE.set(None);
-            });
-            on_good_disk(|| check(&log, &[0, 1]));
+            let steps = (0..).find(|step| !case(*step, how, lost)).unwrap();
+            assert!(steps >= 4, "{steps} steps");
         }
-    }
-
-    /// A sector that cannot be read for a while, in a log without room: nothing is acknowledged
-    /// meanwhile, and nothing is forgotten.
-    #[test]
-    fn an_unreadable_sector_that_passes() {
-        let folder = Folder::with(0);
-        on_good_disk(|| {
-            let log = folder.log();
-            let mut bytes = fs::read(&log).unwrap();
-            bytes.truncate(2 * SECTOR);
-            fs::write(&log, bytes).unwrap();
-            let full = Mark {
-                sectors: 2,
-                used: 2,
-            };
-            fs::write(mark::path_of(&log), full.text()).unwrap();
-            let reader = quietly(|streams| Reader::open(&log, streams)).unwrap();
-            let writer = quietly(|streams| Writer::open(&log, false, streams)).unwrap();
-            let logs: [Box<dyn Answers>; 2] = [Box::new(reader), Box::new(writer)];
-            for mut log in logs {
-                UNREADABLE.set(Some(1));
-                let stored = store_one(&mut *log, &blocks()[0]);
-                UNREADABLE.set(None);
-                assert_eq!(stored, Err(Refusal::NoRoom));
-                assert_eq!(store_one(&mut *log, &blocks()[0]), Ok(()));
-            }
-        });
-    }
-
-    /// Where `init` fails it leaves nothing; where the machine stops then, at most a log that is not
-    /// served.
-    #[test]
-    fn a_log_is_made_or_not() {
-        every_fault(|step, how, lost| {
-            let folder = Folder::new();
-            let mut status = 0;
-            let failed = on_failing_disk(step, how, Lost::Nothing, || {
-                status = folder.run("init", &["--sectors", "8"]);
-            });
-            assert_eq!(status, if failed { 74 } else { 0 });
-            assert_eq!(folder.files(), if failed { 0 } else { 2 });
-
-            let folder = Folder::new();
-            on_failing_disk(usize::MAX, how, lost, || {
-                assert_eq!(folder.run("init", &["--sectors", "8"]), 0);
-            });
-            let bytes = quietly(|streams| reader::read(&folder.log(), false, streams));
-            assert_eq!(bytes.unwrap(), [0; 8 * SECTOR], "{lost:?}");
-            failed
-        });
-    }
-
-    /// A lost tail stays lost or becomes "not known", and never "not held".
-    #[test]
-    fn doubt_that_fails() {
-        every_fault(|step, how, lost| {
-            let folder = Folder::with(1);
-            fs::write(folder.log(), b"").unwrap();
-            let mut status = 0;
-            let failed = on_failing_disk(step, how, lost, || status = folder.run("doubt", &[]));
-            assert_eq!(status, if failed { 74 } else { 0 });
-            let score = crate::hex::encode(&sha1(&blocks()[1]));
-            on_good_disk(|| {
-                let get = folder.run("get", &[&score]);
-                assert!(get == 12 || failed && get == 65, "{get}");
-                assert_eq!(folder.run("doubt", &[]), 0);
-                assert_eq!(folder.run("get", &[&score]), 12);
-            });
-            failed
-        });
     }
 }

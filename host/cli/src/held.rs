@@ -1,4 +1,4 @@
-//! Whether a block that a write found held in memory is so on disk.
+//! Whether a block that a write found held in the log in memory is so on disk.
 
 use std::fs::File;
 use std::ops::Range;
@@ -9,37 +9,49 @@ use crate::format::{BLANK, SECTOR};
 use crate::sectors;
 use crate::session;
 
-/// The block that an accepted write found in memory.
-pub enum Found {
-    /// On disk too, in these sectors.
-    Sound(Range<usize>),
-    /// Others on disk by now.
-    Damaged(Damaged),
-}
-
-/// Sectors that are others on disk. What is there was taken into memory: damage that fell between
-/// two requests.
+/// Sectors of a block that was found in memory and is another on disk: damage that fell between two
+/// requests.
 pub struct Damaged {
     sectors: Range<usize>,
-    /// What was in memory, where the disk could not be read: that may pass.
+    /// What is there by now.
+    on_disk: Vec<u8>,
+    /// Whether any of it could not be read: that may pass.
+    unreadable: bool,
+}
+
+/// Sectors that were damaged, where the damage was taken into memory.
+pub struct Taken {
+    sectors: Range<usize>,
+    /// What was in memory, where the disk could not be read.
     before: Option<Vec<u8>>,
 }
 
-/// Looks on disk for the block that an accepted write found; none where it found none in a sector.
-pub fn look(log: &mut [u8], file: &File, message: &[u8], reply: &[u8]) -> Option<Found> {
+/// The block that an accepted write found in a log, where it is another on disk. None where it is so
+/// on disk too, and where the block is in no sector of the log: it is empty, or waits.
+pub fn damaged(log: &[u8], file: &File, message: &[u8], reply: &[u8]) -> Option<Damaged> {
     let (kind, score) = session::stored(message, reply)?;
     let sectors = blocks::find(log, kind, &score)?;
-    let held = &mut log[sectors.start * SECTOR..sectors.end * SECTOR];
     let (on_disk, unreadable) = on_disk(file, &sectors);
-    if on_disk == held {
-        return Some(Found::Sound(sectors));
-    }
-    let before = unreadable.then(|| held.to_vec());
-    held.copy_from_slice(&on_disk);
-    Some(Found::Damaged(Damaged { sectors, before }))
+    let differs = on_disk != log[sectors.start * SECTOR..sectors.end * SECTOR];
+    differs.then_some(Damaged {
+        sectors,
+        on_disk,
+        unreadable,
+    })
 }
 
 impl Damaged {
+    /// Takes the damage into memory.
+    pub fn take(self, log: &mut [u8]) -> Taken {
+        let sectors = self.sectors;
+        let held = &mut log[sectors.start * SECTOR..sectors.end * SECTOR];
+        let before = self.unreadable.then(|| held.to_vec());
+        held.copy_from_slice(&self.on_disk);
+        Taken { sectors, before }
+    }
+}
+
+impl Taken {
     /// Has in memory again what could not be read: the block was not stored anew, and a later look
     /// may find it.
     pub fn put_back(self, log: &mut [u8]) {
@@ -49,8 +61,8 @@ impl Damaged {
     }
 }
 
-/// These sectors as they are on disk, and whether any could not be read. Where they are blank, cut off or unreadable, and were not so
-/// before, they fit no check in memory: never blank, since the used part does not end before its mark.
+/// These sectors as they are on disk, and whether any could not be read. Where they are blank, cut off
+/// or unreadable they fit no check: never blank, since the used part does not end before its mark.
 fn on_disk(file: &File, sectors: &Range<usize>) -> (Vec<u8>, bool) {
     let length = sectors.len() * SECTOR;
     let loaded = sectors::load_from(file, (sectors.start * SECTOR) as u64, length);
@@ -61,7 +73,7 @@ fn on_disk(file: &File, sectors: &Range<usize>) -> (Vec<u8>, bool) {
             sector.copy_from_slice(&sectors::unsound(b"lost"));
         }
     }
-    (bytes, loaded.unreadable > 0)
+    (bytes, !loaded.unreadable.is_empty())
 }
 
 /// What is told of it.

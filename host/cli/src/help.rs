@@ -10,7 +10,8 @@ cannot tell what is lost.
 
 pub const PUT: &str = "\
 Stores one block from each FILE, or one from standard input (also `-`), and prints its score; with
-several files the file's name too. A score is printed once the block is on disk. A block that is
+several files the file's name too. A score is printed once the block is on disk; several files are
+synced together, as many as have room in 256 sectors, and their scores printed then. A block that is
 held already is not stored twice; one that is damaged is stored again, which heals it.
 A file that is refused or cannot be read is told on standard error, the others are stored all the
 same; the status is that of the first failure.
@@ -32,14 +33,22 @@ its byte in the file: restore the doubtful sectors from a copy (see list), or st
 pub const SERVE: &str = "\
 Reads framed messages (size[2] type[1] tag[1] body) from standard input and writes the replies to
 standard output, until a goodbye or the end of input, so that any transport can carry it: a pipe,
-ssh, an inetd. A write is answered when its block is on disk: also one that is held already is
-compared with what the system gives for the file, and stored anew where it was damaged meanwhile.
+ssh, an inetd. A write is answered at once, while its block waits in memory; a sync is answered when
+all that was written before it is on disk, with the mark. What waits is put on disk besides when the
+next block has no room among the 256 sectors that may wait, at a goodbye, at the end of input, and at
+the signals HUP, INT and TERM, which end the input (status 128 + n; the same signal once more ends the
+program at once). Where the machine stops, the disk fails, the log is moved, replaced or changed by
+others, or the program is ended at once (also by kill -9), a block that was answered and not synced
+may be not held, or not known if a part of it arrived: store again what no sync was answered for.
+Nothing that a sync answered for is lost by a stop.
+A block that is held in the log already is compared with what the system gives for the file before a
+write of it is answered, and stored anew where it was damaged meanwhile.
 Input that ends inside a message is status 1. One writer at a time: while another holds the log, the
 status is 75. A client that is silent holds it for as long as it is connected: let the transport end
 what is idle (`socat -T 300`). Where standard error is the socket that the replies go to, nothing is
 told there.
   --read-only     many at once, and beside a writer, whose blocks are found as soon as it has answered
-                  for them. Nothing is ever written: a block that is not held, or not marked yet, is
+                  a sync. Nothing is ever written: a block that is not held, or not marked yet, is
                   refused with 14 (no room)
   --wait SECONDS  how long another writer may still hold the log before it is status 75 (default 0)
   --handshake     begin with the opening lines of the protocol: send `venti-02-skywimple` and wait for

@@ -15,6 +15,7 @@ use crate::mark::{self, Mark};
 use crate::status::{Failure, DONE, EXISTS};
 use crate::streams::Streams;
 
+const INTERRUPTED: &str = "interrupted; nothing is left half made";
 /// Sectors that are written at once.
 const PIECE: usize = 2048;
 
@@ -48,7 +49,7 @@ pub fn run(arguments: &Arguments, _: &mut Streams) -> Result<u8, Failure> {
     let made = lock::take(&file, path)
         .and_then(|()| blank(&file, path, sectors, &held))
         .and_then(|()| mark.write(&mark_path, &file))
-        .and_then(|()| held.check());
+        .and_then(|()| held.check(INTERRUPTED));
     if made.is_err() {
         // Both are this call's own files.
         let _ = fs::remove_file(&mark_path);
@@ -62,12 +63,12 @@ fn blank(file: &File, path: &Path, sectors: usize, held: &Held) -> Result<(), Fa
     let failed = |e| Failure::disk("write", path, &e);
     let zeros = vec![0; SECTOR * PIECE];
     for start in (0..sectors).step_by(PIECE) {
-        held.check()?;
+        held.check(INTERRUPTED)?;
         let piece = &zeros[..PIECE.min(sectors - start) * SECTOR];
         let written = disk::write(file, piece, (start * SECTOR) as u64);
         written.map_err(failed)?;
     }
-    held.check()?;
+    held.check(INTERRUPTED)?;
     disk::sync(file).map_err(failed)?;
     mark::sync_folder(path).map_err(failed)
 }

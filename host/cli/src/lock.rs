@@ -74,9 +74,8 @@ pub fn is_at(file: &File, path: &Path) -> bool {
 
 pub fn replaced(path: &Path) -> Failure {
     let words = format!(
-        "{} was replaced while this program was writing it, or moved away; the last request is \
-         not acknowledged. Put the log and its mark back, and store again what got no answer. \
-         Move or replace a log only while no writer runs.",
+        "{} was replaced while this program was writing it, or moved away. Put the log and its mark \
+         back, and move or replace a log only while no writer runs.",
         path.display()
     );
     Failure::new(INPUT_OUTPUT, words)

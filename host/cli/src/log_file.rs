@@ -69,12 +69,12 @@ pub fn load(
         });
     });
     streams.clear_progress();
-    if loaded.unreadable > 0 {
+    if !loaded.unreadable.is_empty() {
         streams.tell(&format!(
             "sectors of {} that cannot be read: {}. They count as damaged; what was in them is \
              \"not known\".",
             path.display(),
-            loaded.unreadable
+            loaded.unreadable.len()
         ));
     }
     Ok(loaded)

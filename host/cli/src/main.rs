@@ -10,6 +10,8 @@ mod doubt;
 mod entry;
 mod escape;
 #[cfg(test)]
+mod failing;
+#[cfg(test)]
 mod faults;
 mod format;
 mod get;
@@ -38,6 +40,8 @@ mod status;
 mod streams;
 mod svg;
 mod terminal;
+#[cfg(test)]
+mod torn;
 mod trail;
 mod unique;
 mod walk;

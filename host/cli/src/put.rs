@@ -11,11 +11,14 @@ use crate::arguments::Arguments;
 use crate::escape;
 use crate::format::{sectors_of, Score, MOST_DATA};
 use crate::hex;
-use crate::session::Client;
+use crate::session::{Answers, Client};
 use crate::status::{Failure, DONE};
 use crate::streams::Streams;
 use crate::words;
 use crate::writer::Writer;
+
+/// What is told where the log fails.
+const UNSETTLED: &str = "Store again what no score was printed for: it may not be on disk.";
 
 pub fn run(arguments: &Arguments, streams: &mut Streams) -> Result<u8, Failure> {
     let kind = arguments.kind()?;
@@ -33,18 +36,21 @@ pub fn run(arguments: &Arguments, streams: &mut Streams) -> Result<u8, Failure> 
     let mut client = Client::greet_on_disk(&mut log, streams)?;
 
     let mut status = DONE;
+    // The scores of blocks that wait: they are told when the blocks are on disk.
+    let mut lines = Vec::new();
     for file in files {
         let block = early.take();
         let block = block.unwrap_or_else(|| read_block(file, streams.input));
         let stored = match block {
             Ok(block) => {
-                let stored = client.store(&mut log, kind, &block, streams)?;
+                let stored = client.store(&mut log, kind, &block, streams);
+                let stored = stored.map_err(|failure| failure.and(UNSETTLED))?;
                 stored.map_err(|refusal| refused(refusal, file, &block, &log))
             }
             Err(failure) => Err(failure),
         };
         match stored {
-            Ok(score) => streams.answer(&line(&score, file, files.len() > 1))?,
+            Ok(score) => lines.extend(line(&score, file, files.len() > 1)),
             Err(failure) => {
                 streams.tell(&failure.words);
                 if status == DONE {
@@ -52,8 +58,25 @@ pub fn run(arguments: &Arguments, streams: &mut Streams) -> Result<u8, Failure> 
                 }
             }
         }
+        if !log.takes_any() {
+            tell_stored(&mut log, &mut lines, streams)?;
+        }
     }
+    tell_stored(&mut log, &mut lines, streams)?;
     Ok(status)
+}
+
+/// Has what waits on disk, then prints its scores.
+fn tell_stored(
+    log: &mut Writer,
+    lines: &mut Vec<u8>,
+    streams: &mut Streams,
+) -> Result<(), Failure> {
+    let settled = log.settle();
+    settled.map_err(|failure| failure.and(UNSETTLED))?;
+    streams.answer(lines)?;
+    lines.clear();
+    Ok(())
 }
 
 fn refused(refusal: Refusal, file: &OsStr, block: &[u8], log: &Writer) -> Failure {

@@ -75,7 +75,7 @@ fn copy(
     let mut buffer = vec![0; whole_leaves(entry)];
     let mut offset = 0;
     loop {
-        let filled = fill(log, entry, offset, &mut buffer);
+        let filled = fill(log, &[], entry, offset, &mut buffer);
         let bytes = &buffer[..filled.count];
         streams.out.write_all(bytes).map_err(Failure::output)?;
         offset += bytes.len() as u64;
@@ -145,7 +145,7 @@ mod tests {
     /// All runs of a file laid end to end, each looked up by itself.
     fn run_by_run(log: &[u8], page: &[u8], entry: &[u8]) -> Vec<u8> {
         let mut bytes = Vec::new();
-        while let Ok(run) = boundary::read(log, page, entry, bytes.len() as u64) {
+        while let Ok(run) = boundary::read(log, &[], page, entry, bytes.len() as u64) {
             bytes.extend(run);
         }
         bytes
@@ -162,7 +162,7 @@ mod tests {
             for size in [1, 402, 403, 404, 806, 807, 999, 1000] {
                 let entry = file(size, &score);
                 let mut bytes = vec![0xaa; 1200];
-                let filled = fill(&log, &entry, 0, &mut bytes);
+                let filled = fill(&log, &[], &entry, 0, &mut bytes);
                 assert_eq!(filled.outcome, Ok(()));
                 assert_eq!(filled.count as u64, size);
                 assert_eq!(bytes[filled.count..], [0xaa; 1200][filled.count..]);

@@ -6,7 +6,7 @@ use std::path::{Path, PathBuf};
 use boundary::Session;
 
 use crate::format::{used, SECTOR};
-use crate::held::{self, Found};
+use crate::held;
 use crate::lock;
 use crate::log_file::{fits, is_file, load};
 use crate::mark::Mark;
@@ -25,21 +25,22 @@ pub fn read(path: &Path, adopt: bool, streams: &mut Streams) -> Result<Vec<u8>, 
     // The mark first: then an append that goes on meanwhile never looks like a loss.
     let mark = Mark::require(path)?;
     let file = File::open(path).map_err(|e| Failure::open(path, &e))?;
-    let Loaded { bytes, unreadable } = load(&file, path, Some(mark), streams)?;
-    fits(path, mark, &bytes)?;
-    if unreadable == 0 && used(&bytes) > mark.used {
+    let loaded = load(&file, path, Some(mark), streams)?;
+    fits(path, mark, &loaded.bytes)?;
+    if loaded.seen() > mark.used {
         // A crash came before the mark: without it, a block that is read now could later be lost
         // unseen. Where this reader can't write, or a writer is at work, it goes on.
         if let Ok(log) = Writer::open(path, false, streams) {
             return Ok(log.bytes());
         }
     }
-    Ok(bytes)
+    Ok(loaded.bytes)
 }
 
-/// A log of which nothing is ever written, nor its mark. It is lent without room behind its used
-/// part, so the proved call itself refuses a new block, with 14. To a write it is lent up to its mark
-/// only: what a crash left behind that may not be on disk, and nobody here can have it there.
+/// A log of which nothing is ever written, nor its mark. It is lent with an empty waiting part, and
+/// without room behind its used part, so the proved call itself refuses a new block, with 14. To a
+/// write it is lent up to its mark only: what a crash left behind that may not be on disk, and nobody
+/// here can have it there.
 pub struct Reader {
     file: File,
     path: PathBuf,
@@ -87,7 +88,7 @@ impl Reader {
         let (start, end) = (self.mark.used * SECTOR, mark.used * SECTOR);
         let Loaded { bytes, unreadable } =
             sectors::load_from(&self.file, start as u64, end - start);
-        if bytes.len() < end - start || unreadable > 0 {
+        if bytes.len() < end - start || !unreadable.is_empty() {
             return false;
         }
         self.bytes.resize(self.bytes.len().max(end), 0);
@@ -113,12 +114,11 @@ impl Answers for Reader {
         let log = &mut self.bytes[..lent];
         let mut unsound = Vec::new();
         loop {
-            let served = boundary::serve(session, message, log, reply);
+            let served = boundary::serve(session, message, log, &mut [], reply);
             if served.outcome.is_ok() {
-                let found = held::look(log, &self.file, message, reply);
-                if let Some(Found::Damaged(damaged)) = found {
+                if let Some(damaged) = held::damaged(log, &self.file, message, reply) {
                     streams.tell(&held::words(&damaged, &self.path));
-                    unsound.push(damaged);
+                    unsound.push(damaged.take(log));
                     continue;
                 }
             }
@@ -129,6 +129,11 @@ impl Answers for Reader {
                 appended: 0,
             });
         }
+    }
+
+    /// What it acknowledges is on disk already.
+    fn settle(&mut self) -> Result<(), Failure> {
+        Ok(())
     }
 }
 

@@ -2,14 +2,42 @@
 
 use std::fs::File;
 use std::io::{self, ErrorKind};
+use std::ops::Range;
 
 use crate::disk;
-use crate::format::SECTOR;
+use crate::format::{used, BLANK, SECTOR};
 
 pub struct Loaded {
     pub bytes: Vec<u8>,
-    /// How many sectors could not be read. They are neither blank nor sound in `bytes`.
-    pub unreadable: usize,
+    /// The sectors that could not be read, in order. They are neither blank nor sound in `bytes`.
+    pub unreadable: Vec<usize>,
+}
+
+impl Loaded {
+    /// The end of the used part as far as it was seen: behind the last sector that could be read and
+    /// isn't blank.
+    pub fn seen(&self) -> usize {
+        let sector = |n: usize| &self.bytes[n * SECTOR..(n + 1) * SECTOR];
+        let read = |n: &usize| self.unreadable.binary_search(n).is_err();
+        let mut from_end = (0..used(&self.bytes)).rev();
+        let last = from_end.find(|n| read(n) && sector(*n) != BLANK);
+        last.map_or(0, |last| last + 1)
+    }
+
+    /// The runs of sectors that could be read, from a sector on up to that end.
+    pub fn readable(&self, start: usize) -> Vec<Range<usize>> {
+        let end = self.seen();
+        let mut runs = Vec::new();
+        let mut next = start;
+        let before = self.unreadable.iter().filter(|bad| **bad < end);
+        for &bad in before.chain([&end]) {
+            if (next + 1..=end).contains(&bad) {
+                runs.push(next..bad);
+            }
+            next = next.max(bad + 1);
+        }
+        runs
+    }
 }
 
 /// A sector that isn't blank and fits no check: its last 13 bytes are zeros.
@@ -30,13 +58,10 @@ pub fn load(
     mut tell: impl FnMut(u64),
 ) -> Loaded {
     let mut bytes = vec![0; length as usize];
-    let (mut end, mut unreadable) = (0, 0);
+    let (mut end, mut unreadable) = (0, Vec::new());
     for piece in bytes.chunks_mut(PIECE) {
-        let count = fill(&read_at, piece, end).unwrap_or_else(|_| {
-            let (count, bad) = by_sectors(&read_at, piece, end);
-            unreadable += bad;
-            count
-        });
+        let count = fill(&read_at, piece, end)
+            .unwrap_or_else(|_| by_sectors(&read_at, piece, end, &mut unreadable));
         end += count as u64;
         tell(end);
         if count < piece.len() {
@@ -57,17 +82,18 @@ pub fn load_from(file: &File, start: u64, length: usize) -> Loaded {
 }
 
 /// Reads sector by sector until the buffer is full or the file ends. Gives the count of bytes, and
-/// how many sectors could not be read.
+/// adds the sectors that could not be read.
 fn by_sectors(
     read_at: &impl Fn(&mut [u8], u64) -> io::Result<usize>,
     buffer: &mut [u8],
     start: u64,
-) -> (usize, usize) {
-    let (mut end, mut unreadable) = (0, 0);
+    unreadable: &mut Vec<usize>,
+) -> usize {
+    let mut end = 0;
     for sector in buffer.chunks_mut(SECTOR) {
         let count = fill(read_at, sector, start + end as u64).unwrap_or_else(|_| {
             sector.copy_from_slice(&unsound(b"unreadable")[..sector.len()]);
-            unreadable += 1;
+            unreadable.push(start as usize / SECTOR + end / SECTOR);
             sector.len()
         });
         end += count;
@@ -75,7 +101,7 @@ fn by_sectors(
             break;
         }
     }
-    (end, unreadable)
+    end
 }
 
 /// Reads until the buffer is full or the file ends, and gives the count of bytes.
@@ -141,8 +167,38 @@ mod tests {
             assert_eq!(loaded.bytes[sound..], file[sound..end]);
         }
         let loaded = load_with(&file, 1500, &[2]);
-        assert_eq!((loaded.bytes.len(), loaded.unreadable), (1500, 1));
+        assert_eq!(
+            (loaded.bytes.len(), &loaded.unreadable[..]),
+            (1500, &[2][..])
+        );
         assert_eq!(loaded.bytes[..1024], file[..1024]);
+    }
+
+    /// What was seen of the used part, and what of it is written once more.
+    #[test]
+    fn what_could_be_read() {
+        let mut file = vec![0; 12 * SECTOR];
+        for used in [0, 1, 2, 4, 5, 7] {
+            file[used * SECTOR] = 1;
+        }
+        type Case<'a> = (&'a [usize], usize, usize, &'a [[usize; 2]]);
+        let cases: [Case; 7] = [
+            (&[], 8, 8, &[]),
+            (&[], 2, 8, &[[2, 8]]),
+            (&[], 9, 8, &[]),
+            (&[4], 2, 8, &[[2, 4], [5, 8]]),
+            (&[0, 2, 3, 7, 9, 11], 2, 6, &[[4, 6]]),
+            (&[5, 7], 5, 5, &[]),
+            (&[10], 0, 8, &[[0, 8]]),
+        ];
+        for (bad, start, seen, runs) in cases {
+            let loaded = load_with(&file, file.len(), bad);
+            assert_eq!(loaded.unreadable, bad);
+            assert_eq!(loaded.seen(), seen, "{bad:?}");
+            let readable = loaded.readable(start);
+            let readable: Vec<_> = readable.iter().map(|run| [run.start, run.end]).collect();
+            assert_eq!(readable, runs, "{bad:?} from {start}");
+        }
     }
 
     /// The file is read piece by piece, and a bad sector costs no more than its own.
@@ -162,7 +218,10 @@ mod tests {
         let Loaded { bytes, unreadable } = load(read_at, 4 * PIECE as u64, |end| told.push(end));
         let length = file.len() as u64;
         assert_eq!(told, [PIECE as u64, 2 * PIECE as u64, length]);
-        assert_eq!((bytes.len(), unreadable), (file.len(), 1));
+        assert_eq!(
+            (bytes.len(), unreadable),
+            (file.len(), vec![PIECE / SECTOR + 5])
+        );
         let bad = PIECE + 5 * SECTOR..PIECE + 6 * SECTOR;
         assert_eq!(bytes[bad.clone()], unsound(b"unreadable"));
         assert!(bytes[..bad.start] == file[..bad.start] && bytes[bad.end..] == file[bad.end..]);
@@ -178,7 +237,7 @@ mod tests {
         for (bad, lost, first) in [(&[1][..], 0, 0), (&[2], 1, 2), (&[3, 5], 2, 3)] {
             let not_known = Err(Refusal::NotKnown { sector: first });
             let mut loaded = load_with(&log, log.len(), bad);
-            assert_eq!(loaded.unreadable, bad.len());
+            assert_eq!(loaded.unreadable, bad);
             for i in 0..3 {
                 let read = client.read(&mut loaded.bytes, 13, &scores[i], 60_000);
                 let expected = if i == lost {

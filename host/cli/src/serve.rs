@@ -8,6 +8,7 @@ use boundary::Session;
 
 use crate::arguments::Arguments;
 use crate::handshake;
+use crate::interrupt::Held;
 use crate::progress::Progress;
 use crate::reader::Reader;
 use crate::session::{whole_reply, Answers, REPLY};
@@ -15,6 +16,11 @@ use crate::status::{Failure, DONE};
 use crate::streams::Streams;
 use crate::words;
 use crate::writer::Writer;
+
+const INTERRUPTED: &str = "interrupted; all that was answered for is on disk";
+
+/// What is told where a log fails that is written.
+const UNSETTLED: &str = "Store again what no sync was answered for: it may not be on disk.";
 
 /// How the log is opened.
 enum Access {
@@ -28,11 +34,22 @@ pub fn run(arguments: &Arguments, streams: &mut Streams) -> Result<u8, Failure> 
         // A client that is slow to begin holds up no other.
         handshake::exchange(streams)?;
     }
+    let writes = matches!(access, Access::Write { .. });
     let mut log = open(arguments.path(0), access, streams)?;
+    let held = writes.then(Held::ending_input).flatten();
     let mut progress = Progress::start();
     let ended = talk(&mut *log, &mut progress, streams);
     streams.clear_progress();
-    ended
+    // A client that never syncs loses nothing that it got an answer for, where the log is well.
+    let settled = ended.and_then(|ended| log.settle().map(|()| ended));
+    let ended = settled.map_err(|failure| match writes {
+        true => failure.and(UNSETTLED),
+        false => failure,
+    })?;
+    if let Some(held) = held {
+        held.check(INTERRUPTED)?;
+    }
+    ended.status()
 }
 
 fn access(arguments: &Arguments) -> Result<Access, Failure> {
@@ -62,28 +79,49 @@ fn open(path: &Path, access: Access, streams: &mut Streams) -> Result<Box<dyn An
     })
 }
 
-/// Answers requests until goodbye or the end of input.
+/// How a conversation came to its end, the log being well.
+enum End {
+    Goodbye,
+    /// The input was at its end.
+    Input,
+    /// The same, inside a message.
+    Torn,
+    /// The input could not be read, or a reply not be written.
+    Broken(Failure),
+}
+
+impl End {
+    fn status(self) -> Result<u8, Failure> {
+        match self {
+            End::Goodbye | End::Input => Ok(DONE),
+            End::Torn => Err(Failure::new(
+                1,
+                "the input ended inside a message, which was not answered",
+            )),
+            End::Broken(failure) => Err(failure),
+        }
+    }
+}
+
+/// Answers requests until goodbye or the end of input. Fails where the log does.
 fn talk(
     log: &mut dyn Answers,
     progress: &mut Progress,
     streams: &mut Streams,
-) -> Result<u8, Failure> {
+) -> Result<End, Failure> {
     let mut session = Session::Fresh;
     let mut reply = vec![0; REPLY];
     let (mut requests, mut appended) = (0_u64, 0);
     while session != Session::Closed {
         let message = match next_message(streams.input) {
             Ok(Input::Message(message)) => message,
-            Ok(Input::End) => break,
-            Ok(Input::Torn) => {
-                return Err(Failure::new(
-                    1,
-                    "the input ended inside a message, which was not answered",
-                ))
+            Ok(Input::End) => return Ok(End::Input),
+            Ok(Input::Torn) => return Ok(End::Torn),
+            Err(e) => {
+                let failure = Failure::disk("read", Path::new("standard input"), &e);
+                return Ok(End::Broken(failure));
             }
-            Err(e) => return Err(Failure::disk("read", Path::new("standard input"), &e)),
         };
-        // On disk before the reply.
         let served = log.serve(session, &message, &mut reply, streams)?;
         session = served.session;
         appended += served.appended;
@@ -93,13 +131,15 @@ fn talk(
             let words = words::refusal(refusal);
             streams.tell(&format!("message {requests} was not answered: {words}"));
         } else if session != Session::Closed {
-            streams.answer(whole_reply(&reply))?;
+            if let Err(failure) = streams.answer(whole_reply(&reply)) {
+                return Ok(End::Broken(failure));
+            }
         }
         progress.show(streams, || {
             format!("{requests} requests answered, {appended} sectors appended")
         });
     }
-    Ok(DONE)
+    Ok(End::Goodbye)
 }
 
 enum Input {

@@ -1,4 +1,4 @@
-//! One greeted session over a log in memory.
+//! One greeted session over a log in memory, or on disk.
 
 use boundary::{serve, Refusal, Session};
 
@@ -10,6 +10,8 @@ use crate::streams::Streams;
 pub const REPLY: usize = 57_348;
 
 const HELLO: [u8; 13] = [0, 11, 4, 0, 0, 2, b'0', b'2', 0, 0, 0, 0, 0];
+/// Sync, of tag 0.
+pub const SYNC: [u8; 4] = [0, 2, 16, 0];
 const READ: u8 = 12;
 const WRITE: u8 = 14;
 
@@ -24,7 +26,7 @@ pub struct Served {
 
 /// A log on disk that answers requests.
 pub trait Answers {
-    /// Answers one request. What is acknowledged is on disk.
+    /// Answers one request. When it has answered a sync, all that was acknowledged is on disk.
     fn serve(
         &mut self,
         session: Session,
@@ -32,6 +34,9 @@ pub trait Answers {
         reply: &mut [u8],
         streams: &mut Streams,
     ) -> Result<Served, Failure>;
+
+    /// Has all that was acknowledged on disk, as after a sync.
+    fn settle(&mut self) -> Result<(), Failure>;
 }
 
 pub struct Client {
@@ -61,7 +66,8 @@ impl Client {
         })
     }
 
-    /// Has a block of at most 65,529 bytes on disk. Gives its score, or the refusal.
+    /// Stores a block of at most 65,529 bytes, which is on disk once the log is settled. Gives its
+    /// score, or the refusal.
     pub fn store(
         &mut self,
         log: &mut dyn Answers,
@@ -74,11 +80,24 @@ impl Client {
         Ok(served.outcome.map(|()| score_in(&self.reply)))
     }
 
-    /// Stores a block of at most 65,529 bytes in memory. Gives its score.
+    /// Has what was stored on disk, by a sync.
+    #[cfg(test)]
+    pub fn sync(&mut self, log: &mut dyn Answers, streams: &mut Streams) -> Result<(), Failure> {
+        let served = log.serve(self.session, &SYNC, &mut self.reply, streams)?;
+        served.outcome.map_err(Failure::refused)
+    }
+
+    /// Stores a block of at most 65,529 bytes in a log in memory, and settles it. Gives its score.
     #[cfg(test)]
     pub fn write(&mut self, log: &mut [u8], kind: u8, data: &[u8]) -> Result<Score, Refusal> {
-        self.ask(log, &write_message(kind, data))?;
-        Ok(score_in(&self.reply))
+        let mut waiting = vec![0; boundary::MOST_WAITING * crate::format::SECTOR];
+        let mut ask = |message: &[u8]| {
+            let reply = &mut self.reply;
+            serve(self.session, message, log, &mut waiting, reply).outcome
+        };
+        ask(&write_message(kind, data))?;
+        ask(&SYNC)?;
+        Ok(boundary::sha1(data))
     }
 
     /// A block's bytes.
@@ -93,9 +112,9 @@ impl Client {
         self.ask(log, &message(READ, &body))
     }
 
-    /// Asks, and gives the reply's body.
+    /// Asks of a log with nothing waiting, and gives the reply's body.
     fn ask(&mut self, log: &mut [u8], message: &[u8]) -> Result<&[u8], Refusal> {
-        let served = serve(self.session, message, log, &mut self.reply);
+        let served = serve(self.session, message, log, &mut [], &mut self.reply);
         self.session = served.session;
         served.outcome?;
         Ok(&whole_reply(&self.reply)[4..])

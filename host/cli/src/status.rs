@@ -47,7 +47,7 @@ pub const TABLE: [(&str, &str); 12] = [
     ),
     (
         "128 + n",
-        "init: interrupted by signal n (130: Ctrl-C); nothing is left",
+        "interrupted by signal n (130: Ctrl-C): init leaves nothing, serve what it answered for",
     ),
 ];
 
@@ -94,6 +94,12 @@ impl Failure {
     pub fn disk(doing: &str, path: &Path, error: &io::Error) -> Failure {
         let words = format!("cannot {doing} {}: {error}", path.display());
         Failure::new(INPUT_OUTPUT, words)
+    }
+
+    /// The same failure, and what is to be done besides.
+    pub fn and(self, advice: &str) -> Failure {
+        let words = self.words.trim_end_matches('.');
+        Failure::new(self.status, format!("{words}. {advice}"))
     }
 
     /// Standard output failed. A reader that went away is no news.

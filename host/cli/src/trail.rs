@@ -261,14 +261,14 @@ mod tests {
         fn agrees(&self, root: &Score) {
             for allowance in (0..20).chain([1_000_000]) {
                 let trail = follow(&self.log, root, allowance).unwrap();
-                assert_eq!(trail.walked, walk(&self.log, root, allowance));
+                assert_eq!(trail.walked, walk(&self.log, &[], root, allowance));
             }
         }
 
         fn stops(&self, root: &Score, number: u8) -> Stop {
             let trail = follow(&self.log, root, 1_000_000).unwrap();
             let refused = trail.walked.outcome.err();
-            assert_eq!(trail.walked, walk(&self.log, root, 1_000_000));
+            assert_eq!(trail.walked, walk(&self.log, &[], root, 1_000_000));
             assert_eq!(refused.map_or(0, Refusal::number), number);
             trail.at
         }

@@ -32,10 +32,10 @@ pub fn run(arguments: &Arguments, streams: &mut Streams) -> Result<u8, Failure> 
             if let Some(time) = trail.as_ref().and_then(|trail| estimate(&mut log, trail)) {
                 expected.store(time.as_secs() + 1, Ordering::Relaxed);
             }
-            walk(&log, &score, allowance)
+            walk(&log, &[], &score, allowance)
         })
     } else {
-        walk(&log, &score, allowance)
+        walk(&log, &[], &score, allowance)
     };
     let visits = walked.visits;
     let Err(refusal) = walked.outcome else {

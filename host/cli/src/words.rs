@@ -15,8 +15,8 @@ const fn words(name: &'static str, when: &'static str, advice: &'static str) -> 
     Words { name, when, advice }
 }
 
-/// Refusals 1 to 23, in their order.
-const REFUSALS: [Words; 23] = [
+/// The refusals, in the order of `Refusal::ALL`.
+const REFUSALS: [Words; Refusal::ALL.len()] = [
     words(
         "ill-framed message",
         "it has fewer than 4 bytes, or its size isn't the count of bytes after it",
@@ -137,6 +137,16 @@ const REFUSALS: [Words; 23] = [
         "a walk is allowed 1,000,000 visits at most",
         "Ask with --allowance 1000000 or less.",
     ),
+    words(
+        "not a card",
+        "a card is at most 4,096 bytes of lines NAME=present or NAME=absent, each name once, in rising order",
+        "Write the card again, one name to a line, and store it.",
+    ),
+    words(
+        "not a query",
+        "a query is at most 256 bytes of names, `and`, `or`, `not` and round brackets, one space between",
+        "Ask with names of 1 to 8 letters and digits, such as `A and not ( B or C )`.",
+    ),
 ];
 
 /// A refusal in words, on one line.
@@ -201,8 +211,9 @@ const A_MEGABYTE: usize = 2048;
 
 fn told(refusal: Refusal, advice: Option<&str>) -> String {
     let number = refusal.number();
-    match REFUSALS.get(usize::from(number).wrapping_sub(1)) {
-        Some(w) => {
+    let mut all = Refusal::ALL.iter().zip(&REFUSALS);
+    match all.find(|(which, _)| which.number() == number) {
+        Some((_, w)) => {
             let advice = advice.unwrap_or(w.advice);
             let mut words = format!("{} ({number}): {}. ", w.name, w.when);
             if let Some(first) = refusal.first_doubtful() {

@@ -1,4 +1,4 @@
-//! A log that is written: its lock, what is appended, its mark.
+//! A log that is written: its lock, what waits, what is appended, its mark.
 
 use std::fs::{File, OpenOptions};
 use std::io::ErrorKind;
@@ -7,17 +7,17 @@ use std::os::unix::fs::{FileExt, MetadataExt};
 use std::path::{Path, PathBuf};
 use std::time::Duration;
 
-use boundary::Session;
+use boundary::{Refusal, Session, MOST_WAITING};
 
 use crate::disk;
 use crate::escape;
-use crate::format::{used, BLANK, SECTOR};
-use crate::held::{self, Found as Held};
+use crate::format::{used, BLANK, MOST_DATA, PAYLOAD, SECTOR};
+use crate::held;
 use crate::lock;
 use crate::log_file::{fits, is_file, load};
 use crate::mark::{self, Found, Mark};
 use crate::sectors::Loaded;
-use crate::session::{Answers, Served};
+use crate::session::{Answers, Served, REPLY, SYNC};
 use crate::status::{Failure, INPUT_OUTPUT, UNFIT};
 use crate::streams::Streams;
 
@@ -27,9 +27,20 @@ pub struct Writer {
     path: PathBuf,
     mark_path: PathBuf,
     mark: Option<Mark>,
+    /// How many sectors the file has.
+    sectors: usize,
+    /// How many of them are used.
     used: usize,
+    /// The log as it is lent: its used part, and room for what comes.
     bytes: Vec<u8>,
+    /// The waiting part, and how many of its sectors are used.
+    waiting: Vec<u8>,
+    waits: usize,
 }
+
+/// The sectors that are lent behind the used part, where the file has so many: a waiting part that is
+/// full, and the longest block. So a write that finds no room finds none in the file.
+const ROOM: usize = MOST_WAITING + MOST_DATA.div_ceil(PAYLOAD);
 
 impl Writer {
     /// Opens a log that fits its mark. With `adopt`, a log without a good mark gets one.
@@ -55,29 +66,48 @@ impl Writer {
             Found::Missing | Found::Damaged if adopt => None,
             Found::Missing | Found::Damaged => Some(Mark::require(path)?),
         };
-        let Loaded { bytes, unreadable } = load(&file, path, mark, streams)?;
+        let loaded = load(&file, path, mark, streams)?;
         if let Some(mark) = mark {
-            fits(path, mark, &bytes)?;
+            fits(path, mark, &loaded.bytes)?;
         }
         let mut log = Writer {
             file,
             path: path.to_path_buf(),
             mark_path,
             mark,
-            used: used(&bytes),
-            bytes,
+            sectors: loaded.bytes.len() / SECTOR,
+            used: used(&loaded.bytes),
+            bytes: Vec::new(),
+            waiting: vec![0; MOST_WAITING * SECTOR],
+            waits: 0,
         };
-        // A sector that cannot be read looks used; it is marked only with what is appended after it.
-        if let (0, Some(mark)) = (unreadable, mark) {
-            log.write_again(mark.used, log.used)?;
-        }
-        if unreadable == 0 || mark.is_none() {
-            log.renew_mark()?;
-        }
+        log.begin(loaded)?;
         if mark.is_none() {
             streams.tell(&log.adopted());
         }
         Ok(log)
+    }
+
+    /// Has on disk what was read, and a mark that says so, before anything is answered.
+    fn begin(&mut self, loaded: Loaded) -> Result<(), Failure> {
+        let end = match self.mark {
+            None => self.used,
+            Some(mark) => {
+                // Where a sync of what a crash left behind the mark failed, the system may have
+                // forgotten that it is not on disk: the next sync would not put it there.
+                for sectors in loaded.readable(mark.used) {
+                    self.write(&loaded.bytes, sectors)?;
+                }
+                // A sector that cannot be read looks used: it is marked only with what follows it.
+                mark.used.max(loaded.seen())
+            }
+        };
+        self.sync()?;
+        self.renew_mark(end)?;
+        self.bytes = loaded.bytes;
+        self.lend();
+        self.bytes.shrink_to_fit();
+        Ok(())
     }
 
     /// What is told of a log that had no good mark.
@@ -96,33 +126,61 @@ impl Writer {
 
     /// How many sectors the log has, and how many of them are used.
     pub fn sectors(&self) -> (usize, usize) {
-        (self.bytes.len() / SECTOR, self.used)
+        (self.sectors, self.used)
     }
 
-    /// The log's bytes, as they were read and written since.
-    pub fn bytes(self) -> Vec<u8> {
+    /// Whether any block has room in the waiting part.
+    pub fn takes_any(&self) -> bool {
+        self.waits + MOST_DATA.div_ceil(PAYLOAD) <= MOST_WAITING
+    }
+
+    /// The whole log's bytes, as they were read and written since.
+    pub fn bytes(mut self) -> Vec<u8> {
+        self.bytes.resize(self.sectors * SECTOR, 0);
         self.bytes
     }
 
-    /// Has what the last request appended on disk, with the mark. Gives the sectors appended.
-    fn keep(&mut self) -> Result<usize, Failure> {
-        let appended = self.bytes[self.used * SECTOR..].chunks_exact(SECTOR);
-        let appended = appended.take_while(|sector| *sector != BLANK).count();
-        if appended > 0 {
-            let (start, end) = (self.used * SECTOR, (self.used + appended) * SECTOR);
-            self.still_blank(start, end)?;
-            let written = disk::write(&self.file, &self.bytes[start..end], start as u64);
-            written.map_err(|e| Failure::disk("write", &self.path, &e))?;
-            self.used += appended;
-            self.renew_mark()?;
-        }
-        Ok(appended)
+    /// Lends the used part with room behind it, as far as the file has it.
+    fn lend(&mut self) {
+        let lent = self.sectors.min(self.used + ROOM);
+        self.bytes.resize(lent * SECTOR, 0);
     }
 
-    /// Fails unless these bytes of the file are there and blank, as they were when the log was read.
-    fn still_blank(&self, start: usize, end: usize) -> Result<(), Failure> {
-        let mut found = vec![0; end - start];
-        let read = self.file.read_exact_at(&mut found, start as u64);
+    /// Asks the proved archive. What it moves into the log is on disk before anyone is answered.
+    fn ask(
+        &mut self,
+        session: Session,
+        message: &[u8],
+        reply: &mut [u8],
+    ) -> Result<boundary::Served, Failure> {
+        let (log, waiting) = (&mut self.bytes, &mut self.waiting);
+        let served = boundary::serve(session, message, log, waiting, reply);
+        self.waits = used(&self.waiting);
+        self.keep()?;
+        Ok(served)
+    }
+
+    /// Has what a sync moved behind the log's used part on disk, then the mark.
+    fn keep(&mut self) -> Result<(), Failure> {
+        let moved = self.bytes[self.used * SECTOR..].chunks_exact(SECTOR);
+        let end = self.used + moved.take_while(|sector| *sector != BLANK).count();
+        if end > self.used {
+            self.still_blank(self.used..end)?;
+            self.write(&self.bytes, self.used..end)?;
+            self.sync()?;
+            self.renew_mark(end)?;
+            self.used = end;
+            self.lend();
+        }
+        Ok(())
+    }
+
+    /// Fails unless these sectors of the file are there and blank, as they were when the log was read.
+    fn still_blank(&self, sectors: Range<usize>) -> Result<(), Failure> {
+        let mut found = vec![0; sectors.len() * SECTOR];
+        let read = self
+            .file
+            .read_exact_at(&mut found, (sectors.start * SECTOR) as u64);
         match read {
             Ok(()) if found.iter().all(|byte| *byte == 0) => Ok(()),
             Err(e) if e.kind() != ErrorKind::UnexpectedEof => {
@@ -132,41 +190,27 @@ impl Writer {
         }
     }
 
-    /// Writes sectors that a crash left behind the mark once more: where a sync of them failed, the
-    /// system may have forgotten that they are not on disk, and the next sync would not put them there.
-    fn write_again(&self, start: usize, end: usize) -> Result<(), Failure> {
-        let (start, end) = (start * SECTOR, end * SECTOR);
-        if start < end {
-            let written = disk::write(&self.file, &self.bytes[start..end], start as u64);
-            written.map_err(|e| Failure::disk("write", &self.path, &e))?;
-        }
-        Ok(())
-    }
-
-    /// Has a block on disk that was found behind the mark, with a mark that ends after it.
-    fn keep_found(&mut self, found: &Range<usize>) -> Result<(), Failure> {
+    /// Writes these sectors of a log to the file: at or behind the mark, and nowhere else.
+    fn write(&self, log: &[u8], sectors: Range<usize>) -> Result<(), Failure> {
         let marked = self.mark.map_or(0, |mark| mark.used);
-        if found.end > marked {
-            self.write_again(found.start, found.end)?;
-            self.mark_up_to(found.end)?;
-        }
-        Ok(())
+        assert!(marked <= sectors.start, "written before the mark");
+        let (start, end) = (sectors.start * SECTOR, sectors.end * SECTOR);
+        let written = disk::write(&self.file, &log[start..end], start as u64);
+        written.map_err(|e| Failure::disk("write", &self.path, &e))
     }
 
-    /// Has the log on disk, then the mark, unless the mark has it so already.
-    fn renew_mark(&mut self) -> Result<(), Failure> {
-        self.mark_up_to(self.used)
+    fn sync(&self) -> Result<(), Failure> {
+        let synced = disk::sync_data(&self.file);
+        synced.map_err(|e| Failure::disk("sync", &self.path, &e))
     }
 
-    /// The same with a mark of so many used sectors.
-    fn mark_up_to(&mut self, used: usize) -> Result<(), Failure> {
+    /// Has a mark of so many used sectors on disk, unless there is one. The log itself is synced.
+    fn renew_mark(&mut self, used: usize) -> Result<(), Failure> {
         let now = Mark {
-            sectors: self.bytes.len() / SECTOR,
+            sectors: self.sectors,
             used,
         };
         if self.mark != Some(now) {
-            let synced = disk::sync_data(&self.file);
-            synced.map_err(|e| Failure::disk("sync", &self.path, &e))?;
             self.in_place()?;
             now.write(&self.mark_path, &self.file)?;
             self.mark = Some(now);
@@ -184,8 +228,9 @@ impl Writer {
 }
 
 impl Answers for Writer {
-    /// When it has answered, what the request appended is on disk, and so is a block that it took
-    /// for held: where that was damaged on disk meanwhile, it is stored anew.
+    /// A write is answered when its block waits, a sync when all of them are on disk. A block that a
+    /// write took for held in the log is so on disk: where that was damaged meanwhile, it is stored
+    /// anew. Where the waiting part has no room, what is in it is settled first.
     fn serve(
         &mut self,
         session: Session,
@@ -193,19 +238,22 @@ impl Answers for Writer {
         reply: &mut [u8],
         streams: &mut Streams,
     ) -> Result<Served, Failure> {
+        let before = self.used + self.waits;
         let mut unsound = Vec::new();
         loop {
-            let served = boundary::serve(session, message, &mut self.bytes, reply);
-            let appended = self.keep()?;
+            let served = self.ask(session, message, reply)?;
+            let appended = self.used + self.waits - before;
+            if served.outcome == Err(Refusal::NoRoom) && self.waits > 0 {
+                self.settle()?;
+                continue;
+            }
             if served.outcome.is_ok() && appended == 0 {
-                match held::look(&mut self.bytes, &self.file, message, reply) {
-                    Some(Held::Damaged(damaged)) => {
-                        streams.tell(&held::words(&damaged, &self.path));
-                        unsound.push(damaged);
-                        continue;
-                    }
-                    Some(Held::Sound(found)) => self.keep_found(&found)?,
-                    None => {}
+                if let Some(damaged) = held::damaged(&self.bytes, &self.file, message, reply) {
+                    // Damage is taken in with nothing waiting.
+                    self.settle()?;
+                    streams.tell(&held::words(&damaged, &self.path));
+                    unsound.push(damaged.take(&mut self.bytes));
+                    continue;
                 }
             }
             if appended == 0 {
@@ -221,6 +269,15 @@ impl Answers for Writer {
                 appended,
             });
         }
+    }
+
+    /// By a sync of its own, in a session that was greeted.
+    fn settle(&mut self) -> Result<(), Failure> {
+        if self.waits > 0 {
+            let served = self.ask(Session::Greeted, &SYNC, &mut vec![0; REPLY])?;
+            served.outcome.map_err(Failure::refused)?;
+        }
+        Ok(())
     }
 }
 
@@ -246,9 +303,46 @@ fn one_name(file: &File, path: &Path) -> Result<(), Failure> {
 fn changed(path: &Path) -> Failure {
     let words = format!(
         "{} was changed by another program while this one was writing it: the next sectors are \
-         cut off or no longer blank. The last request wrote nothing and is not acknowledged. Find \
-         that program; restore the log from a copy, and store again what got no answer.",
+         cut off or no longer blank. Nothing was written there. Find that program, and restore the \
+         log from a copy.",
         path.display()
     );
     Failure::new(INPUT_OUTPUT, words)
+}
+
+#[cfg(test)]
+mod tests {
+    use super::*;
+    use crate::failing::{quietly, Folder};
+    use crate::faults::on_good_disk;
+    use crate::session::Client;
+
+    /// A long log is lent up to the room for what comes, and on as it is filled, to its last sector.
+    #[test]
+    fn what_is_lent() {
+        let folder = Folder::new();
+        on_good_disk(|| {
+            assert_eq!(folder.run("init", &["--sectors", "2000"]), 0);
+            quietly(|streams| {
+                let mut log = Writer::open(&folder.log(), false, streams).unwrap();
+                assert_eq!(log.bytes.len(), 399 * SECTOR);
+                assert!(log.bytes.capacity() < 500 * SECTOR);
+                let mut client = Client::greet_on_disk(&mut log, streams).unwrap();
+                for block in 0..13 {
+                    let block = vec![block; MOST_DATA];
+                    let stored = client.store(&mut log, 13, &block, streams).unwrap();
+                    assert!(stored.is_ok());
+                    assert_eq!(log.bytes.len(), 2000.min(log.used + 399) * SECTOR);
+                }
+                let full = client.store(&mut log, 13, &[13; MOST_DATA], streams);
+                assert_eq!(full.unwrap(), Err(Refusal::NoRoom));
+                assert_eq!(log.sectors(), (2000, 13 * 143));
+                let rest = vec![14; (2000 - 13 * 143) * PAYLOAD];
+                assert!(client.store(&mut log, 13, &rest, streams).unwrap().is_ok());
+                log.settle().unwrap();
+                assert_eq!(log.sectors(), (2000, 2000));
+                assert_eq!(log.bytes().len(), 2000 * SECTOR);
+            });
+        });
+    }
 }

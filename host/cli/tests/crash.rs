@@ -2,7 +2,7 @@
 
 mod common;
 
-use std::io::Write;
+use std::io::{BufRead, BufReader, Write};
 use std::ops::Range;
 use std::os::unix::fs::symlink;
 use std::process::Command;
@@ -181,52 +181,73 @@ fn no_pieces_of_writers() {
     assert!(only(&place.folder, &left));
 }
 
-/// Kills a server that is busy with writes, again and again on one log. Every block that was
-/// answered for is there; any other is whole, not held or not known.
+/// Kills a server that is busy with writes and syncs, again and again on one log. Every block that a
+/// sync answered for is there; any other is whole, not held or not known.
 #[test]
 fn killed_while_appending() {
     let rounds = 16;
     let each = 24;
     let place = Place::with_log(rounds * each * 4);
     let mut known: Vec<Vec<u8>> = Vec::new();
-    let mut cut_short = 0;
+    let (mut cut_short, mut lost) = (0, 0);
     for round in 0..rounds {
         let blocks: Vec<_> = (0..each)
             .map(|i| block(round * each + i, 1 + (round * 397 + i * 811) % 1600))
             .collect();
-        let answered = kill_after(&place, &blocks, round % each);
-        cut_short += usize::from(answered < each);
-        known.extend_from_slice(&blocks[..answered]);
+        let sync_after = 1 + round % 5;
+        let (answered, synced) = kill_after(&place, &blocks, round % each, sync_after);
+        cut_short += usize::from(synced < each);
+        known.extend_from_slice(&blocks[..synced]);
+        lost += check(&place, &known, &blocks[synced..answered]);
         check(&place, &known, &blocks[answered..]);
     }
     assert!(cut_short > 0, "no kill came in time");
+    assert!(lost > 0, "no answered block was waiting");
     assert!(only(&place.folder, &["log", "log.mark"]));
 }
 
-/// Sends all writes, waits for so many replies, kills the server, and counts the replies it gave.
-fn kill_after(place: &Place, blocks: &[Vec<u8>], replies: usize) -> usize {
+/// Sends all writes, with a sync after so many of them, waits for replies to so many writes, kills the
+/// server, and counts the writes that it answered, and those of them that it answered a sync after.
+fn kill_after(
+    place: &Place,
+    blocks: &[Vec<u8>],
+    replies: usize,
+    sync_after: usize,
+) -> (usize, usize) {
     let mut server = place.serve();
     assert_eq!(server.ask(&HELLO), HELLO_REPLY);
     let mut input = server.input.take().unwrap();
-    let sent: Vec<u8> = blocks.iter().flat_map(|b| write_message(1, b)).collect();
+    let (mut sent, mut expected) = (Vec::new(), Vec::new());
+    for (number, block) in (1..).zip(blocks) {
+        sent.extend(write_message(1, block));
+        expected.push((write_reply(1, block), number, 0));
+        if number % sync_after == 0 {
+            sent.extend(sync_message(2));
+            expected.push((sync_reply(2), number, number));
+        }
+    }
     let sender = thread::spawn(move || input.write_all(&sent).is_ok());
-    let expected = |i: usize| write_reply(1, &blocks[i]);
-    for i in 0..replies {
-        assert_eq!(server.reply(), Some(expected(i)));
+    let mut expected = expected.into_iter();
+    let (mut answered, mut synced, mut killed) = (0, 0, false);
+    loop {
+        if answered >= replies && !killed {
+            killed = true;
+            server.child.kill().unwrap();
+            server.child.wait().unwrap();
+        }
+        let Some(reply) = server.reply() else {
+            break;
+        };
+        let (right, writes, syncs) = expected.next().unwrap();
+        assert_eq!(reply, right);
+        (answered, synced) = (writes, synced.max(syncs));
     }
-    server.child.kill().unwrap();
-    server.child.wait().unwrap();
     sender.join().unwrap();
-    let mut answered = replies;
-    while let Some(reply) = server.reply() {
-        assert_eq!(reply, expected(answered));
-        answered += 1;
-    }
-    answered
+    (answered, synced)
 }
 
-/// Asks for all of these blocks in one session.
-fn check(place: &Place, known: &[Vec<u8>], others: &[Vec<u8>]) {
+/// Asks for all of these blocks in one session. How many of the others are not held.
+fn check(place: &Place, known: &[Vec<u8>], others: &[Vec<u8>]) -> usize {
     let asked = known.iter().chain(others).map(|b| read_message(1, b));
     let sent = [HELLO.to_vec(), asked.collect::<Vec<_>>().concat()].concat();
     let answer = place.feed(&["serve", "log"], &sent).with(0);
@@ -238,16 +259,54 @@ fn check(place: &Place, known: &[Vec<u8>], others: &[Vec<u8>]) {
         reply.to_vec()
     };
     for block in known {
-        assert!(next() == message(13, 1, block), "an answered block is lost");
+        assert!(next() == message(13, 1, block), "a synced block is lost");
     }
+    let mut not_held = 0;
     for block in others {
         let reply = next();
         let lawful = [message(13, 1, block), error_reply(1, 11)];
         let not_known = &not_known_reply(1, 0)[..16]; // whatever the sector
         let lawful = lawful.contains(&reply) || reply.starts_with(not_known) && reply.len() == 24;
         assert!(lawful, "wrong bytes");
+        not_held += usize::from(reply == error_reply(1, 11));
     }
     assert!(rest.is_empty());
+    not_held
+}
+
+/// Kills a `put` of many files when it has printed some scores: each of them is there.
+#[test]
+fn killed_in_put() {
+    let files = 40;
+    let lengths = [57_344, 300, 20_000, 1];
+    let mut cut_short = 0;
+    for round in 0..8 {
+        let place = Place::with_log(4000);
+        let mut words = vec!["put".to_string(), "log".to_string()];
+        let mut blocks = Vec::new();
+        for file in 0..files {
+            let name = format!("file{file:02}");
+            blocks.push(block(100 * round + file, lengths[file % 4]));
+            place.write(&name, &blocks[file]);
+            words.push(name);
+        }
+        let mut child = place.command(&words).spawn().unwrap();
+        let mut lines = BufReader::new(child.stdout.take().unwrap()).lines();
+        let mut scores: Vec<String> = Vec::new();
+        while let Some(Ok(line)) = lines.next() {
+            scores.push(line);
+            if scores.len() == 1 + 4 * round {
+                child.kill().unwrap();
+            }
+        }
+        child.wait().unwrap();
+        cut_short += usize::from(scores.len() < files);
+        for (line, block) in scores.iter().zip(&blocks) {
+            assert_eq!(line[..40], score(block));
+            place.reads(&line[..40], block);
+        }
+    }
+    assert!(cut_short > 0, "no kill came in time");
 }
 
 /// Runs a command and kills it after so many milliseconds; whether that came before its end.

@@ -1,4 +1,5 @@
-//! The program's modules stand on each other in one order: none imports one that imports it.
+//! The program's modules stand on each other in one order: none imports one that imports it. And the
+//! lines of `writer.rs` that docs/DESIGN.md names are there.
 
 use std::collections::{BTreeMap, BTreeSet};
 use std::fs;
@@ -52,5 +53,20 @@ fn no_circles() {
             return;
         }
         assert!(left.len() < before, "in circles, or above some: {left:?}");
+    }
+}
+
+/// The lines that earn the premises of the theorem over events.
+#[test]
+fn the_lines_that_earn_the_premises() {
+    let here = env!("CARGO_MANIFEST_DIR");
+    let text = |path: &str| fs::read_to_string(format!("{here}/{path}")).expect(path);
+    let (design, writer) = (text("../../docs/DESIGN.md"), text("src/writer.rs"));
+    let (_, table) = design.split_once("| Premise | Line |").expect("the table");
+    let (table, _) = table.split_once("\n\n").expect("its end");
+    let named: Vec<_> = table.split('`').skip(1).step_by(2).collect();
+    assert!(named.len() > 20, "{named:?}");
+    for line in named {
+        assert!(writer.contains(line), "{line}");
     }
 }

@@ -55,7 +55,7 @@ fn many_that_only_read() {
     assert_eq!(writer.end(), (0, String::new()));
 }
 
-/// What a writer has answered for is found at once, never "not held"; also what it heals.
+/// What a writer has synced is found at once, never "not held"; also what it heals. What waits is not.
 #[test]
 fn readers_follow_the_writer() {
     let place = Place::with_log(64);
@@ -65,6 +65,8 @@ fn readers_follow_the_writer() {
         let data = block(seed, 1 + seed * 300);
         assert_eq!(reader.ask(&read_message(1, &data)), error_reply(1, 11));
         assert_eq!(writer.ask(&write_message(1, &data)), write_reply(1, &data));
+        assert_eq!(reader.ask(&read_message(2, &data)), error_reply(2, 11));
+        writer.sync();
         assert_eq!(reader.ask(&read_message(2, &data)), message(13, 2, &data));
     }
     assert_eq!(writer.end(), (0, String::new()));

@@ -3,9 +3,10 @@
 mod common;
 
 use std::fs;
+use std::io::{Read, Write};
 use std::os::fd::OwnedFd;
 use std::os::unix::net::UnixDatagram;
-use std::process::Stdio;
+use std::process::{Command, Stdio};
 
 use common::*;
 
@@ -43,20 +44,129 @@ fn a_conversation() {
     place.reads(&score(b"card"), b"card");
 }
 
-/// Each reply comes before the next request is sent, with its block on disk.
+/// Each reply comes before the next request is sent; that of a write while its block waits, that of
+/// a sync when all of them are on disk.
 #[test]
-fn a_reply_means_that_it_is_stored() {
+fn a_sync_means_that_it_is_stored() {
     let place = Place::with_log(64);
     let mut server = place.serve();
     assert_eq!(server.ask(&HELLO), HELLO_REPLY);
+    let mut end = 0;
     for (tag, length) in [1, 403, 404, 5000].into_iter().enumerate() {
-        let data = block(tag, length);
-        let reply = server.ask(&write_message(tag as u8, &data));
-        assert_eq!(reply, write_reply(tag as u8, &data));
-        place.reads(&score(&data), &data);
+        let before = place.file("log");
+        let pair = [block(tag, length), block(tag + 10, length)];
+        for data in &pair {
+            let reply = server.ask(&write_message(tag as u8, data));
+            assert_eq!(reply, write_reply(tag as u8, data));
+            let reply = server.ask(&read_message(tag as u8, data));
+            assert_eq!(reply, message(13, tag as u8, data));
+        }
+        assert!(place.file("log") == before, "nothing is written yet");
+        assert_eq!(place.file("log.mark"), mark(64, end).as_bytes());
+        place.not_held(&score(&pair[0]));
+        server.sync();
+        end += 2 * length.div_ceil(403);
+        assert_eq!(place.file("log.mark"), mark(64, end).as_bytes());
+        for data in &pair {
+            place.reads(&score(data), data);
+        }
     }
-    assert_eq!(place.file("log.mark"), mark(64, 1 + 1 + 2 + 13).as_bytes());
+    let before = (place.file("log"), place.file("log.mark"));
+    server.sync();
+    assert_eq!(before, (place.file("log"), place.file("log.mark")));
     assert_eq!(server.end(), (0, String::new()));
+}
+
+/// However a conversation ends, all that was answered for is there.
+#[test]
+fn a_client_that_never_syncs() {
+    let ends: [(&[u8], i32); 4] = [
+        (b"", 0),
+        (&goodbye(), 0),
+        (&[0, 9, 14], 1),
+        (&[&goodbye()[..], b"more"].concat(), 0),
+    ];
+    for (end, status) in ends {
+        let place = Place::with_log(64);
+        let blocks = [block(1, 900), block(2, 3)];
+        let writes = blocks.iter().map(|b| write_message(1, b));
+        let sent = [&HELLO[..], &writes.collect::<Vec<_>>().concat(), end].concat();
+        place.feed(&["serve", "log"], &sent).with(status);
+        for block in &blocks {
+            place.reads(&score(block), block);
+        }
+        assert_eq!(place.file("log.mark"), mark(64, 4).as_bytes());
+    }
+}
+
+/// Asked to end by a signal, it settles first, also inside a message.
+#[test]
+fn a_server_that_is_asked_to_end() {
+    for (signal, status) in [("-HUP", 129), ("-INT", 130), ("-TERM", 143)] {
+        for rest in [&b""[..], &[0, 9, 14]] {
+            let place = Place::with_log(8);
+            let mut server = place.greeted(&[]);
+            let reply = server.ask(&write_message(1, b"card"));
+            assert_eq!(reply, write_reply(1, b"card"));
+            server.send(rest);
+            let id = server.child.id().to_string();
+            Command::new("kill").args([signal, &id]).status().unwrap();
+            let mut told = String::new();
+            let mut stderr = server.child.stderr.take().unwrap();
+            stderr.read_to_string(&mut told).unwrap();
+            assert_eq!(server.child.wait().unwrap().code(), Some(status));
+            assert!(told.contains("all that was answered for is on disk"));
+            place.reads(&score(b"card"), b"card");
+        }
+    }
+}
+
+/// Nobody reads the replies: what was answered before is there all the same.
+#[test]
+fn a_client_that_goes_away() {
+    let place = Place::with_log(64);
+    let mut server = place.greeted(&[]);
+    let reply = server.ask(&write_message(1, b"card"));
+    assert_eq!(reply, write_reply(1, b"card"));
+    let mut input = server.input.take().unwrap();
+    drop(server.output);
+    while input.write_all(&message(2, 3, b"")).is_ok() {}
+    assert_eq!(server.child.wait().unwrap().code(), Some(74));
+    place.reads(&score(b"card"), b"card");
+}
+
+/// A log many times as long as a waiting part, filled to its last sector without a sync: 14 comes
+/// only when the file has no room.
+#[test]
+fn a_waiting_part_that_is_full() {
+    let sectors = 1500;
+    let place = Place::with_log(sectors);
+    let mut server = place.greeted(&[]);
+    let lengths = [57_344, 1, 20_000, 403, 404, 57_344, 50_000];
+    let (mut used, mut stored) = (0, Vec::new());
+    for (seed, length) in lengths.into_iter().cycle().enumerate() {
+        let data = block(seed, length.min((sectors - used) * 403));
+        assert_eq!(server.ask(&write_message(1, &data)), write_reply(1, &data));
+        used += data.len().div_ceil(403);
+        stored.push(data);
+        if used == sectors {
+            break;
+        }
+        let long = block(9000 + seed, (sectors - used) * 403 + 1);
+        if long.len() <= 57_344 {
+            let reply = server.ask(&write_message(2, &long));
+            assert_eq!(reply, error_reply(2, 14));
+        }
+        let first = &stored[0];
+        assert_eq!(server.ask(&read_message(3, first)), message(13, 3, first));
+    }
+    assert_eq!(server.ask(&write_message(2, b"one")), error_reply(2, 14));
+    assert_eq!(server.end(), (0, String::new()));
+    assert_eq!(place.file("log.mark"), mark(sectors, sectors).as_bytes());
+    place.run(&["report", "log"]).with(0);
+    for data in &stored {
+        place.reads(&score(data), data);
+    }
 }
 
 #[test]
@@ -180,6 +290,7 @@ fn running() -> (Place, Server, [Vec<u8>; 3]) {
     for block in &blocks[1..] {
         assert_eq!(server.ask(&write_message(1, block)), write_reply(1, block));
     }
+    server.sync();
     (place, server, blocks)
 }
 
@@ -201,10 +312,7 @@ fn a_write_heals_what_was_damaged_meanwhile() {
             let zeroed_tail = sector == 5 && name == "a zeroed sector";
             assert_eq!(before, if zeroed_tail { 65 } else { 12 }, "{name}");
             for tag in [7, 8] {
-                assert_eq!(
-                    server.ask(&write_message(tag, lost)),
-                    write_reply(tag, lost)
-                );
+                server.store(tag, lost);
             }
             let (status, told) = server.end();
             assert_eq!(status, 0, "{told}");
@@ -218,12 +326,32 @@ fn a_write_heals_what_was_damaged_meanwhile() {
     }
 }
 
+/// Damage that a write finds is taken in with nothing waiting: what waited is on disk by then.
+#[test]
+fn damage_found_while_a_block_waits() {
+    let (place, mut server, blocks) = running();
+    let reply = server.ask(&write_message(1, b"waits"));
+    assert_eq!(reply, write_reply(1, b"waits"));
+    place.damage(|log| log[SECTOR] ^= 1);
+    let reply = server.ask(&write_message(2, &blocks[0]));
+    assert_eq!(reply, write_reply(2, &blocks[0]));
+    place.reads(&score(b"waits"), b"waits");
+    place.not_known(&score(&blocks[0]));
+    server.sync();
+    for block in blocks.iter().map(|block| &block[..]).chain([&b"waits"[..]]) {
+        place.reads(&score(block), block);
+    }
+    let (status, told) = server.end();
+    assert_eq!(status, 0, "{told}");
+    assert!(told.contains("damaged on disk"), "{told}");
+}
+
 /// Where there is no room to heal it the write is refused, and not acknowledged.
 #[test]
 fn what_was_damaged_meanwhile_and_has_no_room() {
     let (place, mut server, blocks) = running();
     let rest = block(9, 6 * 403);
-    assert_eq!(server.ask(&write_message(1, &rest)), write_reply(1, &rest));
+    server.store(1, &rest);
     place.damage(|log| log[SECTOR] ^= 1);
     assert_eq!(
         server.ask(&write_message(2, &blocks[0])),
@@ -245,7 +373,9 @@ fn duplicates_on_disk() {
     }
     assert_eq!(place.file("log"), before);
     place.damage(|log| log.truncate(5 * SECTOR + 100));
-    server.send(&write_message(2, &blocks[2]));
+    let reply = server.ask(&write_message(2, &blocks[2]));
+    assert_eq!(reply, write_reply(2, &blocks[2]), "stored anew, and waits");
+    server.send(&sync_message(3));
     assert_eq!(server.reply(), None);
     let (status, told) = server.end();
     assert_eq!(status, 74, "{told}");

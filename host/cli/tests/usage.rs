@@ -336,7 +336,7 @@ fn missing_permissions() {
     assert_eq!(place.file("log.mark"), mark(8, 2).as_bytes());
 }
 
-/// An append that cannot be marked ends the server: no reply, an I/O status, nothing left over.
+/// A sync that cannot be marked ends the server: no reply, an I/O status, nothing left over.
 #[test]
 fn no_reply_for_what_is_not_on_disk() {
     let place = Place::with_log(8);
@@ -344,7 +344,9 @@ fn no_reply_for_what_is_not_on_disk() {
     assert_eq!(server.ask(&HELLO), HELLO_REPLY);
     fs::remove_file(place.path("log.mark")).unwrap();
     fs::create_dir(place.path("log.mark")).unwrap();
-    server.send(&write_message(1, b"card"));
+    let reply = server.ask(&write_message(1, b"card"));
+    assert_eq!(reply, write_reply(1, b"card"));
+    server.send(&sync_message(2));
     assert_eq!(server.reply(), None);
     let (status, told) = server.end();
     assert_eq!(status, 74);

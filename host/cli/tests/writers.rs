@@ -4,7 +4,7 @@ mod common;
 
 use std::fs;
 use std::io::Write;
-use std::process::Stdio;
+use std::process::{Command, Stdio};
 use std::thread;
 use std::time::Duration;
 
@@ -30,10 +30,7 @@ fn a_second_writer_fails_at_once() {
     place.reads(&first, b"first");
     place.run(&["report", "log"]).with(0);
 
-    assert_eq!(
-        server.ask(&write_message(1, b"second")),
-        write_reply(1, b"second")
-    );
+    server.store(1, b"second");
     place.reads(&score(b"second"), b"second");
     assert_eq!(server.end(), (0, String::new()));
     place.put(b"third");
@@ -76,9 +73,10 @@ fn readers_beside_a_writer() {
     assert_eq!(server.ask(&HELLO), HELLO_REPLY);
     for seed in 0..40 {
         let data = block(seed, 3000);
-        server.send(&write_message(1, &data));
+        server.send(&[write_message(1, &data), sync_message(2)].concat());
         place.reads(&first, b"first");
         assert_eq!(server.reply(), Some(write_reply(1, &data)));
+        assert_eq!(server.reply(), Some(sync_reply(2)));
     }
     assert_eq!(server.end().0, 0);
     place.run(&["report", "log"]).with(0);
@@ -88,19 +86,28 @@ fn readers_beside_a_writer() {
 fn busy(place: &Place) -> Server {
     let mut server = place.serve();
     assert_eq!(server.ask(&HELLO), HELLO_REPLY);
-    let reply = server.ask(&write_message(1, b"first"));
-    assert_eq!(reply, write_reply(1, b"first"));
+    server.store(1, b"first");
     server
 }
 
-/// The server ends without a reply to this block.
+/// The server ends without a reply to a sync of this block.
 #[track_caller]
 fn unanswered(mut server: Server, block: &[u8], words: &str) {
-    server.send(&write_message(2, block));
+    server.send(&[write_message(2, block), sync_message(3)].concat());
+    let answered = server.reply();
+    assert!(answered.is_none_or(|reply| reply == write_reply(2, block)));
     assert_eq!(server.reply(), None);
+    told_to_store_again(server, words);
+}
+
+/// The server fails with these words, and says which blocks may be lost.
+#[track_caller]
+fn told_to_store_again(server: Server, words: &str) {
     let (status, told) = server.end();
     assert_eq!(status, 74, "{told}");
     assert!(told.contains(words), "{told}");
+    let advice = ". Store again what no sync was answered for: it may not be on disk.\n";
+    assert!(told.ends_with(advice), "{told}");
 }
 
 const REPLACED: &str = "log was replaced while this program was writing it";
@@ -134,6 +141,46 @@ fn a_log_moved_away_under_a_writer() {
         let get = place.run(&["get", "away/log", &score(b"first")]).with(0);
         assert_eq!(get.out, b"first");
     }
+}
+
+/// A write was answered, and then the log is gone: at a sync as at the end of input it is told that
+/// the block may be lost.
+#[test]
+fn a_log_moved_away_after_an_answer() {
+    for end in [&sync_message(2)[..], b""] {
+        let place = Place::with_log(8);
+        let mut server = busy(&place);
+        let reply = server.ask(&write_message(1, b"second"));
+        assert_eq!(reply, write_reply(1, b"second"));
+        fs::rename(place.path("log"), place.path("away")).unwrap();
+        server.send(end);
+        drop(server.input.take());
+        assert_eq!(server.reply(), None);
+        told_to_store_again(server, REPLACED);
+        // What a sync was answered for is marked, and no more.
+        assert_eq!(place.file("log.mark"), mark(8, 1).as_bytes());
+    }
+}
+
+/// `put` prints no score then, of the blocks before neither, and says so.
+#[test]
+fn a_log_moved_away_under_put() {
+    let place = Place::with_log(8);
+    place.write("first", b"first");
+    let made = Command::new("mkfifo").arg(place.path("slow")).status();
+    assert!(made.unwrap().success());
+    let put = place.command(&["put", "log", "first", "slow"]).spawn();
+    // It is opened once the first block waits.
+    let slow = fs::OpenOptions::new().write(true).open(place.path("slow"));
+    fs::rename(place.path("log"), place.path("away")).unwrap();
+    slow.unwrap().write_all(b"slow").unwrap();
+    let put = put.unwrap().wait_with_output().unwrap();
+    assert_eq!(put.status.code(), Some(74), "{put:?}");
+    assert!(put.stdout.is_empty(), "{put:?}");
+    let told = String::from_utf8(put.stderr).unwrap();
+    assert!(told.contains(REPLACED), "{told}");
+    let advice = ". Store again what no score was printed for: it may not be on disk.\n";
+    assert!(told.ends_with(advice), "{told}");
 }
 
 /// The mark's place is another then, though the working folder went along.

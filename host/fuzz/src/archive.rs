@@ -1,7 +1,10 @@
 //! What an archive under test has to offer.
 
+use second::query::Value;
 use second::tree::Run;
 use second::{Refusal, Score, Session};
+
+use crate::shams::Broken;
 
 /// The archive's calls. Numbers are the description's refusals, 0 for none; what looks up a block
 /// tells of the first doubtful sector besides, `serve` in its reply.
@@ -12,6 +15,7 @@ pub trait Archive {
         session: Session,
         message: &[u8],
         log: &mut [u8],
+        waiting: &mut [u8],
         reply: &mut [u8],
     ) -> (u8, Session);
 
@@ -28,6 +32,7 @@ pub trait Archive {
     fn locate(
         &mut self,
         log: &[u8],
+        waiting: &[u8],
         page: &[u8],
         entry: &[u8],
         offset: u64,
@@ -37,12 +42,33 @@ pub trait Archive {
     fn fill(
         &mut self,
         log: &[u8],
+        waiting: &[u8],
         entry: &[u8],
         offset: u64,
         buffer: &mut [u8],
     ) -> (Result<(), Refusal>, usize);
+
     /// How it ended, and the visits spent.
-    fn walk(&mut self, log: &[u8], score: &Score, allowance: u64) -> (Result<(), Refusal>, u64);
+    fn walk(
+        &mut self,
+        log: &[u8],
+        waiting: &[u8],
+        score: &Score,
+        allowance: u64,
+    ) -> (Result<(), Refusal>, u64);
+
+    /// What the card of an entry answers to a query, or why not.
+    fn search(
+        &mut self,
+        log: &[u8],
+        waiting: &[u8],
+        page: &[u8],
+        entry: &[u8],
+        query: &[u8],
+    ) -> Result<Value, Refusal>;
+
+    /// Whether bytes are a well-formed card.
+    fn is_card(&mut self, bytes: &[u8]) -> bool;
 
     /// The wire type of a number of the enumeration, or the number 9.
     fn wire_type(&mut self, number: u64) -> Result<u8, u8>;
@@ -53,6 +79,11 @@ pub trait Archive {
     fn sha1(&mut self, bytes: &[u8]) -> Score;
 
     fn crc32(&mut self, bytes: &[u8]) -> u32;
+
+    /// The rule that is broken, if one is: the ledger's rules are broken for it.
+    fn broken(&self) -> Option<Broken> {
+        None
+    }
 }
 
 /// The second program as an archive under test.
@@ -64,9 +95,10 @@ impl Archive for Second {
         session: Session,
         message: &[u8],
         log: &mut [u8],
+        waiting: &mut [u8],
         reply: &mut [u8],
     ) -> (u8, Session) {
-        second::request::serve(session, message, log, reply)
+        second::request::serve(session, message, log, Some(waiting), reply)
     }
 
     fn report(&mut self, log: &[u8], buffer: &mut [u8]) -> Result<usize, u8> {
@@ -84,24 +116,48 @@ impl Archive for Second {
     fn locate(
         &mut self,
         log: &[u8],
+        waiting: &[u8],
         page: &[u8],
         entry: &[u8],
         offset: u64,
     ) -> Result<Run, Refusal> {
-        second::tree::locate(log, page, entry, offset)
+        second::tree::locate(log, waiting, page, entry, offset)
     }
 
     fn fill(
         &mut self,
         log: &[u8],
+        waiting: &[u8],
         entry: &[u8],
         offset: u64,
         buffer: &mut [u8],
     ) -> (Result<(), Refusal>, usize) {
-        second::tree::fill(log, entry, offset, buffer)
+        second::tree::fill(log, waiting, entry, offset, buffer)
     }
-    fn walk(&mut self, log: &[u8], score: &Score, allowance: u64) -> (Result<(), Refusal>, u64) {
-        second::walk::walk(log, score, allowance)
+
+    fn walk(
+        &mut self,
+        log: &[u8],
+        waiting: &[u8],
+        score: &Score,
+        allowance: u64,
+    ) -> (Result<(), Refusal>, u64) {
+        second::walk::walk(log, waiting, score, allowance)
+    }
+
+    fn search(
+        &mut self,
+        log: &[u8],
+        waiting: &[u8],
+        page: &[u8],
+        entry: &[u8],
+        query: &[u8],
+    ) -> Result<Value, Refusal> {
+        second::search::search(log, waiting, page, entry, query)
+    }
+
+    fn is_card(&mut self, bytes: &[u8]) -> bool {
+        second::card::lines(bytes).is_ok()
     }
 
     fn wire_type(&mut self, number: u64) -> Result<u8, u8> {

@@ -1,12 +1,13 @@
 //! Calls without a log, and logs at the limits of their length.
 
-use second::message::LEAST_REPLY;
+use second::log::MOST_WAITING;
+use second::message::{whole, LEAST_REPLY};
 use second::sector::SECTOR;
 use second::sha1::ZERO_SCORE;
 use second::Session;
 
 use crate::archive::Archive;
-use crate::compare::{buffer, hex, number, Compare, Trace};
+use crate::compare::{buffer, hex, number, Compare, Parts, Trace};
 use crate::messages::Pool;
 use crate::random::Random;
 
@@ -104,7 +105,7 @@ fn cut_and_pad(
     buffer("the padded buffer", &block, &second)
 }
 
-/// Logs of the most sectors allowed and of one more.
+/// Logs and waiting parts of the most sectors allowed and of one more.
 pub fn limits(
     archive: &mut dyn Archive,
     compare: &mut Compare,
@@ -113,32 +114,39 @@ pub fn limits(
 ) -> Result<(), String> {
     let pool = Pool::new(random);
     let sectors = second::log::MOST_SECTORS;
-    for (length, full) in [
-        ((sectors + 1) * SECTOR, false),
-        (sectors * SECTOR, false),
-        (sectors * SECTOR, true),
+    for (length, waiting, full) in [
+        (SECTOR, MOST_WAITING + 1, false),
+        ((sectors + 1) * SECTOR, 1, false),
+        (sectors * SECTOR, MOST_WAITING, false),
+        (sectors * SECTOR, MOST_WAITING, true),
     ] {
-        trace.note(|| format!("a blank log of {length} bytes, last byte set: {full}"));
-        let mut tested = vec![0; length];
-        if full {
-            tested[length - 1] = 1;
-        }
-        let mut second = tested.clone();
-        for message in [pool.write(random), pool.read(random), pool.write(random)] {
+        trace.note(|| {
+            format!("a blank log of {length} bytes, waiting {waiting}, last byte set: {full}")
+        });
+        let lend = || {
+            let mut log = vec![0; length];
+            log[length - 1] = u8::from(full);
+            let waiting = vec![0; waiting * SECTOR];
+            Parts { log, waiting }
+        };
+        let (mut tested, mut second) = (lend(), lend());
+        let sync = whole(16, 0, &[]);
+        for message in [pool.write(random), pool.read(random), sync] {
             trace.note(|| format!("message of {}: {}", message.len(), hex(&message)));
-            let logs = (&mut tested[..], &mut second[..]);
-            compare.request(archive, Session::Ready, &message, LEAST_REPLY, logs, None)?;
+            let lent = (&mut tested, &mut second);
+            compare.request(archive, Session::Ready, &message, LEAST_REPLY, lent, None)?;
         }
+        let Parts { log, waiting } = &tested;
         let mut text = ([0; 128], [0; 128]);
-        let right = second::report::report(&second, &mut text.1);
-        let answer = archive.report(&tested, &mut text.0);
+        let right = second::report::report(log, &mut text.1);
+        let answer = archive.report(log, &mut text.0);
         compare.call("report", number(&right), answer, right)?;
         buffer("the report's buffer", &text.0, &text.1)?;
-        let right = second::walk::walk(&second, &ZERO_SCORE, 3);
+        let right = second::walk::walk(log, waiting, &ZERO_SCORE, 3);
         compare.call(
             "walk",
             number(&right.0),
-            archive.walk(&tested, &ZERO_SCORE, 3),
+            archive.walk(log, waiting, &ZERO_SCORE, 3),
             right,
         )?;
     }

@@ -23,6 +23,13 @@ impl Trace {
     }
 }
 
+/// A log and its waiting part.
+#[derive(Clone, Debug, PartialEq, Eq)]
+pub struct Parts {
+    pub log: Vec<u8>,
+    pub waiting: Vec<u8>,
+}
+
 /// Reply buffers that go on from case to case. Each lent one holds the pattern beforehand; only
 /// what a reply has overwritten is restored.
 pub struct Compare {
@@ -30,8 +37,8 @@ pub struct Compare {
     tested: Vec<u8>,
     second: Vec<u8>,
     /// How often each number was the answer, to requests and to other calls.
-    pub requests: [u64; 24],
-    pub calls: [u64; 24],
+    pub requests: [u64; 27],
+    pub calls: [u64; 27],
 }
 
 impl Compare {
@@ -43,33 +50,40 @@ impl Compare {
             tested: pattern.clone(),
             second: pattern.clone(),
             pattern,
-            requests: [0; 24],
-            calls: [0; 24],
+            requests: [0; 27],
+            calls: [0; 27],
         }
     }
 
-    /// One request, with a reply buffer of this length. `logs` are the log of the archive under
-    /// test and that of the second program.
+    /// One request, with a reply buffer of this length. `lent` are the parts of the archive under test
+    /// and those of the second program.
     pub fn request(
         &mut self,
         archive: &mut dyn Archive,
         session: Session,
         message: &[u8],
         reply_len: usize,
-        logs: (&mut [u8], &mut [u8]),
+        lent: (&mut Parts, &mut Parts),
         expected: Option<&Prediction>,
     ) -> Result<Session, String> {
-        let (tested_log, second_log) = logs;
-        let (number, after) =
-            archive.serve(session, message, tested_log, &mut self.tested[..reply_len]);
-        let second =
-            second::request::serve(session, message, second_log, &mut self.second[..reply_len]);
+        let (tested, right) = lent;
+        let (number, after) = archive.serve(
+            session,
+            message,
+            &mut tested.log,
+            &mut tested.waiting,
+            &mut self.tested[..reply_len],
+        );
+        let second = second::request::serve(
+            session,
+            message,
+            &mut right.log,
+            Some(&mut right.waiting),
+            &mut self.second[..reply_len],
+        );
         self.requests[usize::from(second.0)] += 1;
 
-        let written = match self.second[0] {
-            0xff => 0,
-            _ => second::message::number(&self.second[..2]) + 2,
-        };
+        let written = self.written();
         let same_reply = self.tested[..written] == self.second[..written]
             && self.tested[written..] == self.pattern[written..];
         let result = if (number, after) != second {
@@ -84,8 +98,11 @@ impl Compare {
             Err(format!(
                 "the reply buffer differs from the second program's, first at byte {at}; number {number}"
             ))
-        } else if tested_log != second_log {
-            Err(difference("the log", tested_log, second_log))
+        } else if tested.log != right.log {
+            Err(difference("the log", &tested.log, &right.log))
+        } else if tested.waiting != right.waiting {
+            let (tested, right) = (&tested.waiting, &right.waiting);
+            Err(difference("the waiting part", tested, right))
         } else {
             match expected {
                 Some(expected) => against_ledger(expected, second, &self.second[..written]),
@@ -99,6 +116,32 @@ impl Compare {
             self.second[..written].copy_from_slice(&self.pattern[..written]);
         }
         result
+    }
+
+    /// A request of the base, with no waiting part: the second program against the ledger alone.
+    pub fn base_request(
+        &mut self,
+        session: Session,
+        message: &[u8],
+        reply_len: usize,
+        log: &mut [u8],
+        expected: &Prediction,
+    ) -> Result<Session, String> {
+        let reply = &mut self.second[..reply_len];
+        let second = second::request::serve(session, message, log, None, reply);
+        self.requests[usize::from(second.0)] += 1;
+        let written = self.written();
+        let result = against_ledger(expected, second, &self.second[..written]);
+        self.second[..written].copy_from_slice(&self.pattern[..written]);
+        result
+    }
+
+    /// How many bytes of reply the second program wrote.
+    fn written(&self) -> usize {
+        match self.second[0] {
+            0xff => 0,
+            _ => second::message::number(&self.second[..2]) + 2,
+        }
     }
 
     /// Puts the pattern back.

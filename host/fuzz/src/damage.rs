@@ -1,18 +1,26 @@
-//! Damage that the archive has to live with: each changed sector isn't all zeros, and either its
-//! check doesn't fit or it differs only within four neighbouring bytes.
+//! Damage that the archive has to live with, measured against what was last written: each changed
+//! sector is in the used part that is left, and its check doesn't fit or it differs only within four
+//! neighbouring bytes. So each is doubtful. And healing, which puts sectors back as they were written.
 
+use second::account::Account;
+use second::log::{used, Contents};
 use second::sector::{blank, fits, CHECK, SECTOR};
 
 use crate::random::Random;
 
-/// Damages some whole sectors of a log and gives their numbers.
-pub fn damage(random: &mut Random, log: &mut [u8]) -> Vec<usize> {
-    let sectors = log.len() / SECTOR;
+/// The log of an account after some damage or healing, of whole sectors.
+pub fn damaged(random: &mut Random, account: &Account) -> Vec<u8> {
+    let before = account.log();
+    let sectors = before.len() / SECTOR;
+    let mut log = before.to_vec();
     if sectors == 0 {
-        return Vec::new();
+        return log;
     }
-    let used = second::log::used(&log[..sectors * SECTOR]).max(1);
-    let mut changed = Vec::new();
+    let changed: Vec<usize> = account.ledger.changed().iter().copied().collect();
+    if !changed.is_empty() && random.percent(50) {
+        heal(random, account, &changed, &mut log);
+    }
+    let used = used(&log[..sectors * SECTOR]).max(1);
     for _ in 0..random.pick(&[0, 1, 1, 1, 2, 2, 3, 5]) {
         let number = match random.below(10) {
             0 => sectors - 1,
@@ -20,25 +28,65 @@ pub fn damage(random: &mut Random, log: &mut [u8]) -> Vec<usize> {
             2 => used.min(sectors - 1),
             _ => random.below(used),
         };
-        let other = random.below(sectors);
-        let other = log[other * SECTOR..(other + 1) * SECTOR].to_vec();
-        let sector = &mut log[number * SECTOR..(number + 1) * SECTOR];
-        if changed.contains(&number) {
-            continue;
-        }
-        let before = sector.to_vec();
-        if random.percent(50) {
-            within_four(random, sector);
-        } else {
-            unfitting(random, sector, &other);
-        }
-        if sector != before {
-            assert!(lawful(&before, sector), "damage that isn't allowed");
-            changed.push(number);
+        hurt(random, number, &mut log);
+    }
+    undo_lost(account, before, &mut log);
+    log
+}
+
+/// Puts some of the changed sectors back as they were written, or all.
+fn heal(random: &mut Random, account: &Account, changed: &[usize], log: &mut [u8]) {
+    let written = account.written();
+    let all = random.percent(40);
+    for &number in changed {
+        if all || random.percent(50) {
+            let range = number * SECTOR..(number + 1) * SECTOR;
+            log[range.clone()].copy_from_slice(&written[range]);
         }
     }
-    changed.sort();
-    changed
+}
+
+/// Changes a sector, or nearly always.
+fn hurt(random: &mut Random, number: usize, log: &mut [u8]) {
+    let other = random.below(log.len() / SECTOR);
+    let other = log[other * SECTOR..(other + 1) * SECTOR].to_vec();
+    let sector = &mut log[number * SECTOR..(number + 1) * SECTOR];
+    match random.below(10) {
+        0..=3 => within_four(random, sector),
+        4..=7 => unfitting(random, sector, &other),
+        _ => sector.fill(0),
+    }
+}
+
+/// Takes back what isn't allowed: a changed sector that is not doubtful, such as zeros at the end of
+/// the used part. What was there before was allowed.
+fn undo_lost(account: &Account, before: &[u8], log: &mut [u8]) {
+    loop {
+        let contents = Contents::of(&log[..log.len() / SECTOR * SECTOR]);
+        let sound = |sector| {
+            let mut blocks = contents.blocks.iter();
+            blocks.any(|block| (block.first..block.first + block.sectors()).contains(&sector))
+        };
+        let lost: Vec<usize> = account
+            .changed_in(log)
+            .into_iter()
+            .filter(|&sector| sector >= contents.used || sound(sector))
+            .collect();
+        if lost.is_empty() {
+            return;
+        }
+        let mut undone = false;
+        for number in lost {
+            let range = number * SECTOR..(number + 1) * SECTOR;
+            undone |= log[range.clone()] != before[range.clone()];
+            log[range.clone()].copy_from_slice(&before[range]);
+        }
+        if !undone {
+            // Healing behind them has left them outside the used part.
+            log.copy_from_slice(before);
+            return;
+        }
+    }
 }
 
 /// Changes one to four bytes in a window of four.
@@ -61,8 +109,8 @@ fn within_four(random: &mut Random, sector: &mut [u8]) {
     }
 }
 
-/// Writes anything whose check doesn't fit.
-fn unfitting(random: &mut Random, sector: &mut [u8], other: &[u8]) {
+/// Writes anything that isn't blank and whose check doesn't fit.
+pub fn unfitting(random: &mut Random, sector: &mut [u8], other: &[u8]) {
     match random.below(6) {
         0 => sector.copy_from_slice(&random.bytes(SECTOR)),
         1 => sector.fill(random.mark()),
@@ -80,9 +128,17 @@ fn unfitting(random: &mut Random, sector: &mut [u8], other: &[u8]) {
     }
 }
 
-/// Whether the change of a sector is one of those named above.
-fn lawful(before: &[u8], after: &[u8]) -> bool {
-    let differs: Vec<usize> = (0..SECTOR).filter(|&at| before[at] != after[at]).collect();
-    let narrow = differs.last().unwrap_or(&0) - differs.first().unwrap_or(&0) < 4;
-    !blank(after) && (!fits(after) || narrow)
+/// Says where two logs differ.
+pub fn describe(before: &[u8], after: &[u8]) -> String {
+    let mut text = String::new();
+    for (number, (old, new)) in before.chunks(SECTOR).zip(after.chunks(SECTOR)).enumerate() {
+        let differs: Vec<usize> = (0..old.len()).filter(|&at| old[at] != new[at]).collect();
+        if let (Some(first), Some(last)) = (differs.first(), differs.last()) {
+            text += &format!(
+                "sector {number} in {} bytes, {first} to {last}; ",
+                differs.len()
+            );
+        }
+    }
+    text
 }

@@ -11,21 +11,38 @@ use crate::under_test;
 
 const HELLO: [u8; 13] = [0, 0x0b, 4, 0, 0, 2, 0x30, 0x32, 0, 0, 0, 0, 0];
 
+pub const SYNC: [u8; 4] = [0, 2, 16, 9];
+
 /// Tries an example on both programs.
-fn on_both(example: fn(&mut dyn Archive)) {
+pub fn on_both(example: fn(&mut dyn Archive)) {
     example(&mut *under_test::archive());
     example(&mut Second);
 }
 
 /// Serves one message in a session after a hello; gives the number and the reply.
-fn ask(archive: &mut dyn Archive, log: &mut [u8], message: &[u8]) -> (u8, Vec<u8>) {
+pub fn ask_waiting(
+    archive: &mut dyn Archive,
+    log: &mut [u8],
+    waiting: &mut [u8],
+    message: &[u8],
+) -> (u8, Vec<u8>) {
     let mut reply = vec![0xaa; 57_348];
-    let (number, session) = archive.serve(Session::Ready, message, log, &mut reply);
+    let (number, session) = archive.serve(Session::Ready, message, log, waiting, &mut reply);
     assert_eq!(session, Session::Ready);
     let size = usize::from(reply[0]) * 256 + usize::from(reply[1]) + 2;
     assert!(reply[size..].iter().all(|&byte| byte == 0xaa));
     reply.truncate(size);
     (number, reply)
+}
+
+/// Serves one message with a waiting part that has room for any block, and settles what it stored.
+fn ask(archive: &mut dyn Archive, log: &mut [u8], message: &[u8]) -> (u8, Vec<u8>) {
+    let mut waiting = vec![0; 256 * SECTOR];
+    let answer = ask_waiting(archive, log, &mut waiting, message);
+    let settled = ask_waiting(archive, log, &mut waiting, &SYNC);
+    assert_eq!(settled, (0, vec![0, 2, 17, 9]));
+    assert!(waiting.iter().all(|&byte| byte == 0));
+    answer
 }
 
 /// A refusal that tells of no sector.
@@ -46,7 +63,7 @@ fn read(kind: u8, data: &[u8], count: u16) -> Vec<u8> {
 fn ping_after_hello() {
     on_both(|archive| {
         let mut reply = vec![0; 57_348];
-        let (number, session) = archive.serve(Session::Fresh, &HELLO, &mut [], &mut reply);
+        let (number, session) = archive.serve(Session::Fresh, &HELLO, &mut [], &mut [], &mut reply);
         assert_eq!((number, session), (0, Session::Ready));
         assert_eq!(reply[..8], [0, 6, 5, 0, 0, 0, 0, 0]);
         assert_eq!(ask(archive, &mut [], &[0, 2, 2, 7]), (0, vec![0, 2, 3, 7]));
@@ -114,8 +131,8 @@ fn refusal_12() {
         let sound = log.clone();
         let asked = |archive: &mut dyn Archive, log: &mut [u8]| {
             let file = entry(1, 9, &[1; 20]);
-            let not_known = archive.locate(log, &[0], &file, 0).unwrap_err();
-            assert_eq!(archive.walk(log, &[1; 20], 5), (Err(not_known), 1));
+            let not_known = archive.locate(log, &[], &[0], &file, 0).unwrap_err();
+            assert_eq!(archive.walk(log, &[], &[1; 20], 5), (Err(not_known), 1));
             let (number, reply) = ask(archive, log, &read(13, b"never stored", 1));
             assert_eq!((number, not_known.number), (12, 12));
             (not_known.at.unwrap(), reply)
@@ -210,10 +227,10 @@ fn sizes_of_files() {
             })
         };
         let fits = entry(5, 3072, &ZERO_SCORE);
-        assert_eq!(archive.locate(&[], &page, &fits, 3071), zeros(1));
-        assert_eq!(archive.locate(&[], &page, &fits, 3072), no(17));
+        assert_eq!(archive.locate(&[], &[], &page, &fits, 3071), zeros(1));
+        assert_eq!(archive.locate(&[], &[], &page, &fits, 3072), no(17));
         let over = entry(5, 3073, &ZERO_SCORE);
-        assert_eq!(archive.locate(&[], &page, &over, 0), no(16));
+        assert_eq!(archive.locate(&[], &[], &page, &over, 0), no(16));
     });
 }
 
@@ -236,9 +253,9 @@ fn second_then_second() {
             len: 403,
         };
         let page = [0; 10];
-        assert_eq!(archive.locate(&log, &page, &file, 4096), Ok(run));
-        assert_eq!(archive.locate(&log, &page, &file, 3072), no(11));
-        assert_eq!(archive.locate(&log, &page, &file, 0), no(11));
+        assert_eq!(archive.locate(&log, &[], &page, &file, 4096), Ok(run));
+        assert_eq!(archive.locate(&log, &[], &page, &file, 3072), no(11));
+        assert_eq!(archive.locate(&log, &[], &page, &file, 0), no(11));
     });
 }
 
@@ -256,7 +273,7 @@ fn pads_of_messages() {
                 message[at] = byte;
                 let error = [0, 10, 1, 9, 0, 6, b'w', b'h', b'y', b'=', b'0', b'6'];
                 assert_eq!(ask(archive, &mut log, &message), (6, error.to_vec()));
-                let answer = archive.serve(Session::Fresh, &message, &mut log, &mut reply);
+                let answer = archive.serve(Session::Fresh, &message, &mut log, &mut [], &mut reply);
                 assert_eq!(answer, (6, Session::Fresh));
                 let kind = if message[2] == 12 { 24 } else { 4 };
                 message[kind] = 0;
@@ -281,11 +298,11 @@ fn pads_of_entries() {
             root.extend(sha1(entry));
             assert_eq!(ask(archive, &mut log, &write(2, entry)).0, 0);
             assert_eq!(ask(archive, &mut log, &write(1, &root)).0, 0);
-            archive.walk(&log, &sha1(&root), 9)
+            archive.walk(&log, &[], &sha1(&root), 9)
         };
         let page = [0; 10];
         let good = entry(1, 5, &ZERO_SCORE);
-        assert!(archive.locate(&[], &page, &good, 0).is_ok());
+        assert!(archive.locate(&[], &[], &page, &good, 0).is_ok());
         assert_eq!(walk(archive, &good), (Ok(()), 3));
         for at in 0..40 {
             for byte in [1, 128, 255] {
@@ -293,13 +310,13 @@ fn pads_of_entries() {
                 entry[at] = byte;
                 let pad = (9..14).contains(&at);
                 if pad || at < 4 {
-                    let run = archive.locate(&[], &page, &entry, 0);
+                    let run = archive.locate(&[], &[], &page, &entry, 0);
                     assert_eq!(run.err(), pad.then_some(16.into()), "byte {at}");
                     let answer = if pad { (no(16), 2) } else { (Ok(()), 3) };
                     assert_eq!(walk(archive, &entry), answer, "byte {at}");
                 }
                 entry[8] = 0;
-                assert_eq!(archive.locate(&[], &page, &entry, 0), no(16));
+                assert_eq!(archive.locate(&[], &[], &page, &entry, 0), no(16));
                 assert_eq!(walk(archive, &entry), (Ok(()), 2), "inactive, byte {at}");
             }
         }
@@ -360,13 +377,13 @@ fn runs_of_a_file() {
             (900, run(Place::Page, 0, 100)),
             (1000, no(17)),
         ] {
-            assert_eq!(archive.locate(&log, &page, &file, offset), expected);
+            assert_eq!(archive.locate(&log, &[], &page, &file, offset), expected);
         }
-        assert_eq!(archive.locate(&log, &[], &file, 0), no(19));
-        assert_eq!(archive.locate(&log, &page, &file[1..], 0), no(16));
+        assert_eq!(archive.locate(&log, &[], &[], &file, 0), no(19));
+        assert_eq!(archive.locate(&log, &[], &page, &file[1..], 0), no(16));
         log[700] ^= 1;
         let not_known = Err(Refusal::not_known(0));
-        assert_eq!(archive.locate(&log, &page, &file, 0), not_known);
+        assert_eq!(archive.locate(&log, &[], &page, &file, 0), not_known);
     });
 }
 
@@ -381,7 +398,7 @@ fn a_file_into_a_buffer() {
         let file = entry(1, 1000, &sha1(&data));
         let fill = |archive: &mut dyn Archive, log: &[u8], entry: &[u8], offset, size| {
             let mut buffer = vec![0xaa; size];
-            let (ended, count) = archive.fill(log, entry, offset, &mut buffer);
+            let (ended, count) = archive.fill(log, &[], entry, offset, &mut buffer);
             assert!(buffer[count..].iter().all(|&byte| byte == 0xaa));
             buffer.truncate(count);
             (ended, buffer)
@@ -413,10 +430,10 @@ fn sizes_of_logs() {
         let mut reply = vec![0; 57_348];
         let mut log = vec![0; 1_048_577 * SECTOR];
         let greet = |archive: &mut dyn Archive, log: &mut [u8], reply: &mut [u8]| {
-            archive.serve(Session::Fresh, &HELLO, log, reply).0
+            archive.serve(Session::Fresh, &HELLO, log, &mut [], reply).0
         };
         assert_eq!(greet(archive, &mut log, &mut reply), 3);
-        assert_eq!(archive.walk(&log, &ZERO_SCORE, 9), (no(3), 0));
+        assert_eq!(archive.walk(&log, &[], &ZERO_SCORE, 9), (no(3), 0));
         assert_eq!(archive.sound_at(&log, 0), Err(3));
         for sectors in [1_048_576, 131_073, 0] {
             log.truncate(sectors * SECTOR);
@@ -429,19 +446,19 @@ fn sizes_of_logs() {
 fn walks() {
     on_both(|archive| {
         let mut log = vec![0; 8 * SECTOR];
-        assert_eq!(archive.walk(&log, &ZERO_SCORE, 5), (no(16), 1));
-        assert_eq!(archive.walk(&log, &ZERO_SCORE, 0), (no(21), 0));
-        assert_eq!(archive.walk(&log, &[1; 20], 5), (no(11), 1));
-        assert_eq!(archive.walk(&log, &ZERO_SCORE, 1_000_001), (no(23), 0));
+        assert_eq!(archive.walk(&log, &[], &ZERO_SCORE, 5), (no(16), 1));
+        assert_eq!(archive.walk(&log, &[], &ZERO_SCORE, 0), (no(21), 0));
+        assert_eq!(archive.walk(&log, &[], &[1; 20], 5), (no(11), 1));
+        assert_eq!(archive.walk(&log, &[], &ZERO_SCORE, 1_000_001), (no(23), 0));
         let directory = entry(1, 0, &ZERO_SCORE);
         let mut root = vec![0, 2];
         root.resize(258, 0);
         root.extend(sha1(&directory));
         assert_eq!(ask(archive, &mut log, &write(2, &directory)).0, 0);
         assert_eq!(ask(archive, &mut log, &write(1, &root)).0, 0);
-        assert_eq!(archive.walk(&log, &sha1(&root), 5), (Ok(()), 3));
-        assert_eq!(archive.walk(&log, &sha1(&root), 2), (no(21), 2));
-        assert_eq!(archive.walk(&log[1..], &sha1(&root), 5), (no(3), 0));
+        assert_eq!(archive.walk(&log, &[], &sha1(&root), 5), (Ok(()), 3));
+        assert_eq!(archive.walk(&log, &[], &sha1(&root), 2), (no(21), 2));
+        assert_eq!(archive.walk(&log[1..], &[], &sha1(&root), 5), (no(3), 0));
     });
 }
 

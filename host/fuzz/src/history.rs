@@ -1,15 +1,20 @@
-//! Histories: a list of messages on a blank log, damage, and a second list.
+//! Histories: messages from a blank log on, and whatever else happens between them: stops, damage and
+//! healing, a log that grows, stops inside a write.
 
-use second::ledger::{Ledger, Origin};
-use second::message::LEAST_REPLY;
+use second::account::Account;
+use second::ledger::{Effect, Ledger, Origin};
+use second::log::MOST_WAITING;
+use second::message::{whole, Lent, LEAST_REPLY};
 use second::sector::SECTOR;
 use second::Session;
 
 use crate::archive::Archive;
-use crate::compare::{buffer, hex, Compare, Trace, LONGEST_REPLY};
-use crate::damage::damage;
+use crate::compare::{buffer, hex, Compare, Parts, Trace, LONGEST_REPLY};
+use crate::crash::crashed;
+use crate::damage::{damaged, describe};
 use crate::messages::{hello, Pool};
 use crate::random::Random;
+use crate::sham_ledger;
 
 /// The sectors from which on a log may take the longest block.
 const LARGE_LOG: usize = 140;
@@ -19,11 +24,11 @@ struct History<'a> {
     archive: &'a mut dyn Archive,
     compare: &'a mut Compare,
     pool: Pool,
-    ledger: Ledger,
-    /// The log of the archive under test, of the second program, of the ledger.
-    tested: Vec<u8>,
-    second: Vec<u8>,
-    predicted: Vec<u8>,
+    account: Account,
+    /// What the archive under test and the second program have; the waiting part has no sectors where
+    /// none is lent.
+    tested: Parts,
+    second: Parts,
 }
 
 pub fn run(
@@ -33,78 +38,174 @@ pub fn run(
     trace: &mut Trace,
 ) -> Result<(), String> {
     let mut pool = Pool::new(random);
-    let length = log_len(random);
-    if length >= LARGE_LOG * SECTOR {
+    let log = log_len(random);
+    let large = log >= LARGE_LOG * SECTOR;
+    if large {
         pool.add_large(random);
     }
-    trace.note(|| format!("a blank log of {length} bytes"));
+    let lent = Lent {
+        log,
+        waiting: waiting_len(random, large),
+    };
+    trace.note(|| format!("blank: {lent:?}"));
+    let blank = Parts {
+        log: vec![0; log],
+        waiting: vec![0; lent.waiting.unwrap_or(0)],
+    };
     let mut history = History {
         archive,
         compare,
         pool,
-        ledger: Ledger::new(),
-        tested: vec![0; length],
-        second: vec![0; length],
-        predicted: vec![0; length],
+        account: Account::new(lent),
+        tested: blank.clone(),
+        second: blank,
     };
-    for _ in 0..random.between(6, 20) {
-        history.request(random, trace)?;
-    }
-    history.damage(random, trace);
-    for _ in 0..random.between(4, 16) {
-        history.request(random, trace)?;
+    for _ in 0..random.between(10, 36) {
+        match random.below(100) {
+            0..=3 => history.stop(random, trace),
+            4..=5 => history.grow(random, trace),
+            6..=13 => history.damage(random, trace)?,
+            14..=16 => history.crash(random, trace),
+            _ => {
+                let (origin, message) = history.message(random);
+                history.request(random, trace, origin, &message)?;
+            }
+        }
     }
     Ok(())
 }
 
 impl History<'_> {
-    fn request(&mut self, random: &mut Random, trace: &mut Trace) -> Result<(), String> {
-        let origin = origin(random, &self.ledger);
-        let session = self.ledger.session(origin);
+    /// The next message and its session.
+    fn message(&self, random: &mut Random) -> (Origin, Vec<u8>) {
+        let origin = origin(random, &self.account.ledger);
+        let session = self.account.ledger.session(origin);
         let message = if session == Session::Fresh && random.percent(70) {
             hello(random)
+        } else if !self.account.ledger.waiting_rows().is_empty() && random.percent(8) {
+            whole(16, random.byte(), &[])
         } else {
             self.pool.message(random)
         };
+        (origin, message)
+    }
+
+    fn request(
+        &mut self,
+        random: &mut Random,
+        trace: &mut Trace,
+        origin: Origin,
+        message: &[u8],
+    ) -> Result<(), String> {
+        let session = self.account.ledger.session(origin);
         let reply_len = reply_len(random);
         trace.note(|| {
             format!(
                 "{origin:?} ({session:?}), reply buffer {reply_len}, message of {}: {}",
                 message.len(),
-                hex(&message)
+                hex(message)
             )
         });
-        let expected = self
-            .ledger
-            .request(origin, &message, reply_len, self.predicted.len());
-        if expected.added {
-            if let Some(row) = self.ledger.rows().last() {
-                row.write(&mut self.predicted);
-                let stored = (row.kind, row.data.clone(), row.score);
-                self.pool.stored.push(stored);
-            }
+        let expected = self.account.request(origin, message, reply_len);
+        if let (Effect::Adds, Some(row)) = (expected.effect, self.account.ledger.rows().last()) {
+            let stored = (row.kind, row.data.clone(), row.score);
+            self.pool.stored.push(stored);
         }
+        let Some(waiting) = self.account.waiting() else {
+            let log = &mut self.second.log;
+            self.compare
+                .base_request(session, message, reply_len, log, &expected)?;
+            self.tested.log.copy_from_slice(&self.second.log);
+            let right = self.account.log();
+            return buffer("the log against the ledger's", &self.second.log, right);
+        };
         self.compare.request(
             self.archive,
             session,
-            &message,
+            message,
             reply_len,
             (&mut self.tested, &mut self.second),
             Some(&expected),
         )?;
-        buffer(
-            "the log against the ledger's",
-            &self.tested,
-            &self.predicted,
-        )
+        let log = self.account.log();
+        buffer("the log against the ledger's", &self.tested.log, log)?;
+        let what = "the waiting part against the ledger's";
+        buffer(what, &self.tested.waiting, waiting)
     }
 
-    fn damage(&mut self, random: &mut Random, trace: &mut Trace) {
-        let changed = damage(random, &mut self.tested);
-        trace.note(|| format!("damage: {}", describe(&self.second, &self.tested)));
-        self.ledger.damage(&changed);
-        self.second.copy_from_slice(&self.tested);
-        self.predicted.copy_from_slice(&self.tested);
+    /// Takes the parts over as the account has them.
+    fn lend_anew(&mut self) {
+        let parts = Parts {
+            log: self.account.log().to_vec(),
+            waiting: self.account.waiting().unwrap_or(&[]).to_vec(),
+        };
+        self.tested = parts.clone();
+        self.second = parts;
+    }
+
+    /// A stop between two requests, or the first lending of a waiting part.
+    fn stop(&mut self, random: &mut Random, trace: &mut Trace) {
+        let waiting = waiting_len(random, self.account.log().len() >= LARGE_LOG * SECTOR);
+        trace.note(|| format!("a stop; waiting part {waiting:?}"));
+        sham_ledger::before_stop(self.archive.broken(), &mut self.account.ledger);
+        self.account.stop(waiting);
+        self.lend_anew();
+    }
+
+    /// The log is lent on with more blank sectors, mostly whole ones.
+    fn grow(&mut self, random: &mut Random, trace: &mut Trace) {
+        let mut length = self.tested.log.len() + random.between(1, 8) * SECTOR;
+        if random.percent(95) {
+            length = length / SECTOR * SECTOR;
+        }
+        trace.note(|| format!("the log grows to {length} bytes"));
+        self.account.grow(length);
+        self.tested.log.resize(length, 0);
+        self.second.log.resize(length, 0);
+    }
+
+    /// Damage, after a sync or a stop if rows wait.
+    fn damage(&mut self, random: &mut Random, trace: &mut Trace) -> Result<(), String> {
+        if !self.account.ledger.waiting_rows().is_empty() {
+            if random.percent(80) {
+                let origin = origin(random, &self.account.ledger);
+                let sync = whole(16, random.byte(), &[]);
+                self.request(random, trace, origin, &sync)?;
+            } else {
+                self.stop(random, trace);
+            }
+        }
+        if !self.account.ledger.waiting_rows().is_empty() {
+            return Ok(());
+        }
+        let log = damaged(random, &self.account);
+        trace.note(|| format!("damage: {}", describe(self.account.log(), &log)));
+        let before = self.account.ledger.changed().clone();
+        self.account.damage(&log);
+        sham_ledger::after_damage(self.archive.broken(), &mut self.account.ledger, before);
+        self.lend_anew();
+        Ok(())
+    }
+
+    /// A stop while the waiting rows, and perhaps one more, are on their way into the log.
+    fn crash(&mut self, random: &mut Random, trace: &mut Trace) {
+        if self.account.waiting().is_none() || random.percent(40) {
+            let (origin, message) = self.message(random);
+            trace.note(|| format!("{origin:?}, never answered: {}", hex(&message)));
+            self.account.begin(origin, &message, LEAST_REPLY);
+        }
+        let mut left = crashed(random, &self.account);
+        let waiting = waiting_len(random, self.account.log().len() >= LARGE_LOG * SECTOR);
+        trace.note(|| {
+            format!(
+                "a stop inside a write: {:?} whole, {:?} torn; waiting part {waiting:?}",
+                left.whole, left.torn
+            )
+        });
+        sham_ledger::before_crash(self.archive.broken(), &mut left);
+        self.account
+            .crash(&left.log, &left.whole, &left.torn, waiting);
+        self.lend_anew();
     }
 }
 
@@ -142,6 +243,24 @@ fn log_len(random: &mut Random) -> usize {
     }
 }
 
+/// Mostly small, so that it fills up; now and then none, the most that is lawful, or not lawful.
+pub fn waiting_len(random: &mut Random, large: bool) -> Option<usize> {
+    if large && random.percent(70) {
+        return Some(random.between(LARGE_LOG, MOST_WAITING) * SECTOR);
+    }
+    let sectors = match random.below(200) {
+        0..=13 => return None,
+        14 => MOST_WAITING + 1,
+        15 => return Some(random.between(1, 40 * SECTOR)),
+        16 => MOST_WAITING,
+        17..=25 => 0,
+        26..=29 => random.between(41, MOST_WAITING),
+        30..=110 => random.between(1, 4),
+        _ => random.between(3, 14),
+    };
+    Some(sectors * SECTOR)
+}
+
 fn reply_len(random: &mut Random) -> usize {
     match random.below(80) {
         0 => random.below(LEAST_REPLY),
@@ -151,19 +270,4 @@ fn reply_len(random: &mut Random) -> usize {
         4..=9 => random.between(LEAST_REPLY, LONGEST_REPLY),
         _ => LEAST_REPLY,
     }
-}
-
-/// Says what damage did.
-fn describe(before: &[u8], after: &[u8]) -> String {
-    let mut text = String::new();
-    for (number, (old, new)) in before.chunks(SECTOR).zip(after.chunks(SECTOR)).enumerate() {
-        let differs: Vec<usize> = (0..old.len()).filter(|&at| old[at] != new[at]).collect();
-        if let (Some(first), Some(last)) = (differs.first(), differs.last()) {
-            text += &format!(
-                "sector {number} in {} bytes, {first} to {last}; ",
-                differs.len()
-            );
-        }
-    }
-    text
 }

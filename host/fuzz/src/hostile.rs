@@ -1,12 +1,14 @@
-//! Logs that nobody wrote honestly: labels that lie, blocks that overlap, sectors out of place.
+//! Logs and waiting parts that nobody wrote honestly: labels that lie, blocks that overlap or lie across
+//! the border, sectors out of place, parts that do not belong together.
 
 use second::kind::KINDS;
-use second::message::LEAST_REPLY;
+use second::log::MOST_WAITING;
+use second::message::{whole, LEAST_REPLY};
 use second::sector::{check, encode, sectors_for, Label, CHECK, PAYLOAD, SECTOR};
 use second::Session;
 
 use crate::archive::Archive;
-use crate::compare::{buffer, hex, number, Compare, Trace};
+use crate::compare::{buffer, hex, number, Compare, Parts, Trace};
 use crate::messages::Pool;
 use crate::random::Random;
 
@@ -17,13 +19,14 @@ pub fn run(
     trace: &mut Trace,
 ) -> Result<(), String> {
     let mut pool = Pool::new(random);
-    let mut tested = log(random, &mut pool, trace);
+    let mut tested = parts_lent(random, &mut pool, trace);
     let mut second = tested.clone();
-    report(archive, compare, &tested, trace)?;
+    report(archive, compare, &tested.log, trace)?;
     for _ in 0..random.between(2, 8) {
-        let message = match random.below(10) {
-            0..=5 => pool.read(random),
-            6..=8 => pool.write(random),
+        let message = match random.below(20) {
+            0..=10 => pool.read(random),
+            11..=16 => pool.write(random),
+            17 => whole(16, random.byte(), &[]),
             _ => pool.message(random),
         };
         trace.note(|| format!("message of {}: {}", message.len(), hex(&message)));
@@ -39,20 +42,64 @@ pub fn run(
     for _ in 0..2 {
         let entry = leaf_entry(random, &pool);
         let offset = random.below(1000) as u64;
-        trace.note(|| format!("locate {} at {offset}", hex(&entry)));
+        trace.note(|| format!("locate and fill {} at {offset}", hex(&entry)));
         let page = [0; 100];
-        let right = second::tree::locate(&tested, &page, &entry, offset);
-        let answer = archive.locate(&tested, &page, &entry, offset);
+        let Parts { log, waiting } = &tested;
+        let right = second::tree::locate(log, waiting, &page, &entry, offset);
+        let answer = archive.locate(log, waiting, &page, &entry, offset);
         compare.call("locate", number(&right), answer, right)?;
+
+        let mut filled = ([0xaa; 600], [0xaa; 600]);
+        let right = second::tree::fill(log, waiting, &entry, offset, &mut filled.1);
+        let answer = archive.fill(log, waiting, &entry, offset, &mut filled.0);
+        compare.call("fill", number(&right.0), answer, right)?;
+        buffer("the filled buffer", &filled.0, &filled.1)?;
+
+        let (root, _) = pool.score(random);
+        trace.note(|| format!("walk {}", hex(&root)));
+        let right = second::walk::walk(log, waiting, &root, 9);
+        let answer = archive.walk(log, waiting, &root, 9);
+        compare.call("walk", number(&right.0), answer, right)?;
     }
     for _ in 0..3 {
-        let sector = random.below(tested.len() / SECTOR + 1);
+        let sector = random.below(tested.log.len() / SECTOR + 1);
         trace.note(|| format!("the sound block at sector {sector}"));
-        let right = second::log::asked_at(&tested, sector);
-        let answer = archive.sound_at(&tested, sector);
+        let right = second::log::asked_at(&tested.log, sector);
+        let answer = archive.sound_at(&tested.log, sector);
         compare.call("sound_at", number(&right), answer, right)?;
     }
-    report(archive, compare, &tested, trace)
+    report(archive, compare, &tested.log, trace)
+}
+
+/// A log and a waiting part: one run of sectors that is cut somewhere, or two that have nothing to do
+/// with each other.
+fn parts_lent(random: &mut Random, pool: &mut Pool, trace: &mut Trace) -> Parts {
+    let mut log = sectors_laid(random, pool, trace);
+    let mut waiting = match random.below(20) {
+        0..=4 => Vec::new(),
+        5 | 6 => vec![0; random.between(1, 6) * SECTOR],
+        7 | 8 => sectors_laid(random, pool, trace),
+        9 => {
+            let count = random.between(1, 4);
+            random.bytes(count * SECTOR)
+        }
+        _ => {
+            let border = random.below(log.len() / SECTOR + 1);
+            log.split_off(border * SECTOR)
+        }
+    };
+    if random.percent(60) {
+        log.resize(log.len() + random.between(1, 12) * SECTOR, 0);
+        waiting.resize(waiting.len() + random.below(5) * SECTOR, 0);
+    }
+    match random.below(100) {
+        0 => waiting.resize(MOST_WAITING * SECTOR, 0),
+        1 => waiting.resize((MOST_WAITING + 1) * SECTOR, 0),
+        2 => waiting.push(random.byte()),
+        _ => {}
+    }
+    trace.note(|| format!("a log of {}, waiting {}", log.len(), waiting.len()));
+    Parts { log, waiting }
 }
 
 fn report(
@@ -80,8 +127,8 @@ fn leaf_entry(random: &mut Random, pool: &Pool) -> Vec<u8> {
     bytes
 }
 
-/// A log of a few sectors, laid out piece by piece.
-fn log(random: &mut Random, pool: &mut Pool, trace: &mut Trace) -> Vec<u8> {
+/// A few sectors, laid out piece by piece, numbered from 0.
+fn sectors_laid(random: &mut Random, pool: &mut Pool, trace: &mut Trace) -> Vec<u8> {
     let sectors = random.between(1, 16);
     let mut log = vec![0; sectors * SECTOR];
     let used = random.between(1, sectors);

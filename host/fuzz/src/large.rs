@@ -1,13 +1,13 @@
 //! The longest blocks in trees: a directory, a pointer block and a leaf.
 
-use second::log::write;
+use second::log::{write, MOST_WAITING};
 use second::message::{whole, LEAST_REPLY};
 use second::sector::{sectors_for, SECTOR};
 use second::sha1::{sha1, Score, ZERO_SCORE};
 use second::Session;
 
 use crate::archive::Archive;
-use crate::compare::{hex, number, Compare, Trace};
+use crate::compare::{hex, number, Compare, Parts, Trace};
 use crate::random::Random;
 use crate::shape::Shape;
 
@@ -58,6 +58,13 @@ pub fn run(
     root.extend(store(2, &directory));
     let root = store(1, &root);
 
+    let border = match random.below(2) {
+        0 => log.len() / SECTOR,
+        _ => random.between(used.saturating_sub(MOST_WAITING), used),
+    };
+    let mut waiting = log.split_off(border * SECTOR);
+    waiting.truncate(MOST_WAITING * SECTOR);
+    let lent = Parts { log, waiting };
     let page = vec![0; random.pick(&[1, 60_000])];
     for _ in 0..4 {
         let pointer = match random.below(3) {
@@ -66,11 +73,12 @@ pub fn run(
         };
         let offset = (pointer * LONGEST + random.below(LONGEST)) as u64;
         trace.note(|| format!("locate {} at {offset}", hex(&entry)));
-        let right = second::tree::locate(&log, &page, &entry, offset);
-        let answer = archive.locate(&log, &page, &entry, offset);
+        let Parts { log, waiting } = &lent;
+        let right = second::tree::locate(log, waiting, &page, &entry, offset);
+        let answer = archive.locate(log, waiting, &page, &entry, offset);
         compare.call("locate", number(&right), answer, right)?;
     }
-    walk_and_read(archive, compare, random, trace, log, &root)
+    walk_and_read(archive, compare, random, trace, lent, &root)
 }
 
 /// Walks from the root and reads a block that nobody stored, half the time after damage past sector
@@ -80,22 +88,27 @@ fn walk_and_read(
     compare: &mut Compare,
     random: &mut Random,
     trace: &mut Trace,
-    mut log: Vec<u8>,
+    mut lent: Parts,
     root: &Score,
 ) -> Result<(), String> {
     if random.percent(50) {
-        let at = random.between(256 * SECTOR, log.len() - 1);
-        log[at] ^= random.mark();
+        let settled = lent.log.len();
+        let at = random.between(256 * SECTOR, settled + lent.waiting.len() - 1);
+        let byte = match at.checked_sub(settled) {
+            None => &mut lent.log[at],
+            Some(at) => &mut lent.waiting[at],
+        };
+        *byte ^= random.mark();
         trace.note(|| format!("byte {at} changed"));
     }
     trace.note(|| format!("walk {}", hex(root)));
-    let right = second::walk::walk(&log, root, 100);
-    let answer = archive.walk(&log, root, 100);
+    let right = second::walk::walk(&lent.log, &lent.waiting, root, 100);
+    let answer = archive.walk(&lent.log, &lent.waiting, root, 100);
     compare.call("walk", number(&right.0), answer, right)?;
     let never = whole(12, 9, &[&random.score()[..], &[13, 0, 0, 9]].concat());
     trace.note(|| format!("message of {}: {}", never.len(), hex(&never)));
-    let mut second = log.clone();
-    let logs = (&mut log[..], &mut second[..]);
-    compare.request(archive, Session::Ready, &never, LEAST_REPLY, logs, None)?;
+    let mut second = lent.clone();
+    let lent = (&mut lent, &mut second);
+    compare.request(archive, Session::Ready, &never, LEAST_REPLY, lent, None)?;
     Ok(())
 }

@@ -1,13 +1,15 @@
 //! Compares an archive with the second program and with the ledger, on random histories, hostile
-//! logs, trees and calls.
+//! logs, trees, calls and cards.
 //!
-//! `fuzz --help` says what it takes. A case is a history with damage, and a hostile log, a tree and
-//! some calls besides.
+//! `fuzz --help` says what it takes. A case is a history with damage, and a hostile log, a tree,
+//! some calls and cards besides.
 
 mod archive;
 mod calls;
+mod cards;
 mod collision;
 mod compare;
+mod crash;
 mod damage;
 #[cfg(test)]
 mod examples;
@@ -18,16 +20,21 @@ mod messages;
 mod plain_log;
 mod progress;
 mod random;
+mod sham_cards;
 mod sham_doubt;
+mod sham_ledger;
 mod sham_texts;
 mod sham_tools;
 mod sham_trees;
+mod sham_waiting;
 mod shams;
 mod shape;
 #[cfg(test)]
 mod texts;
 mod trees;
 mod under_test;
+#[cfg(test)]
+mod waiting;
 
 use std::panic::{catch_unwind, AssertUnwindSafe};
 use std::process::ExitCode;
@@ -43,7 +50,7 @@ const HELP: &str = "\
 fuzz [--seed S] [--cases N] [--seconds T] [--case I] [--only PART] [--plain | --sham NAME | --shams]
 
 Compares an archive with the second program and with the ledger: random histories with damage,
-hostile logs, trees and calls. A case that fails is printed step by step, with the words that repeat
+hostile logs, trees, calls and cards. A case that fails is printed step by step, with the words that repeat
 it, and the status is 1.
   --seed S     the random numbers' seed (default 1)
   --cases N    how many cases (default 20000)
@@ -60,11 +67,12 @@ it, and the status is 1.
 type Part = fn(&mut dyn Archive, &mut Compare, &mut Random, &mut Trace) -> Result<(), String>;
 
 /// The parts, each with its name and of how many cases the last has one.
-const PARTS: [(&str, u64, Part); 6] = [
+const PARTS: [(&str, u64, Part); 7] = [
     ("history", 1, history::run),
     ("hostile", 1, hostile::run),
     ("tree", 2, trees::run),
     ("calls", 1, calls::run),
+    ("cards", 2, cards::run),
     ("large", 500, large::run),
     ("limits", 5_000, calls::limits),
 ];
@@ -235,7 +243,7 @@ fn test(options: &Options) -> bool {
     false
 }
 
-fn tally(counts: &[u64; 24]) -> String {
+fn tally(counts: &[u64; 27]) -> String {
     let seen = counts.iter().enumerate().filter(|(_, count)| **count > 0);
     let words: Vec<String> = seen.map(|(n, count)| format!("{n}:{count}")).collect();
     words.join(" ")

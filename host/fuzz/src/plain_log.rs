@@ -1,8 +1,9 @@
-//! The ordinary Rust log of the speed comparison as an archive under test: its reads and writes are
-//! tried, all else is the second program's.
+//! The ordinary Rust log of the speed comparison as an archive under test: its reads, writes and syncs
+//! are tried, all else is the second program's.
 
-use plain::log::{read, store, Refused, Stored};
-use second::message::{accept, read_reply, refusal, write_reply, Request};
+use plain::log::{read, settle, store, Refused, Stored};
+use second::message::{accept, read_reply, refusal, sync_reply, write_reply, Lent, Request};
+use second::query::Value;
 use second::tree::Run;
 use second::{Refusal, Score, Session};
 
@@ -16,22 +17,32 @@ impl Archive for PlainLog {
         session: Session,
         message: &[u8],
         log: &mut [u8],
+        waiting: &mut [u8],
         reply: &mut [u8],
     ) -> (u8, Session) {
-        let answer = match accept(session, message, reply.len(), log.len()) {
+        let lent = Lent {
+            log: log.len(),
+            waiting: Some(waiting.len()),
+        };
+        let answer = match accept(session, message, reply.len(), lent) {
             Ok(Request::Read { kind, score, count }) => {
                 let mut data = vec![0; count];
-                match read(log, kind, &score, &mut data) {
+                match read(log, waiting, kind, &score, &mut data) {
                     Ok(size) => Ok(read_reply(message[3], &data[..size])),
                     Err(Refused::Number(number)) => Err(Refusal::from(number)),
                     Err(Refused::NotKnown(sector)) => Err(Refusal::not_known(sector)),
                 }
             }
-            Ok(Request::Write { kind, data }) => match store(log, kind, data) {
+            Ok(Request::Write { kind, data }) => match store(log, waiting, kind, data) {
                 Stored::New(score) | Stored::Held(score) => Ok(write_reply(message[3], &score)),
                 Stored::Refused(number) => Err(Refusal::from(number)),
             },
-            _ => return Second.serve(session, message, log, reply),
+            Ok(Request::Sync) => match settle(log, waiting) {
+                Ok(()) => Ok(sync_reply(message[3])),
+                Err(Refused::Number(number)) => Err(Refusal::from(number)),
+                Err(Refused::NotKnown(sector)) => Err(Refusal::not_known(sector)),
+            },
+            _ => return Second.serve(session, message, log, waiting, reply),
         };
         let (number, text) = match answer {
             Ok(text) => (0, text),
@@ -56,24 +67,48 @@ impl Archive for PlainLog {
     fn locate(
         &mut self,
         log: &[u8],
+        waiting: &[u8],
         page: &[u8],
         entry: &[u8],
         offset: u64,
     ) -> Result<Run, Refusal> {
-        Second.locate(log, page, entry, offset)
+        Second.locate(log, waiting, page, entry, offset)
     }
 
     fn fill(
         &mut self,
         log: &[u8],
+        waiting: &[u8],
         entry: &[u8],
         offset: u64,
         buffer: &mut [u8],
     ) -> (Result<(), Refusal>, usize) {
-        Second.fill(log, entry, offset, buffer)
+        Second.fill(log, waiting, entry, offset, buffer)
     }
-    fn walk(&mut self, log: &[u8], score: &Score, allowance: u64) -> (Result<(), Refusal>, u64) {
-        Second.walk(log, score, allowance)
+
+    fn walk(
+        &mut self,
+        log: &[u8],
+        waiting: &[u8],
+        score: &Score,
+        allowance: u64,
+    ) -> (Result<(), Refusal>, u64) {
+        Second.walk(log, waiting, score, allowance)
+    }
+
+    fn search(
+        &mut self,
+        log: &[u8],
+        waiting: &[u8],
+        page: &[u8],
+        entry: &[u8],
+        query: &[u8],
+    ) -> Result<Value, Refusal> {
+        Second.search(log, waiting, page, entry, query)
+    }
+
+    fn is_card(&mut self, bytes: &[u8]) -> bool {
+        Second.is_card(bytes)
     }
 
     fn wire_type(&mut self, number: u64) -> Result<u8, u8> {

@@ -17,23 +17,28 @@ pub fn refuse(refused: u8, message: &[u8], reply: &mut [u8]) {
     reply[..text.len()].copy_from_slice(&text);
 }
 
-/// Serves on an altered copy of the log and takes over what was appended.
+/// Serves on altered copies of both parts and takes over what was written.
 pub fn serve_altered(
     alter: impl Fn(&mut [u8]),
     session: Session,
     message: &[u8],
     log: &mut [u8],
+    waiting: &mut [u8],
     reply: &mut [u8],
 ) -> (u8, Session) {
-    let mut copy = log.to_vec();
-    for sector in copy.chunks_exact_mut(SECTOR) {
-        alter(sector);
-    }
-    let before = copy.clone();
-    let answer = Second.serve(session, message, &mut copy, reply);
-    for at in 0..log.len() {
-        if copy[at] != before[at] {
-            log[at] = copy[at];
+    let altered = |part: &[u8]| {
+        let mut copy = part.to_vec();
+        copy.chunks_exact_mut(SECTOR).for_each(&alter);
+        copy
+    };
+    let before = (altered(log), altered(waiting));
+    let mut copy = before.clone();
+    let answer = Second.serve(session, message, &mut copy.0, &mut copy.1, reply);
+    for (part, copy, before) in [(log, copy.0, before.0), (waiting, copy.1, before.1)] {
+        for at in 0..part.len() {
+            if copy[at] != before[at] {
+                part[at] = copy[at];
+            }
         }
     }
     answer

@@ -1,12 +1,14 @@
 //! Shams: the second program with one rule broken each. The fuzzer has to catch them all.
 
-use second::log::{shaped_at, used, write, Contents};
-use second::message::{accept, read_reply, Request};
+use second::log::{joined, shaped_at, used, write_in, Contents};
+use second::message::{accept, read_reply, write_reply, Lent, Request};
+use second::query::Value;
 use second::sector::{sectors_for, SECTOR};
 use second::tree::Run;
 use second::{Refusal, Score, Session};
 
 use crate::archive::{Archive, Second};
+use crate::sham_cards;
 use crate::sham_doubt;
 use crate::sham_texts::{no_overlong, no_surrogate, no_zero, not_cut_off, not_past_end};
 use crate::sham_tools::{
@@ -14,6 +16,7 @@ use crate::sham_tools::{
     serve_altered, texts_altered, without, Tests,
 };
 use crate::sham_trees;
+use crate::sham_waiting;
 
 /// Makes the enum of broken rules and the list of all.
 macro_rules! broken {
@@ -96,6 +99,48 @@ broken! {
     NotHeldTellsOfSector,
     LocateDropsDoubt,
     WalkDropsDoubt,
+    SyncForgetsLastSector,
+    SyncLeavesWaiting,
+    SyncBlanksUsedAlone,
+    SyncAnsweredAtOnce,
+    SyncAsksRoomForAll,
+    SyncMovesWhatFits,
+    GoodbyeSettles,
+    SettlesWhenFull,
+    WritesToTheLog,
+    WaitingNumberedFromZero,
+    RoomOfWaitingAlone,
+    RoomForgetsWaiting,
+    LooksInLogAlone,
+    LooksInWaitingAlone,
+    JudgesPartsApart,
+    LongWaitingAccepted,
+    RaggedWaitingAccepted,
+    LocateInLogAlone,
+    RunInTheWrongPart,
+    FillFromLogAlone,
+    WalkInLogAlone,
+    StopKeepsWaitingRows,
+    ToldSectorsAdded,
+    WholeRowsLost,
+    TornRowsKept,
+    TornSectorsNotTold,
+    NoLineIsAbsent,
+    NotOfNotKnownIsYes,
+    AndOfNotKnown,
+    OrOfNotKnown,
+    OrBindsTighter,
+    BracketTooDeepAccepted,
+    TwoSpacesAccepted,
+    LongQueryAccepted,
+    NamesInAnyOrder,
+    LastLineUnended,
+    ReservedOnCards,
+    LongCardRead,
+    QueryJudgedFirst,
+    DamagedCardNotKnown,
+    CardDropsDoubt,
+    CardReadInLogAlone,
 }
 
 /// The second program with a rule broken.
@@ -114,131 +159,93 @@ impl Sham {
     }
 }
 
-impl Archive for Sham {
-    fn serve(
-        &mut self,
-        session: Session,
+/// Puts both parts back.
+fn restore(log: &mut [u8], waiting: &mut [u8], before: &(Vec<u8>, Vec<u8>)) {
+    log.copy_from_slice(&before.0);
+    waiting.copy_from_slice(&before.1);
+}
+
+/// Appends a block that is held already, if the waiting part has room.
+fn append(log: &[u8], waiting: &mut [u8], kind: u8, data: &[u8]) {
+    let waits = used(waiting);
+    if waiting.len() / SECTOR - waits >= sectors_for(data.len()) {
+        let first = used(log) + waits;
+        write_in(&mut waiting[waits * SECTOR..], first, kind, data);
+    }
+}
+
+impl Sham {
+    /// An ill-formed message without what the sham does not mind.
+    fn patched(&self, message: &[u8]) -> Vec<u8> {
+        match (self.broken, message[2]) {
+            (Broken::ZeroInTextAccepted, 4) => texts_altered(message, no_zero),
+            (Broken::OverlongAccepted, 4) => texts_altered(message, no_overlong),
+            (Broken::SurrogateAccepted, 4) => texts_altered(message, no_surrogate),
+            (Broken::PastEndAccepted, 4) => texts_altered(message, not_past_end),
+            (Broken::CutOffAccepted, 4) => texts_altered(message, not_cut_off),
+            (Broken::ReadPadIgnored, 12) => without(message, 25),
+            (Broken::WritePadEndIgnored, 14) => without(message, 7),
+            _ => message.to_vec(),
+        }
+    }
+
+    /// What becomes of the right number and session of a request that passed tests 1 to 10.
+    fn answer(
+        &self,
+        (number, after): (u8, Session),
+        request: Request,
         message: &[u8],
-        log: &mut [u8],
+        log: &[u8],
+        waiting: &[u8],
         reply: &mut [u8],
     ) -> (u8, Session) {
-        let before = match self.broken {
-            Broken::StoresNothing
-            | Broken::RoomOffByOne
-            | Broken::WorksOnceThenPretends
-            | Broken::DuplicateAppended
-            | Broken::RefusesEverything => log.to_vec(),
-            _ => Vec::new(),
-        };
-        let request = accept(session, message, reply.len(), log.len());
-        let (number, after) = match self.broken {
-            Broken::NoCheckTest => {
-                return serve_altered(refit, session, message, log, reply);
-            }
-            Broken::CapitalHexAccepted => {
-                return serve_altered(lower_label, session, message, log, reply);
-            }
-            _ if request == Err(6) && message[2] == 4 => {
-                let patched = match self.broken {
-                    Broken::ZeroInTextAccepted => texts_altered(message, no_zero),
-                    Broken::OverlongAccepted => texts_altered(message, no_overlong),
-                    Broken::SurrogateAccepted => texts_altered(message, no_surrogate),
-                    Broken::PastEndAccepted => texts_altered(message, not_past_end),
-                    Broken::CutOffAccepted => texts_altered(message, not_cut_off),
-                    _ => message.to_vec(),
-                };
-                return Second.serve(session, &patched, log, reply);
-            }
-            Broken::ReadPadIgnored if request == Err(6) && message[2] == 12 => {
-                return Second.serve(session, &without(message, 25), log, reply);
-            }
-            Broken::WritePadEndIgnored if request == Err(6) && message[2] == 14 => {
-                return Second.serve(session, &without(message, 7), log, reply);
-            }
-            _ => Second.serve(session, message, log, reply),
-        };
+        let mut put = |text: Vec<u8>| reply[..text.len()].copy_from_slice(&text);
         match (self.broken, request) {
             (Broken::NotHeldWhileDoubtful, _) if number == 12 => {
                 refuse(11, message, reply);
                 return (11, after);
             }
-            (Broken::BlankHoleIsNoDoubt, _) if number == 12 && only_blank_doubts(log) => {
+            (Broken::BlankHoleIsNoDoubt, _)
+                if number == 12 && only_blank_doubts(&joined(log, waiting)) =>
+            {
                 refuse(11, message, reply);
                 return (11, after);
             }
-            (Broken::LastBlockInsteadOfFirst, Ok(Request::Read { kind, score, count }))
+            (Broken::LastBlockInsteadOfFirst, Request::Read { kind, score, count })
                 if number == 0 =>
             {
-                let contents = Contents::of(log);
+                let both = joined(log, waiting);
+                let contents = Contents::of(&both);
                 let last = contents
                     .blocks
                     .iter()
                     .rfind(|block| block.kind == kind && block.score == score);
                 if let Some(block) = last.filter(|block| block.size <= count) {
-                    let text = read_reply(message[3], &block.data(log));
-                    reply[..text.len()].copy_from_slice(&text);
+                    put(read_reply(message[3], &block.data(&both)));
                 }
             }
-            (Broken::DuplicateAppended, Ok(Request::Write { kind, data }))
-                if number == 0 && *log == before =>
-            {
-                let end = used(log);
-                if log.len() / SECTOR - end >= sectors_for(data.len()) {
-                    write(log, end, kind, data);
-                }
-            }
-            (Broken::NoScoreTest, Ok(Request::Read { kind, score, count }))
+            (Broken::NoScoreTest, Request::Read { kind, score, count })
                 if number == 11 || number == 12 =>
             {
-                let found = (0..log.len() / SECTOR)
-                    .filter_map(|at| shaped_at(log, at))
+                let both = joined(log, waiting);
+                let found = (0..both.len() / SECTOR)
+                    .filter_map(|at| shaped_at(&both, at))
                     .find(|block| block.kind == kind && block.score == score);
                 if let Some(block) = found.filter(|block| block.size <= count) {
-                    let text = read_reply(message[3], &block.data(log));
-                    reply[..text.len()].copy_from_slice(&text);
+                    put(read_reply(message[3], &block.data(&both)));
                     return (0, after);
                 }
             }
-            (Broken::StoresNothing, _) => log.copy_from_slice(&before),
-            (Broken::RefusesEverything, Ok(_)) => {
-                log.copy_from_slice(&before);
-                refuse(7, message, reply);
-                return (7, session);
-            }
-            (Broken::AnswersReadsAlike, Ok(Request::Read { .. })) => {
-                let text = read_reply(message[3], b"");
-                reply[..text.len()].copy_from_slice(&text);
+            (Broken::AnswersReadsAlike, Request::Read { .. }) => {
+                put(read_reply(message[3], b""));
                 return (0, after);
             }
-            (Broken::ErrorTagZero, _) if number > 4 => reply[3] = 0,
-            (Broken::RefusalChangesSession, _) if number > 4 => {
-                return (number, Session::Closed);
-            }
-            (Broken::RoomOffByOne, Ok(Request::Write { .. }))
-                if *log != before && used(log) == log.len() / SECTOR =>
-            {
-                log.copy_from_slice(&before);
-                refuse(14, message, reply);
-                return (14, after);
-            }
-            (Broken::WorksOnceThenPretends, _) if *log != before => {
-                if self.stored {
-                    log.copy_from_slice(&before);
-                }
-                self.stored = true;
-            }
-            (Broken::CollisionTakenAsDuplicate, Ok(Request::Write { data, .. }))
-                if number == 15 =>
-            {
-                let text = second::message::write_reply(message[3], &second::sha1::sha1(data));
-                reply[..text.len()].copy_from_slice(&text);
+            (Broken::CollisionTakenAsDuplicate, Request::Write { data, .. }) if number == 15 => {
+                put(write_reply(message[3], &second::sha1::sha1(data)));
                 return (0, after);
             }
-            (Broken::FreshGoodbyeLeavesOpen, Ok(Request::Goodbye)) if session == Session::Fresh => {
-                return (number, session);
-            }
-            (Broken::WritesPastReply, Ok(Request::Ping)) => reply[4] = 0,
-            (Broken::CountOffByOne, Ok(Request::Read { count, .. }))
+            (Broken::WritesPastReply, Request::Ping) => reply[4] = 0,
+            (Broken::CountOffByOne, Request::Read { count, .. })
                 if number == 0 && count > 0 && reply_data(reply) == count =>
             {
                 refuse(13, message, reply);
@@ -247,11 +254,92 @@ impl Archive for Sham {
             _ => {}
         }
         if number == 11 || number == 12 {
-            if let Some(text) = sham_doubt::reply(reply, log, self.broken) {
+            let both = joined(log, waiting);
+            if let Some(text) = sham_doubt::reply(reply, &both, self.broken) {
                 reply[..text.len()].copy_from_slice(&text);
             }
         }
         (number, after)
+    }
+}
+
+impl Archive for Sham {
+    fn broken(&self) -> Option<Broken> {
+        Some(self.broken)
+    }
+
+    fn serve(
+        &mut self,
+        session: Session,
+        message: &[u8],
+        log: &mut [u8],
+        waiting: &mut [u8],
+        reply: &mut [u8],
+    ) -> (u8, Session) {
+        if let Some(answer) =
+            sham_waiting::serve(self.broken, session, message, log, waiting, reply)
+        {
+            return answer;
+        }
+        let lent = Lent {
+            log: log.len(),
+            waiting: Some(waiting.len()),
+        };
+        let request = accept(session, message, reply.len(), lent);
+        match self.broken {
+            Broken::NoCheckTest => {
+                return serve_altered(refit, session, message, log, waiting, reply);
+            }
+            Broken::CapitalHexAccepted => {
+                return serve_altered(lower_label, session, message, log, waiting, reply);
+            }
+            _ if request == Err(6) => {
+                let patched = self.patched(message);
+                return Second.serve(session, &patched, log, waiting, reply);
+            }
+            _ => {}
+        }
+        let before = (log.to_vec(), waiting.to_vec());
+        let right = Second.serve(session, message, log, waiting, reply);
+        let stored = *log != before.0 || *waiting != before.1;
+        let answer = match request {
+            Ok(request) => self.answer(right, request, message, log, waiting, reply),
+            Err(_) => right,
+        };
+        match self.broken {
+            Broken::StoresNothing => {}
+            Broken::FreshGoodbyeLeavesOpen if request == Ok(Request::Goodbye) => {
+                let open = session == Session::Fresh;
+                return (right.0, if open { session } else { right.1 });
+            }
+            Broken::ErrorTagZero if right.0 > 4 => reply[3] = 0,
+            Broken::RefusalChangesSession if right.0 > 4 => return (right.0, Session::Closed),
+            Broken::RefusesEverything if request.is_ok() => {
+                refuse(7, message, reply);
+                restore(log, waiting, &before);
+                return (7, session);
+            }
+            Broken::RoomOffByOne if stored && used(&joined(log, waiting)) == log.len() / SECTOR => {
+                refuse(14, message, reply);
+                restore(log, waiting, &before);
+                return (14, right.1);
+            }
+            Broken::WorksOnceThenPretends if stored => {
+                if !self.stored {
+                    self.stored = true;
+                    return answer;
+                }
+            }
+            Broken::DuplicateAppended => {
+                if let (Ok(Request::Write { kind, data }), 0, false) = (request, right.0, stored) {
+                    append(log, waiting, kind, data);
+                }
+                return answer;
+            }
+            _ => return answer,
+        }
+        restore(log, waiting, &before);
+        answer
     }
 
     fn report(&mut self, log: &[u8], buffer: &mut [u8]) -> Result<usize, u8> {
@@ -311,33 +399,53 @@ impl Archive for Sham {
     fn locate(
         &mut self,
         log: &[u8],
+        waiting: &[u8],
         page: &[u8],
         entry: &[u8],
         offset: u64,
     ) -> Result<Run, Refusal> {
         let answer = match self.broken {
-            Broken::EntryPadEndIgnored => Second.locate(log, page, &without(entry, 13), offset),
-            _ => Second.locate(log, page, entry, offset),
+            Broken::EntryPadEndIgnored => {
+                Second.locate(log, waiting, page, &without(entry, 13), offset)
+            }
+            Broken::LocateInLogAlone => Second.locate(log, &[], page, entry, offset),
+            _ => Second.locate(log, waiting, page, entry, offset),
         };
         let answer = match self.broken {
             Broken::LocateDropsDoubt => answer.map_err(|right| right.number.into()),
-            _ => answer.map_err(|right| sham_doubt::told(right, log, self.broken)),
+            _ => {
+                let told = |right| sham_doubt::told(right, &joined(log, waiting), self.broken);
+                answer.map_err(told)
+            }
         };
+        let answer = sham_waiting::locate(answer, log, self.broken);
         sham_trees::locate(answer, page, entry, offset, self.broken)
     }
 
     fn fill(
         &mut self,
         log: &[u8],
+        waiting: &[u8],
         entry: &[u8],
         offset: u64,
         buffer: &mut [u8],
     ) -> (Result<(), Refusal>, usize) {
-        let answer = Second.fill(log, entry, offset, buffer);
+        let answer = match self.broken {
+            Broken::FillFromLogAlone => Second.fill(log, &[], entry, offset, buffer),
+            _ => Second.fill(log, waiting, entry, offset, buffer),
+        };
         sham_trees::fill(answer, entry, offset, buffer, self.broken)
     }
-    fn walk(&mut self, log: &[u8], score: &Score, allowance: u64) -> (Result<(), Refusal>, u64) {
-        match Second.walk(log, score, allowance) {
+
+    fn walk(
+        &mut self,
+        log: &[u8],
+        waiting: &[u8],
+        score: &Score,
+        allowance: u64,
+    ) -> (Result<(), Refusal>, u64) {
+        match Second.walk(log, waiting, score, allowance) {
+            _ if self.broken == Broken::WalkInLogAlone => Second.walk(log, &[], score, allowance),
             (Ok(()), visits) if self.broken == Broken::InventedVisits && visits > 3 => {
                 (Ok(()), visits - 1)
             }
@@ -346,11 +454,29 @@ impl Archive for Sham {
             }
             refused @ (Err(Refusal { number: 3 | 23, .. }), _) => refused,
             _ => {
-                let (ended, visits) = sham_trees::walk(log, score, allowance, self.broken);
-                let told = |right| sham_doubt::told(right, log, self.broken);
+                let both = joined(log, waiting);
+                let (ended, visits) = sham_trees::walk(&both, score, allowance, self.broken);
+                let told = |right| sham_doubt::told(right, &both, self.broken);
                 (ended.map_err(told), visits)
             }
         }
+    }
+
+    fn search(
+        &mut self,
+        log: &[u8],
+        waiting: &[u8],
+        page: &[u8],
+        entry: &[u8],
+        query: &[u8],
+    ) -> Result<Value, Refusal> {
+        let right = Second.search(log, waiting, page, entry, query);
+        let lent = (log, waiting, page, entry);
+        sham_cards::search(right, lent, query, self.broken)
+    }
+
+    fn is_card(&mut self, bytes: &[u8]) -> bool {
+        sham_cards::lines_of(bytes, self.broken).is_ok()
     }
 
     fn wire_type(&mut self, number: u64) -> Result<u8, u8> {

@@ -79,7 +79,7 @@ fn hello(version: &[u8], uid: &[u8]) -> Vec<u8> {
 fn greet(archive: &mut dyn Archive, session: Session, version: &[u8], uid: &[u8]) -> u8 {
     let mut reply = [0xaa; 57_348];
     let message = hello(version, uid);
-    let (number, after) = archive.serve(session, &message, &mut [], &mut reply);
+    let (number, after) = archive.serve(session, &message, &mut [], &mut [], &mut reply);
     if number != 0 {
         assert_eq!(after, session);
         assert_eq!(
@@ -181,7 +181,13 @@ fn crypto_and_codec_are_any_bytes() {
     for archive in programs {
         let mut reply = [0; 57_348];
         let body = [0, 2, b'0', b'2', 0, 0, 0, 2, 0xc0, 0, 1, 0xff];
-        let (number, _) = archive.serve(Session::Fresh, &whole(4, 9, &body), &mut [], &mut reply);
+        let (number, _) = archive.serve(
+            Session::Fresh,
+            &whole(4, 9, &body),
+            &mut [],
+            &mut [],
+            &mut reply,
+        );
         assert_eq!(number, 0);
     }
 }

@@ -6,7 +6,7 @@ use second::sector::{sectors_for, SECTOR};
 use second::sha1::{sha1, Score, ZERO_SCORE};
 
 use crate::archive::Archive;
-use crate::compare::{buffer, hex, number, Compare, Trace};
+use crate::compare::{buffer, hex, number, Compare, Parts, Trace};
 use crate::random::Random;
 use crate::shape::Shape;
 
@@ -15,7 +15,9 @@ const FEW_VISITS: u64 = 150;
 
 /// A log that grows, and what is in it.
 struct Forest {
+    /// The sectors as they are written, and cut into a log and a waiting part.
     log: Vec<u8>,
+    lent: Parts,
     used: usize,
     held: Vec<(u8, Score)>,
     entries: Vec<Vec<u8>>,
@@ -33,6 +35,10 @@ pub fn run(
     let sizes: &[usize] = if chained { &[24, 30] } else { &[8, 16, 24, 40] };
     let mut forest = Forest {
         log: vec![0; random.pick(sizes) * SECTOR],
+        lent: Parts {
+            log: Vec::new(),
+            waiting: Vec::new(),
+        },
         used: 0,
         held: Vec::new(),
         entries: Vec::new(),
@@ -52,13 +58,19 @@ pub fn run(
     if random.percent(2) {
         forest.log.pop();
     }
+    forest.lend(random);
     trace.note(|| {
         let held: Vec<String> = forest
             .held
             .iter()
             .map(|(kind, score)| format!("{kind}:{}", &hex(score)[..6]))
             .collect();
-        format!("a log of {} with {}", forest.log.len(), held.join(" "))
+        format!(
+            "a log of {}, waiting {}, with {}",
+            forest.lent.log.len(),
+            forest.lent.waiting.len(),
+            held.join(" ")
+        )
     });
     for _ in 0..6 {
         forest.locate(archive, compare, random, trace)?;
@@ -90,6 +102,20 @@ impl Forest {
             self.held.push((kind, score));
         }
         score
+    }
+
+    /// Cuts what was written into a log and a waiting part, perhaps of no sectors.
+    fn lend(&mut self, random: &mut Random) {
+        let mut log = self.log.clone();
+        let border = match random.below(3) {
+            0 => self.log.len(),
+            _ => random.below(self.used + 1) * SECTOR,
+        };
+        let waiting = log.split_off(border.min(log.len()));
+        if random.percent(20) {
+            log.resize(log.len() + SECTOR * random.below(3), 0);
+        }
+        self.lent = Parts { log, waiting };
     }
 
     /// A score for a block of this type that isn't made now: zero, missing or held.
@@ -264,8 +290,9 @@ impl Forest {
             _ => {}
         }
         trace.note(|| format!("locate {} at {offset}, page of {}", hex(&entry), page.len()));
-        let right = second::tree::locate(&self.log, &page, &entry, offset);
-        let answer = archive.locate(&self.log, &page, &entry, offset);
+        let Parts { log, waiting } = &self.lent;
+        let right = second::tree::locate(log, waiting, &page, &entry, offset);
+        let answer = archive.locate(log, waiting, &page, &entry, offset);
         compare.call("locate", number(&right), answer, right)
     }
 
@@ -281,8 +308,9 @@ impl Forest {
         trace.note(|| format!("fill {length} bytes of {} from {offset} on", hex(&entry)));
         let mut tested = vec![0xaa; length];
         let mut second = tested.clone();
-        let right = second::tree::fill(&self.log, &entry, offset, &mut second);
-        let answer = archive.fill(&self.log, &entry, offset, &mut tested);
+        let Parts { log, waiting } = &self.lent;
+        let right = second::tree::fill(log, waiting, &entry, offset, &mut second);
+        let answer = archive.fill(log, waiting, &entry, offset, &mut tested);
         compare.call("fill", number(&right.0), answer, right)?;
         buffer("the filled buffer", &tested, &second)
     }
@@ -307,7 +335,8 @@ impl Forest {
             3..=5 => random.below(20) as u64,
             _ => 1_000_000,
         };
-        let bounded = second::walk::walk(&self.log, &score, allowance.min(FEW_VISITS));
+        let Parts { log, waiting } = &self.lent;
+        let bounded = second::walk::walk(log, waiting, &score, allowance.min(FEW_VISITS));
         if number(&bounded.0) == 21 && allowance <= 1_000_000 {
             allowance = allowance.min(FEW_VISITS);
         }
@@ -316,8 +345,8 @@ impl Forest {
             allowance = bounded.1.saturating_sub(random.below(2) as u64);
         }
         trace.note(|| format!("walk {} with allowance {allowance}", hex(&score)));
-        let right = second::walk::walk(&self.log, &score, allowance);
-        let answer = archive.walk(&self.log, &score, allowance);
+        let right = second::walk::walk(log, waiting, &score, allowance);
+        let answer = archive.walk(log, waiting, &score, allowance);
         compare.call("walk", number(&right.0), answer, right)
     }
 }

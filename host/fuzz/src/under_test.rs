@@ -2,6 +2,7 @@
 
 use crate::archive::Archive;
 use boundary as proved;
+use second::query::Value;
 use second::tree::{Place, Run};
 use second::{Refusal, Score, Session};
 
@@ -30,6 +31,7 @@ impl Archive for Proved {
         session: Session,
         message: &[u8],
         log: &mut [u8],
+        waiting: &mut [u8],
         reply: &mut [u8],
     ) -> (u8, Session) {
         let before = match session {
@@ -37,7 +39,7 @@ impl Archive for Proved {
             Session::Ready => proved::Session::Greeted,
             Session::Closed => proved::Session::Closed,
         };
-        let served = proved::serve(before, message, log, reply);
+        let served = proved::serve(before, message, log, waiting, reply);
         let after = match served.session {
             proved::Session::Fresh => Session::Fresh,
             proved::Session::Greeted => Session::Ready,
@@ -61,38 +63,62 @@ impl Archive for Proved {
     fn locate(
         &mut self,
         log: &[u8],
+        waiting: &[u8],
         page: &[u8],
         entry: &[u8],
         offset: u64,
     ) -> Result<Run, Refusal> {
-        let run = proved::locate(log, page, entry, offset).map_err(refused)?;
-        Ok(match run {
-            proved::Run::Log { at, length } => Run {
-                place: Place::Log,
-                start: at,
-                len: length,
-            },
-            proved::Run::Page { length } => Run {
-                place: Place::Page,
-                start: 0,
-                len: length,
-            },
-        })
+        let run = proved::locate(log, waiting, page, entry, offset).map_err(refused)?;
+        let (place, start, len) = match run {
+            proved::Run::Log { at, length } => (Place::Log, at, length),
+            proved::Run::Waiting { at, length } => (Place::Waiting, at, length),
+            proved::Run::Page { length } => (Place::Page, 0, length),
+        };
+        Ok(Run { place, start, len })
     }
 
     fn fill(
         &mut self,
         log: &[u8],
+        waiting: &[u8],
         entry: &[u8],
         offset: u64,
         buffer: &mut [u8],
     ) -> (Result<(), Refusal>, usize) {
-        let filled = proved::fill(log, entry, offset, buffer);
+        let filled = proved::fill(log, waiting, entry, offset, buffer);
         (filled.outcome.map_err(refused), filled.count)
     }
-    fn walk(&mut self, log: &[u8], score: &Score, allowance: u64) -> (Result<(), Refusal>, u64) {
-        let walked = proved::walk(log, score, allowance);
+
+    fn walk(
+        &mut self,
+        log: &[u8],
+        waiting: &[u8],
+        score: &Score,
+        allowance: u64,
+    ) -> (Result<(), Refusal>, u64) {
+        let walked = proved::walk(log, waiting, score, allowance);
         (walked.outcome.map_err(refused), walked.visits)
+    }
+
+    fn search(
+        &mut self,
+        log: &[u8],
+        waiting: &[u8],
+        page: &[u8],
+        entry: &[u8],
+        query: &[u8],
+    ) -> Result<Value, Refusal> {
+        let answer = proved::search(log, waiting, page, entry, query);
+        let value = answer.map(|value| match value {
+            proved::Value::Yes => Value::Yes,
+            proved::Value::No => Value::No,
+            proved::Value::NotKnown => Value::NotKnown,
+        });
+        value.map_err(refused)
+    }
+
+    fn is_card(&mut self, bytes: &[u8]) -> bool {
+        proved::is_card(bytes)
     }
 
     fn wire_type(&mut self, number: u64) -> Result<u8, u8> {

@@ -1,4 +1,5 @@
-//! The log in ordinary Rust: blocks in labelled, checked sectors, found by looking through them.
+//! The log in ordinary Rust: blocks in labelled, checked sectors, found by looking through them. New
+//! ones wait in a second run of sectors until they are moved behind the others.
 
 use crate::crc32::crc32;
 use crate::sha1::sha1;
@@ -10,6 +11,7 @@ const LABEL: usize = 96;
 const PAYLOAD: usize = 403;
 const CHECK: usize = LABEL + PAYLOAD;
 const MOST_SECTORS: usize = 1_048_576;
+const MOST_WAITING: usize = 256;
 const MOST_DATA: usize = 57_344;
 
 /// The SHA-1 of no bytes.
@@ -56,9 +58,40 @@ struct Block {
     size: usize,
 }
 
-/// Appends data to the log unless it is held.
-pub fn store(log: &mut [u8], kind: u8, data: &[u8]) -> Stored {
-    if !well_sized(log) {
+/// The used part of a log and the sectors that wait, as one log.
+#[derive(Clone, Copy)]
+struct Joined<'a> {
+    settled: &'a [u8],
+    waiting: &'a [u8],
+}
+
+impl<'a> Joined<'a> {
+    fn new(log: &'a [u8], waiting: &'a [u8]) -> Joined<'a> {
+        let settled = &log[..used(log) * SECTOR];
+        Joined { settled, waiting }
+    }
+
+    fn sectors(self) -> impl Iterator<Item = &'a [u8]> {
+        let waiting = self.waiting.chunks_exact(SECTOR);
+        self.settled.chunks_exact(SECTOR).chain(waiting)
+    }
+
+    fn sector(self, number: usize) -> Option<&'a [u8]> {
+        let start = number * SECTOR;
+        match start.checked_sub(self.settled.len()) {
+            None => Some(&self.settled[start..start + SECTOR]),
+            Some(start) => self.waiting.get(start..start + SECTOR),
+        }
+    }
+
+    fn used(self) -> usize {
+        self.settled.len() / SECTOR + used(self.waiting)
+    }
+}
+
+/// Appends data to the sectors that wait, unless it is held.
+pub fn store(log: &[u8], waiting: &mut [u8], kind: u8, data: &[u8]) -> Stored {
+    if !well_sized(log, waiting) {
         return Stored::Refused(3);
     }
     if !lawful(kind) {
@@ -75,26 +108,47 @@ pub fn store(log: &mut [u8], kind: u8, data: &[u8]) -> Stored {
         return Stored::Refused(15);
     }
     let mut held = Vec::new();
-    if find(log, kind, &score, &mut held).is_some() {
+    let joined = Joined::new(log, waiting);
+    if find(joined, kind, &score, &mut held).is_some() {
         return if held == data {
             Stored::Held(score)
         } else {
             Stored::Refused(15)
         };
     }
-    let first = used(log);
-    let rest = &mut log[first * SECTOR..];
-    if rest.len() / SECTOR < data.len().div_ceil(PAYLOAD) {
+    let first = joined.used();
+    let waits = first - joined.settled.len() / SECTOR;
+    let needed = data.len().div_ceil(PAYLOAD);
+    let rest = &mut waiting[waits * SECTOR..];
+    if rest.len() / SECTOR < needed || log.len() / SECTOR < first + needed {
         return Stored::Refused(14);
     }
     append(rest, first, kind, &score, data);
     Stored::New(score)
 }
 
+/// Moves the sectors that wait behind the log's used part. Refuses 3, and 14 where they don't fit.
+pub fn settle(log: &mut [u8], waiting: &mut [u8]) -> Result<(), Refused> {
+    if !well_sized(log, waiting) {
+        return Err(Refused::Number(3));
+    }
+    let (start, length) = (used(log) * SECTOR, used(waiting) * SECTOR);
+    let room = log[start..].get_mut(..length).ok_or(Refused::Number(14))?;
+    room.copy_from_slice(&waiting[..length]);
+    waiting.fill(0);
+    Ok(())
+}
+
 /// Copies the data of a score and type to the front of out and gives its length. Refuses 3, 9,
 /// 11, 12 and, if out is too short, 13.
-pub fn read(log: &[u8], kind: u8, score: &Score, out: &mut [u8]) -> Result<usize, Refused> {
-    if !well_sized(log) {
+pub fn read(
+    log: &[u8],
+    waiting: &[u8],
+    kind: u8,
+    score: &Score,
+    out: &mut [u8],
+) -> Result<usize, Refused> {
+    if !well_sized(log, waiting) {
         return Err(Refused::Number(3));
     }
     if !lawful(kind) {
@@ -104,8 +158,9 @@ pub fn read(log: &[u8], kind: u8, score: &Score, out: &mut [u8]) -> Result<usize
         return Ok(0);
     }
     let mut data = Vec::new();
-    if find(log, kind, score, &mut data).is_none() {
-        return Err(match first_doubtful(log, &mut data) {
+    let joined = Joined::new(log, waiting);
+    if find(joined, kind, score, &mut data).is_none() {
+        return Err(match first_doubtful(joined, &mut data) {
             Some(sector) => Refused::NotKnown(sector),
             None => Refused::Number(11),
         });
@@ -115,8 +170,10 @@ pub fn read(log: &[u8], kind: u8, score: &Score, out: &mut [u8]) -> Result<usize
     Ok(data.len())
 }
 
-fn well_sized(log: &[u8]) -> bool {
-    log.len().is_multiple_of(SECTOR) && log.len() / SECTOR <= MOST_SECTORS
+fn well_sized(log: &[u8], waiting: &[u8]) -> bool {
+    let sized =
+        |part: &[u8], most| part.len().is_multiple_of(SECTOR) && part.len() / SECTOR <= most;
+    sized(log, MOST_SECTORS) && sized(waiting, MOST_WAITING)
 }
 
 fn lawful(kind: u8) -> bool {
@@ -124,11 +181,11 @@ fn lawful(kind: u8) -> bool {
 }
 
 /// The first sound block of a type and score; data is then its bytes.
-fn find(log: &[u8], kind: u8, score: &Score, data: &mut Vec<u8>) -> Option<Block> {
+fn find(log: Joined, kind: u8, score: &Score, data: &mut Vec<u8>) -> Option<Block> {
     let mut wanted = *LINES;
     put(&mut wanted, KIND, &[kind]);
     put(&mut wanted, SCORE, score);
-    log.chunks_exact(SECTOR)
+    log.sectors()
         .enumerate()
         .filter(|(_, sector)| {
             sector[SCORE..LABEL] == wanted[SCORE..] && sector[KIND..SIZE] == wanted[KIND..SIZE]
@@ -137,8 +194,8 @@ fn find(log: &[u8], kind: u8, score: &Score, data: &mut Vec<u8>) -> Option<Block
 }
 
 /// The first sector of the used part that is in no sound block.
-fn first_doubtful(log: &[u8], data: &mut Vec<u8>) -> Option<usize> {
-    let used = used(log);
+fn first_doubtful(log: Joined, data: &mut Vec<u8>) -> Option<usize> {
+    let used = log.used();
     let mut at = 0;
     while at < used {
         match sound(log, at, data) {
@@ -157,9 +214,8 @@ fn used(log: &[u8]) -> usize {
 }
 
 /// The sound block that starts at a sector; data is then its bytes.
-fn sound(log: &[u8], first: usize, data: &mut Vec<u8>) -> Option<Block> {
-    let start = first * SECTOR;
-    let label = &log[start..start + LABEL];
+fn sound(log: Joined, first: usize, data: &mut Vec<u8>) -> Option<Block> {
+    let label = &log.sector(first)?[..LABEL];
     let [kind] = take(label, KIND)?;
     let size = usize::from(u16::from_be_bytes(take(label, SIZE)?));
     let score: Score = take(label, SCORE)?;
@@ -167,11 +223,11 @@ fn sound(log: &[u8], first: usize, data: &mut Vec<u8>) -> Option<Block> {
     if !lawful(kind) || !(1..=MOST_DATA).contains(&size) {
         return None;
     }
-    let run = log.get(start..start + count * SECTOR)?;
 
     let mut expected = block_label(first, kind, size, &score);
     data.clear();
-    for (part, sector) in run.chunks_exact(SECTOR).enumerate() {
+    for part in 0..count {
+        let sector = log.sector(first + part)?;
         put(&mut expected, PART, &(part as u16).to_be_bytes());
         if sector[..LABEL] != expected || sector[CHECK..] != check_line(&sector[..CHECK]) {
             return None;
@@ -185,7 +241,7 @@ fn sound(log: &[u8], first: usize, data: &mut Vec<u8>) -> Option<Block> {
     (sha1(data) == score).then_some(Block { first, size })
 }
 
-/// Writes a block's sectors to the front of the log's rest, which starts at sector `first`.
+/// Writes a block's sectors to the front of the blank ones, which start at sector `first`.
 fn append(rest: &mut [u8], first: usize, kind: u8, score: &Score, data: &[u8]) {
     let mut label = block_label(first, kind, data.len(), score);
     let parts = data.chunks(PAYLOAD).enumerate();

@@ -1,19 +1,28 @@
-//! The log beside the second program's: the same answers and the same bytes.
+//! The log beside the second program's: the same answers and the same bytes in both parts.
 
-use plain::log::{read, store, Refused, Stored};
+use plain::log::{read, settle, store, Refused, Stored};
 use plain::random::Random;
 use plain::sha1::sha1;
 use second::message::whole;
 use second::request::serve;
 use second::Session;
 
-/// The second program's number and reply.
-fn ask(log: &mut [u8], message: &[u8]) -> (u8, Vec<u8>) {
-    let mut reply = vec![0; 57_348];
-    let (number, _) = serve(Session::Ready, message, log, &mut reply);
-    let size = second::message::number(&reply[..2]) + 2;
-    reply.truncate(size);
-    (number, reply)
+/// The second program's log and waiting part.
+struct Twin {
+    log: Vec<u8>,
+    waiting: Vec<u8>,
+}
+
+impl Twin {
+    /// Its number and reply.
+    fn ask(&mut self, message: &[u8]) -> (u8, Vec<u8>) {
+        let mut reply = vec![0; 57_348];
+        let waiting = Some(&mut self.waiting[..]);
+        let (number, _) = serve(Session::Ready, message, &mut self.log, waiting, &mut reply);
+        let size = second::message::number(&reply[..2]) + 2;
+        reply.truncate(size);
+        (number, reply)
+    }
 }
 
 #[test]
@@ -23,35 +32,51 @@ fn same_as_second() {
     let mut bytes = Random::new(9);
     for _ in 0..300 {
         let mut log = vec![0; below(20) * 512];
-        let mut twin = log.clone();
+        let mut waiting = vec![0; below(9) * 512];
+        let mut twin = Twin {
+            log: log.clone(),
+            waiting: waiting.clone(),
+        };
         let pool: Vec<Vec<u8>> = (0..5).map(|_| bytes.bytes(below(1300))).collect();
         for _ in 0..30 {
             let kind = [1, 2, 13, 13, 9, 12][below(6)];
             let data = &pool[below(5)];
             let count = if below(4) == 0 { below(1300) } else { 1300 };
-            match below(8) {
+            match below(9) {
                 0..=2 => {
                     let message = whole(14, 0, &[&[kind, 0, 0, 0], &data[..]].concat());
-                    let (number, _) = ask(&mut twin, &message);
-                    match store(&mut log, kind, data) {
+                    let (number, _) = twin.ask(&message);
+                    match store(&log, &mut waiting, kind, data) {
                         Stored::New(score) | Stored::Held(score) => {
                             assert_eq!((number, score), (0, sha1(data)));
                         }
                         Stored::Refused(refused) => assert_eq!(number, refused),
                     }
                 }
-                3 if !log.is_empty() && below(4) == 0 => {
+                3 => {
+                    let (number, _) = twin.ask(&whole(16, 0, &[]));
+                    let settled = match number {
+                        0 => Ok(()),
+                        number => Err(Refused::Number(number)),
+                    };
+                    assert_eq!(settle(&mut log, &mut waiting), settled);
+                }
+                4 if !log.is_empty() && below(4) == 0 => {
                     let at = below(log.len());
                     log[at] ^= 1 << below(8);
-                    twin[at] = log[at];
+                    twin.log[at] = log[at];
+                }
+                5 if !waiting.is_empty() && below(8) == 0 => {
+                    let at = below(waiting.len());
+                    waiting[at] ^= 1 << below(8);
+                    twin.waiting[at] = waiting[at];
                 }
                 _ => {
                     let score = sha1(data);
                     let end = [kind, 0, (count >> 8) as u8, count as u8];
-                    let (number, reply) =
-                        ask(&mut twin, &whole(12, 0, &[&score[..], &end].concat()));
+                    let (number, reply) = twin.ask(&whole(12, 0, &[&score[..], &end].concat()));
                     let mut out = vec![0; count];
-                    match read(&log, kind, &score, &mut out) {
+                    match read(&log, &waiting, kind, &score, &mut out) {
                         Ok(size) => {
                             assert_eq!(number, 0);
                             assert_eq!(out[..size], reply[4..]);
@@ -65,7 +90,7 @@ fn same_as_second() {
                     }
                 }
             }
-            assert!(log == twin);
+            assert!(log == twin.log && waiting == twin.waiting);
         }
     }
 }

@@ -1,10 +1,10 @@
 //! The ledger: what each answer has to be, from the messages alone. It never looks at a log.
 
 use std::collections::BTreeSet;
+use std::ops::Range;
 
-use crate::log::write;
 use crate::message::{
-    accept, hello_reply, ping_reply, read_reply, refusal, sync_reply, write_reply, Request,
+    accept, hello_reply, ping_reply, read_reply, refusal, sync_reply, write_reply, Lent, Request,
 };
 use crate::refusal::Refusal;
 use crate::sector::{sectors_for, SECTOR};
@@ -22,14 +22,9 @@ pub struct Row {
 }
 
 impl Row {
-    /// One past its last sector.
-    pub fn end(&self) -> usize {
-        self.first + sectors_for(self.data.len())
-    }
-
-    /// Writes its sectors.
-    pub fn write(&self, log: &mut [u8]) {
-        write(log, self.first, self.kind, &self.data);
+    /// The sectors that it covers.
+    pub fn sectors(&self) -> Range<usize> {
+        self.first..self.first + sectors_for(self.data.len())
     }
 }
 
@@ -41,6 +36,16 @@ pub enum Origin {
     After(usize),
 }
 
+/// What a request does to the rows.
+#[derive(Clone, Copy, Debug, PartialEq, Eq)]
+pub enum Effect {
+    Nothing,
+    /// A row is added, the last one: it waits, or is settled at once where no waiting part is lent.
+    Adds,
+    /// An accepted sync: all rows are settled.
+    Settles,
+}
+
 /// What an answer has to be.
 #[derive(Clone, Debug)]
 pub struct Prediction {
@@ -48,8 +53,7 @@ pub struct Prediction {
     /// The front of the reply buffer; the rest of it is unchanged.
     pub reply: Vec<u8>,
     pub session: Session,
-    /// Whether a row was added, which is then the last.
-    pub added: bool,
+    pub effect: Effect,
 }
 
 #[derive(Clone, Debug, Default)]
@@ -57,6 +61,8 @@ pub struct Ledger {
     sessions: Vec<Session>,
     changed: BTreeSet<usize>,
     rows: Vec<Row>,
+    /// How many rows are settled: those after them wait.
+    settled: usize,
 }
 
 impl Ledger {
@@ -73,6 +79,20 @@ impl Ledger {
         &self.rows
     }
 
+    pub fn settled_rows(&self) -> &[Row] {
+        &self.rows[..self.settled]
+    }
+
+    /// The rows added since the last settling.
+    pub fn waiting_rows(&self) -> &[Row] {
+        &self.rows[self.settled..]
+    }
+
+    /// The changed sectors, as they were last told.
+    pub fn changed(&self) -> &BTreeSet<usize> {
+        &self.changed
+    }
+
     /// The session that a message gets.
     pub fn session(&self, origin: Origin) -> Session {
         match origin {
@@ -81,9 +101,30 @@ impl Ledger {
         }
     }
 
-    /// Tells of sectors that damage changed.
-    pub fn damage(&mut self, sectors: &[usize]) {
-        self.changed.extend(sectors);
+    /// Damage: the changed sectors are told anew, in the place of those told before. No row may wait.
+    pub fn damage(&mut self, changed: BTreeSet<usize>) {
+        assert!(self.waiting_rows().is_empty(), "damage while rows wait");
+        self.changed = changed;
+    }
+
+    /// A stop between two requests: the waiting rows are gone.
+    pub fn stop(&mut self) {
+        self.rows.truncate(self.settled);
+    }
+
+    /// A stop while the waiting rows were being written: told which of their sectors arrived whole and
+    /// which are torn. A row that arrived whole is settled. One that did not is gone, and what there is
+    /// of it counts as changed.
+    pub fn crash(&mut self, whole: &BTreeSet<usize>, torn: &BTreeSet<usize>) {
+        for row in self.rows.split_off(self.settled) {
+            if row.sectors().all(|sector| whole.contains(&sector)) {
+                self.rows.push(row);
+            } else {
+                let there = |sector: &usize| whole.contains(sector) || torn.contains(sector);
+                self.changed.extend(row.sectors().filter(there));
+            }
+        }
+        self.settled = self.rows.len();
     }
 
     /// Takes the next message.
@@ -92,24 +133,41 @@ impl Ledger {
         origin: Origin,
         message: &[u8],
         reply_len: usize,
-        log_len: usize,
+        lent: Lent,
+    ) -> Prediction {
+        let prediction = self.begin(origin, message, reply_len, lent);
+        if lent.waiting.is_none() || prediction.effect == Effect::Settles {
+            self.settled = self.rows.len();
+        }
+        self.sessions.push(prediction.session);
+        prediction
+    }
+
+    /// A message that may never be answered: its row, if it adds one, waits to be written.
+    pub fn begin(
+        &mut self,
+        origin: Origin,
+        message: &[u8],
+        reply_len: usize,
+        lent: Lent,
     ) -> Prediction {
         let before = self.session(origin);
-        let rows = self.rows.len();
-        let answer = accept(before, message, reply_len, log_len)
+        let answer = accept(before, message, reply_len, lent)
             .map_err(Refusal::from)
-            .and_then(|request| self.answer(before, request, message[3], log_len));
-        let (number, reply, session) = match answer {
-            Ok((reply, session)) => (0, reply, session),
-            Err(Refusal { number: 1, .. }) => (1, Vec::new(), before),
-            Err(refused) => (refused.number, refusal(&refused, message[3]), before),
+            .and_then(|request| self.answer(before, request, message[3], lent));
+        let (number, reply, session, effect) = match answer {
+            Ok((reply, session, effect)) => (0, reply, session, effect),
+            Err(Refusal { number: 1, .. }) => (1, Vec::new(), before, Effect::Nothing),
+            Err(refused) => {
+                let reply = refusal(&refused, message[3]);
+                (refused.number, reply, before, Effect::Nothing)
+            }
         };
-        self.sessions.push(session);
         Prediction {
             number,
             reply,
             session,
-            added: self.rows.len() > rows,
+            effect,
         }
     }
 
@@ -118,19 +176,18 @@ impl Ledger {
         session: Session,
         request: Request,
         tag: u8,
-        log_len: usize,
-    ) -> Result<(Vec<u8>, Session), Refusal> {
+        lent: Lent,
+    ) -> Result<(Vec<u8>, Session, Effect), Refusal> {
+        let stays = |reply| Ok((reply, session, Effect::Nothing));
         match request {
-            Request::Hello => Ok((hello_reply(tag), Session::Ready)),
-            Request::Ping => Ok((ping_reply(tag), session)),
-            Request::Sync => Ok((sync_reply(tag), session)),
-            Request::Goodbye => Ok((Vec::new(), Session::Closed)),
-            Request::Read { score, .. } if score == ZERO_SCORE => {
-                Ok((read_reply(tag, &[]), session))
-            }
+            Request::Hello => Ok((hello_reply(tag), Session::Ready, Effect::Nothing)),
+            Request::Ping => stays(ping_reply(tag)),
+            Request::Sync => Ok((sync_reply(tag), session, Effect::Settles)),
+            Request::Goodbye => Ok((Vec::new(), Session::Closed, Effect::Nothing)),
+            Request::Read { score, .. } if score == ZERO_SCORE => stays(read_reply(tag, &[])),
             Request::Read { kind, score, count } => match self.first_intact(kind, &score) {
                 Some(row) if row.data.len() > count => Err(13.into()),
-                Some(row) => Ok((read_reply(tag, &row.data), session)),
+                Some(row) => stays(read_reply(tag, &row.data)),
                 None => Err(match self.first_uncovered() {
                     Some(first) => Refusal::not_known(first),
                     None => 11.into(),
@@ -140,28 +197,45 @@ impl Ledger {
                 let score = sha1(data);
                 let row = self.first_intact(kind, &score);
                 if data.is_empty() || row.is_some_and(|row| row.data == data) {
-                    return Ok((write_reply(tag, &score), session));
+                    return stays(write_reply(tag, &score));
                 }
                 if row.is_some() || score == ZERO_SCORE {
                     return Err(15.into());
                 }
-                let first = self.end();
-                if (log_len / SECTOR).saturating_sub(first) < sectors_for(data.len()) {
-                    return Err(14.into());
-                }
-                self.rows.push(Row {
-                    kind,
-                    score,
-                    data: data.to_vec(),
-                    first,
-                });
-                Ok((write_reply(tag, &score), session))
+                self.add(kind, score, data, lent)?;
+                Ok((write_reply(tag, &score), session, Effect::Adds))
             }
         }
     }
 
+    /// Adds a row that starts at the end, or 14.
+    fn add(&mut self, kind: u8, score: Score, data: &[u8], lent: Lent) -> Result<(), u8> {
+        let first = self.end();
+        let sectors = sectors_for(data.len());
+        let left_in_log = (lent.log / SECTOR).saturating_sub(first);
+        let left_waiting = lent.waiting.map_or(usize::MAX, |waiting| {
+            (waiting / SECTOR).saturating_sub(self.waiting_sectors())
+        });
+        if left_in_log < sectors || left_waiting < sectors {
+            return Err(14);
+        }
+        self.rows.push(Row {
+            kind,
+            score,
+            data: data.to_vec(),
+            first,
+        });
+        Ok(())
+    }
+
+    /// How many sectors the waiting rows take.
+    pub fn waiting_sectors(&self) -> usize {
+        let rows = self.waiting_rows().iter();
+        rows.map(|row| row.sectors().len()).sum()
+    }
+
     fn intact(&self, row: &Row) -> bool {
-        self.changed.range(row.first..row.end()).next().is_none()
+        self.changed.range(row.sectors()).next().is_none()
     }
 
     fn first_intact(&self, kind: u8, score: &Score) -> Option<&Row> {
@@ -172,18 +246,18 @@ impl Ledger {
 
     /// One past the last sector covered or changed.
     fn end(&self) -> usize {
-        let covered = self.rows.iter().map(Row::end).max().unwrap_or(0);
+        let covered = self.rows.iter().map(|row| row.sectors().end).max();
         let changed = self.changed.last().map_or(0, |last| last + 1);
-        covered.max(changed)
+        covered.unwrap_or(0).max(changed)
     }
 
     /// The first sector before the end that is in no intact row.
     fn first_uncovered(&self) -> Option<usize> {
-        (0..self.end()).find(|&sector| {
+        (0..self.end()).find(|sector| {
             !self
                 .rows
                 .iter()
-                .any(|row| (row.first..row.end()).contains(&sector) && self.intact(row))
+                .any(|row| row.sectors().contains(sector) && self.intact(row))
         })
     }
 }

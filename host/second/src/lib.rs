@@ -1,17 +1,21 @@
 //! The archive a second time, in ordinary Rust: written from the description alone, as plainly as
 //! it goes, and sharing nothing with the proved code. Its answers are there to be compared with.
 //!
-//! Refusals are the description's numbers, 1 to 23; 0 stands for none. What looks up a block gives 12
+//! Refusals are the description's numbers, 1 to 26; 0 stands for none. What looks up a block gives 12
 //! with the first doubtful sector.
 
+pub mod account;
+pub mod card;
 pub mod crc32;
 pub mod kind;
 pub mod ledger;
 pub mod log;
 pub mod message;
+pub mod query;
 pub mod refusal;
 pub mod report;
 pub mod request;
+pub mod search;
 pub mod sector;
 pub mod sha1;
 pub mod tree;

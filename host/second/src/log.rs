@@ -1,4 +1,4 @@
-//! The log: sound blocks, the used part, doubtful sectors, look-up and storing.
+//! The log and its waiting part: sound blocks, the used part, doubtful sectors, look-up and storing.
 
 use crate::kind::lawful;
 use crate::refusal::Refusal;
@@ -7,6 +7,8 @@ use crate::sha1::{sha1, Score, ZERO_SCORE};
 
 /// The most sectors a log may have.
 pub const MOST_SECTORS: usize = 1_048_576;
+/// The most sectors a waiting part may have.
+pub const MOST_WAITING: usize = 256;
 /// The most bytes a block may have.
 pub const MOST_DATA: usize = 57_344;
 
@@ -38,9 +40,21 @@ impl Block {
     }
 }
 
-/// Test 3: whole sectors, and not too many.
+/// Test 3 of a log alone: whole sectors, and not too many.
 pub fn well_sized(log_len: usize) -> bool {
     log_len.is_multiple_of(SECTOR) && log_len / SECTOR <= MOST_SECTORS
+}
+
+/// Test 3 of all that is lent as sectors, each part by its own limit. None lent is as good as one of no
+/// sectors here.
+pub fn well_lent(log_len: usize, waiting_len: usize) -> bool {
+    let waiting = waiting_len.is_multiple_of(SECTOR) && waiting_len / SECTOR <= MOST_WAITING;
+    well_sized(log_len) && waiting
+}
+
+/// The log's used part and then the waiting part, as one log.
+pub fn joined(log: &[u8], waiting: &[u8]) -> Vec<u8> {
+    [&log[..used(log) * SECTOR], waiting].concat()
 }
 
 /// A sector by its number.
@@ -172,6 +186,11 @@ impl Contents {
 
 /// Writes a block's sectors from a sector on. There must be room.
 pub fn write(log: &mut [u8], first: usize, kind: u8, data: &[u8]) {
+    write_in(&mut log[first * SECTOR..], first, kind, data);
+}
+
+/// Writes a block's sectors to the front of some room, numbered from a sector on.
+pub fn write_in(room: &mut [u8], first: usize, kind: u8, data: &[u8]) {
     let score = sha1(data);
     for (part, payload) in data.chunks(PAYLOAD).enumerate() {
         let label = Label {
@@ -182,7 +201,7 @@ pub fn write(log: &mut [u8], first: usize, kind: u8, data: &[u8]) {
             size: data.len() as u16,
             score,
         };
-        let start = (first + part) * SECTOR;
-        log[start..start + SECTOR].copy_from_slice(&encode(&label, payload));
+        let start = part * SECTOR;
+        room[start..start + SECTOR].copy_from_slice(&encode(&label, payload));
     }
 }

@@ -1,7 +1,7 @@
 //! Messages: their parts, the tests 1 to 10, the replies.
 
 use crate::kind::lawful;
-use crate::log::{well_sized, MOST_DATA};
+use crate::log::{well_lent, MOST_DATA};
 use crate::refusal::Refusal;
 use crate::utf8::characters;
 use crate::Score;
@@ -56,12 +56,20 @@ enum Body<'a> {
     },
 }
 
+/// The lengths of what is lent as sectors.
+#[derive(Clone, Copy, Debug, PartialEq, Eq)]
+pub struct Lent {
+    pub log: usize,
+    /// None where no waiting part is lent: a block then goes to the log itself, settled at once.
+    pub waiting: Option<usize>,
+}
+
 /// Tests 1 to 10, in this order. Refusals 1 to 4 have no reply, all others an error reply.
 pub fn accept(
     session: Session,
     message: &[u8],
     reply_len: usize,
-    log_len: usize,
+    lent: Lent,
 ) -> Result<Request<'_>, u8> {
     if message.len() < 4 || number(&message[..2]) != message.len() - 2 {
         return Err(1);
@@ -69,7 +77,7 @@ pub fn accept(
     if reply_len < LEAST_REPLY {
         return Err(2);
     }
-    if !well_sized(log_len) {
+    if !well_lent(lent.log, lent.waiting.unwrap_or(0)) {
         return Err(3);
     }
     if session == Session::Closed {

@@ -1,7 +1,7 @@
 //! Entries, roots, and reading a file through its tree.
 
 use crate::kind::{DATA, DIRECTORY};
-use crate::log::{well_sized, Block, Contents, Lookup};
+use crate::log::{joined, used, well_lent, Block, Contents, Lookup};
 use crate::message::number;
 use crate::refusal::Refusal;
 use crate::sector::{LABEL, PAYLOAD, SECTOR};
@@ -93,6 +93,7 @@ pub fn root(bytes: &[u8]) -> Result<Score, u8> {
 #[derive(Clone, Copy, Debug, PartialEq, Eq)]
 pub enum Place {
     Log,
+    Waiting,
     Page,
 }
 
@@ -105,8 +106,14 @@ pub struct Run {
 }
 
 /// Where a file's bytes at an offset are, or why not. The page is the blank page.
-pub fn locate(log: &[u8], page: &[u8], bytes: &[u8], offset: u64) -> Result<Run, Refusal> {
-    if !well_sized(log.len()) {
+pub fn locate(
+    log: &[u8],
+    waiting: &[u8],
+    page: &[u8],
+    bytes: &[u8],
+    offset: u64,
+) -> Result<Run, Refusal> {
+    if !well_lent(log.len(), waiting.len()) {
         return Err(3.into());
     }
     if page.is_empty() || page.iter().any(|&byte| byte != 0) {
@@ -117,23 +124,36 @@ pub fn locate(log: &[u8], page: &[u8], bytes: &[u8], offset: u64) -> Result<Run,
         return Err(17.into());
     }
 
-    let leaf = leaf(log, &Contents::of(log), &entry, offset)?;
+    let both = joined(log, waiting);
+    let leaf = leaf(&both, &Contents::of(&both), &entry, offset)?;
     let at = (offset % entry.dsize as u64) as usize;
     let left_in_file = usize::try_from(entry.size - offset).unwrap_or(usize::MAX);
     Ok(match leaf {
-        Some(block) if at < block.size => Run {
-            place: Place::Log,
-            start: (block.first + at / PAYLOAD) * SECTOR + LABEL + at % PAYLOAD,
-            len: (PAYLOAD - at % PAYLOAD)
-                .min(block.size - at)
-                .min(left_in_file),
-        },
+        Some(block) if at < block.size => {
+            let (place, sector) = part_of(block.first + at / PAYLOAD, used(log));
+            Run {
+                place,
+                start: sector * SECTOR + LABEL + at % PAYLOAD,
+                len: (PAYLOAD - at % PAYLOAD)
+                    .min(block.size - at)
+                    .min(left_in_file),
+            }
+        }
         _ => Run {
             place: Place::Page,
             start: 0,
             len: page.len().min(entry.dsize - at).min(left_in_file),
         },
     })
+}
+
+/// In which part a sector of the joined log lies, and its number there.
+fn part_of(sector: usize, used: usize) -> (Place, usize) {
+    if sector < used {
+        (Place::Log, sector)
+    } else {
+        (Place::Waiting, sector - used)
+    }
 }
 
 /// The leaf in which an offset lies, none below a zero score. Refuses 11, 12, 13 and 18.
@@ -165,11 +185,12 @@ fn leaf(
 /// bytes were written to its front.
 pub fn fill(
     log: &[u8],
+    waiting: &[u8],
     bytes: &[u8],
     offset: u64,
     buffer: &mut [u8],
 ) -> (Result<(), Refusal>, usize) {
-    if !well_sized(log.len()) {
+    if !well_lent(log.len(), waiting.len()) {
         return (Err(3.into()), 0);
     }
     let entry = match entry(bytes) {
@@ -180,7 +201,8 @@ pub fn fill(
         return (Err(17.into()), 0);
     }
 
-    let contents = Contents::of(log);
+    let both = joined(log, waiting);
+    let contents = Contents::of(&both);
     let dsize = entry.dsize as u64;
     let mut data = Vec::new();
     for (count, byte) in buffer.iter_mut().enumerate() {
@@ -189,8 +211,8 @@ pub fn fill(
             return (Ok(()), count);
         }
         if count == 0 || at.is_multiple_of(dsize) {
-            data = match leaf(log, &contents, &entry, at) {
-                Ok(leaf) => leaf.map_or_else(Vec::new, |block| block.data(log)),
+            data = match leaf(&both, &contents, &entry, at) {
+                Ok(leaf) => leaf.map_or_else(Vec::new, |block| block.data(&both)),
                 Err(refusal) => return (Err(refusal), count),
             };
         }

@@ -1,7 +1,7 @@
 //! Walking a tree from its root.
 
 use crate::kind;
-use crate::log::{well_sized, Contents};
+use crate::log::{joined, well_lent, Contents};
 use crate::refusal::Refusal;
 use crate::tree::{active, entry, find, root, Entry, ENTRY, ROOT};
 use crate::Score;
@@ -11,17 +11,23 @@ pub const MOST_VISITS: u64 = 1_000_000;
 /// The deepest nest of directories.
 pub const MOST_NESTED: u32 = 16;
 
-/// Walks from a root score. Gives how it ended, and the visits spent.
-pub fn walk(log: &[u8], score: &Score, allowance: u64) -> (Result<(), Refusal>, u64) {
-    if !well_sized(log.len()) {
+/// Walks from a root score over a log and its waiting part. Gives how it ended, and the visits spent.
+pub fn walk(
+    log: &[u8],
+    waiting: &[u8],
+    score: &Score,
+    allowance: u64,
+) -> (Result<(), Refusal>, u64) {
+    if !well_lent(log.len(), waiting.len()) {
         return (Err(3.into()), 0);
     }
     if allowance > MOST_VISITS {
         return (Err(23.into()), 0);
     }
+    let log = joined(log, waiting);
     let mut walk = Walk {
+        contents: Contents::of(&log),
         log,
-        contents: Contents::of(log),
         allowance,
         spent: 0,
     };
@@ -29,14 +35,15 @@ pub fn walk(log: &[u8], score: &Score, allowance: u64) -> (Result<(), Refusal>, 
     (ended, walk.spent)
 }
 
-struct Walk<'a> {
-    log: &'a [u8],
+struct Walk {
+    /// Both parts as one log.
+    log: Vec<u8>,
     contents: Contents,
     allowance: u64,
     spent: u64,
 }
 
-impl Walk<'_> {
+impl Walk {
     /// A visit: the data of a block.
     fn visit(
         &mut self,
@@ -53,7 +60,7 @@ impl Walk<'_> {
         }
         self.spent += 1;
         Ok(match find(&self.contents, kind, score, count)? {
-            Some(block) => block.data(self.log),
+            Some(block) => block.data(&self.log),
             None => Vec::new(),
         })
     }

@@ -3,7 +3,7 @@
 
 use second::crc32::crc32;
 use second::ledger::{Ledger, Origin};
-use second::message::whole;
+use second::message::{whole, Lent};
 use second::report::print;
 use second::request::serve;
 use second::sector::{encode, fits, label, sectors_for, Label, SECTOR};
@@ -20,7 +20,7 @@ fn hex(bytes: &[u8]) -> String {
 /// Serves one message in a session after a hello; gives the number and the reply's front.
 fn ask(log: &mut [u8], message: &[u8]) -> (u8, Vec<u8>) {
     let mut reply = vec![0xaa; 57_348];
-    let (number, session) = serve(Session::Ready, message, log, &mut reply);
+    let (number, session) = serve(Session::Ready, message, log, None, &mut reply);
     assert_eq!(session, Session::Ready);
     let size = usize::from(reply[0]) * 256 + usize::from(reply[1]) + 2;
     assert!(reply[size..].iter().all(|&byte| byte == 0xaa));
@@ -96,6 +96,10 @@ fn ledger_and_archive_agree_after_damage() {
     let mut log = vec![0; 3 * SECTOR];
     let mut reply = vec![0; 57_348];
     let mut ledger = Ledger::new();
+    let lent = Lent {
+        log: log.len(),
+        waiting: None,
+    };
     let mut session = Session::Fresh;
     let mut origin = Origin::Fresh;
     let list = [
@@ -107,17 +111,17 @@ fn ledger_and_archive_agree_after_damage() {
         write(13, b"three"),
     ];
     for (i, message) in list.iter().enumerate() {
-        let expected = ledger.request(origin, message, reply.len(), log.len());
-        let (number, after) = serve(session, message, &mut log, &mut reply);
+        let expected = ledger.request(origin, message, reply.len(), lent);
+        let (number, after) = serve(session, message, &mut log, None, &mut reply);
         assert_eq!((number, after), (expected.number, expected.session));
         assert_eq!(reply[..expected.reply.len()], expected.reply);
         session = after;
         origin = Origin::After(i);
     }
     log[2 * SECTOR - 1] = 7;
-    ledger.damage(&[1]);
+    ledger.damage([1].into());
     let message = read(13, b"two", 3);
-    let expected = ledger.request(origin, &message, 57_348, log.len());
+    let expected = ledger.request(origin, &message, 57_348, lent);
     assert_eq!(expected.number, 12);
     assert!(expected.reply.ends_with(b"why=12 at=00000001"));
     assert_eq!(ask(&mut log, &message), (12, expected.reply));

@@ -34,6 +34,8 @@ fn bytes_of_file(from: usize, len: usize) -> Vec<u8> {
 
 struct Trees {
     log: Vec<u8>,
+    /// The bytes that are the log when it is read; those behind them wait.
+    settled: usize,
     lines: String,
 }
 
@@ -105,11 +107,13 @@ impl Trees {
     /// The answer at an offset; the run's length.
     fn read_at(&mut self, page: usize, entry: &[u8], offset: u64) -> usize {
         let page = vec![0; page];
-        let (number, place, bytes) = match locate(&self.log, &page, entry, offset) {
+        let (log, waiting) = self.log.split_at(self.settled);
+        let (number, place, bytes) = match locate(log, waiting, &page, entry, offset) {
             Ok(run) => {
                 let (name, buffer) = match run.place {
-                    Place::Log => ("log", &self.log),
-                    Place::Page => ("page", &page),
+                    Place::Log => ("log", log),
+                    Place::Waiting => ("waiting", waiting),
+                    Place::Page => ("page", &page[..]),
                 };
                 let place = format!(" from={name} start={}", run.start);
                 (0, place, buffer[run.start..run.start + run.len].to_vec())
@@ -138,7 +142,8 @@ impl Trees {
 
     /// The answer of a walk; its visits.
     fn walk_with(&mut self, root: &Score, allowance: u64) -> u64 {
-        let (ended, visits) = walk(&self.log, root, allowance);
+        let (log, waiting) = self.log.split_at(self.settled);
+        let (ended, visits) = walk(log, waiting, root, allowance);
         let number = ended.map_or_else(|refused| refused.number, |()| 0);
         writeln!(
             self.lines,
@@ -231,6 +236,24 @@ impl Trees {
         self.walk_with(&outer, 1000);
     }
 
+    /// A tree of which the first five sectors are the log and all others wait, then with damage there.
+    fn waiting(&mut self) {
+        self.begin("waiting");
+        let top = self.whole_tree(2);
+        let entry = self.entry(5, ACTIVE | depth(2), 45, &top);
+        let directory = self.put(DIRECTORY, &entry);
+        let root = self.root(&directory, &[0; 20], 278);
+        self.settled = 5 * SECTOR;
+        for hurt in [false, true] {
+            if hurt {
+                self.damage(7);
+            }
+            self.read(64, &entry, 5, 45);
+            self.walk(&root);
+        }
+        self.settled = self.log.len();
+    }
+
     fn damaged(&mut self, name: &str, sector: usize) {
         self.begin(name);
         let top = self.whole_tree(2);
@@ -301,6 +324,7 @@ impl Trees {
 fn the_program_prints_these_lines() {
     let mut trees = Trees {
         log: vec![0; 127 * SECTOR],
+        settled: 127 * SECTOR,
         lines: String::new(),
     };
     trees.depth_0("wide_leaf", 500, 450);
@@ -311,6 +335,7 @@ fn the_program_prints_these_lines() {
     trees.whole(3, 131);
     trees.zero_scores();
     trees.directories();
+    trees.waiting();
     trees.damaged("damaged_leaf", 4);
     trees.damaged("damaged_pointer", 9 + 1);
     trees.nest(16);

@@ -5,6 +5,9 @@ use Rattle.append.proofs.Images.{block-written}
 use Rattle.append.proofs.append_block.Statement.{statement}
 use Rattle.append.proofs.append_block.Tie as tie
 
+sub-at : tie.Need-sub-at
+sub-at c = search needs
+
 mul-at : tie.Need-mul-at
 mul-at c = search needs
 
@@ -25,14 +28,16 @@ same-length c = search needs
 
 returns : tie.Need-returns
 returns c =
-    let s = c .before .before .before .before .before .before .before .before in
+    let s = c .before .before .before .before .before .before .before .before .before in
     let a = s .args in
-    block-written (a .log .now) _ (rowOf (a .kind) (a .score .now) (a .«data» .now) (a .first .0)) (s .pre .1) (s .pre .2) (c .before .before .write-parts .ensures)
+    block-written (a .from .0) (a .part .now) _ (rowOf (a .kind) (a .score .now) (a .«data» .now) (a .first .0)) (s .pre .1) (s .pre .3)
+    (c .before .before .write-parts .ensures)
 
 pub append-block-spec : {M : Type 1} → statement M
 append-block-spec =
     tie.close
     (tie.spec
+    sub-at
     mul-at
     sub-write-parts
     part-write-parts-start

@@ -12,7 +12,7 @@ same-length : tie.Need-same-length
 same-length c = search needs
 
 returns : tie.Need-returns
-returns c = λ log. outcome _ _ _ log _ _ refl (bodiless _ _ _ _ (c .before .before .write-head .ensures))
+returns c = λ log w. outcome _ _ _ log w _ _ refl (bodiless _ _ _ _ (c .before .before .write-head .ensures))
 
 pub acknowledge-spec : {M : Type 1} → statement M
 acknowledge-spec = tie.close (tie.spec write-head-requires same-length returns)

@@ -3,7 +3,8 @@ use mathlib.Core.Path.{_≡_, refl, sym, ap, _∙_}
 use native.Mathlib.Omega.{arith}
 use lib.ListN.{length}
 use Rattle.log.specs.declared.Stored.{Stored}
-use Rattle.archive.specs.Step.{written}
+use Rattle.log.specs.Parts.{beside}
+use Rattle.request.specs.Step.{written}
 use Rattle.archive.proofs.Laws.{outcome, kept}
 use borrow.Author.Needs.{needs}
 use Rattle.archive.proofs.answer_store.Statement.{statement}
@@ -19,9 +20,10 @@ same-length : tie.Need-same-length
 same-length c = search needs
 
 returns : tie.Need-returns
-returns c = λ log.
-    (c .before .before .refuse .ensures) log
-    ∙ ap (λ (s : Stored). written s (c .before .before .before .before .before .before .before .before .before .args .tag) ((c .before .before .before .before .before .before .before .before .before .args .receipt .score)) log (c .before .before .before .before .before .before .before .before .before .args .reply .now)) (sym (c .before .before .before .before .before .stored .given .1))
+returns c = λ log w.
+    let a = c .before .before .before .before .before .before .before .before .before .args in
+    (c .before .before .refuse .ensures) log w
+    ∙ ap (λ (s : Stored). written s (a .tag) (a .receipt .score) (beside log w) (a .reply .now)) (sym (c .before .before .before .before .before .stored .given .1))
 
 slice-aggregate-write-reply : tie.Need-slice-aggregate-write-reply
 slice-aggregate-write-reply c = search needs
@@ -35,7 +37,10 @@ same-length-2 : tie.Need-same-length-2
 same-length-2 c = search needs
 
 returns-2 : tie.Need-returns-2
-returns-2 c = λ log. outcome _ _ _ log _ _ refl (c .before .before .write-reply .ensures) ∙ kept ((c .before .before .before .before .before .before .before .before .args .receipt .stored)) _ _ log _ (c .before .before .before .before .before .match .keys2)
+returns-2 c = λ log w.
+    let a = c .before .before .before .before .before .before .before .before .args in
+    outcome _ _ _ log w _ _ refl (c .before .before .write-reply .ensures)
+    ∙ kept (a .receipt .stored) _ _ (beside log w) _ (c .before .before .before .before .before .match .keys2)
 
 pub answer-store-spec : {M : Type 1} → statement M
 answer-store-spec =

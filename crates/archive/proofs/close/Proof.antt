@@ -4,7 +4,7 @@ use Rattle.archive.proofs.close.Statement.{statement}
 use Rattle.archive.proofs.close.Tie as tie
 
 returns : tie.Need-returns
-returns c = λ log buffer. refl
+returns c = λ log w buffer. refl
 
 pub close-spec : {M : Type 1} → statement M
 close-spec = tie.close (tie.spec returns)

@@ -14,7 +14,7 @@ same-length : tie.Need-same-length
 same-length c = search needs
 
 returns : tie.Need-returns
-returns c = λ log. outcome _ _ _ log _ _ (c .number .ensures) (c .before .before .before .write-error .ensures)
+returns c = λ log w. outcome _ _ _ log w _ _ (c .number .ensures) (c .before .before .before .write-error .ensures)
 
 pub refuse-spec : {M : Type 1} → statement M
 refuse-spec = tie.close (tie.spec write-error-requires number-requires same-length returns)

@@ -9,7 +9,7 @@ number-requires : tie.Need-number-requires
 number-requires c κs = search needs
 
 returns : tie.Need-returns
-returns c = λ log buffer. outcome _ _ _ log buffer buffer (c .number .ensures) refl
+returns c = λ log w buffer. outcome _ _ _ log w buffer buffer (c .number .ensures) refl
 
 pub refuse-silently-spec : {M : Type 1} → statement M
 refuse-silently-spec = tie.close (tie.spec number-requires returns)

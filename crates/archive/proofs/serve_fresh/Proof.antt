@@ -1,6 +1,7 @@
 -- `archive::serve_fresh` meets its contract: a case for each request.
 use mathlib.Core.Path.{refl}
-use Rattle.archive.specs.Step.{fresh}
+use Rattle.log.specs.Parts.{beside}
+use Rattle.request.specs.Step.{fresh}
 use Rattle.archive.proofs.Laws.{fresh-as}
 use borrow.Author.Needs.{needs}
 use Rattle.archive.proofs.serve_fresh.Statement.{statement}
@@ -65,52 +66,52 @@ same-length c = search needs
 
 returns : tie.Need-returns
 unfolding fresh
-returns c = λ log. fresh-as _ log _ _ _ _ _ (c .before .before .before .before .before .before .parse .ensures) (c .before .before .before .before .enum-told .given .1) (c .before .before .before .before .before .before .before .tag-of .ensures) ((c .before .before .refuse .ensures) log)
+returns c = λ log w. fresh-as _ (beside log w) _ _ _ _ _ (c .before .before .before .before .before .before .parse .ensures) (c .before .before .before .before .enum-told .given .1) (c .before .before .before .before .before .before .before .tag-of .ensures) ((c .before .before .refuse .ensures) log w)
 
 same-length-2 : tie.Need-same-length-2
 same-length-2 c = search needs
 
 returns-2 : tie.Need-returns-2
 unfolding fresh
-returns-2 c = λ log. fresh-as _ log _ _ _ _ _ (c .before .before .before .before .before .before .parse .ensures) (c .before .before .before .before .enum-told2 .given .1) (c .before .before .before .before .before .before .before .tag-of .ensures) ((c .before .before .refuse2 .ensures) log)
+returns-2 c = λ log w. fresh-as _ (beside log w) _ _ _ _ _ (c .before .before .before .before .before .before .parse .ensures) (c .before .before .before .before .enum-told2 .given .1) (c .before .before .before .before .before .before .before .tag-of .ensures) ((c .before .before .refuse2 .ensures) log w)
 
 returns-3 : tie.Need-returns-3
 unfolding fresh
-returns-3 c = λ log. fresh-as _ log _ _ _ _ _ (c .before .before .before .parse .ensures) (c .before .enum-told3 .given .1) (c .before .before .before .before .tag-of .ensures) ((c .close .ensures) log (c .before .before .before .before .before .before .before .args .reply .now))
+returns-3 c = λ log w. fresh-as _ (beside log w) _ _ _ _ _ (c .before .before .before .parse .ensures) (c .before .enum-told3 .given .1) (c .before .before .before .before .tag-of .ensures) ((c .close .ensures) log w (c .before .before .before .before .before .before .before .args .reply .now))
 
 same-length-3 : tie.Need-same-length-3
 same-length-3 c = search needs
 
 returns-4 : tie.Need-returns-4
-returns-4 c = λ log. fresh-as _ log _ _ _ _ _ (c .before .before .before .before .before .before .parse .ensures) (c .before .before .before .before .enum-told4 .given .1) refl ((c .before .before .greet .ensures) log)
+returns-4 c = λ log w. fresh-as _ (beside log w) _ _ _ _ _ (c .before .before .before .before .before .before .parse .ensures) (c .before .before .before .before .enum-told4 .given .1) refl ((c .before .before .greet .ensures) log w)
 
 same-length-4 : tie.Need-same-length-4
 same-length-4 c = search needs
 
 returns-5 : tie.Need-returns-5
 unfolding fresh
-returns-5 c = λ log. fresh-as _ log _ _ _ _ _ (c .before .before .before .before .before .before .parse .ensures) (c .before .before .before .before .enum-told5 .given .1) (c .before .before .before .before .before .before .before .tag-of .ensures) ((c .before .before .refuse3 .ensures) log)
+returns-5 c = λ log w. fresh-as _ (beside log w) _ _ _ _ _ (c .before .before .before .before .before .before .parse .ensures) (c .before .before .before .before .enum-told5 .given .1) (c .before .before .before .before .before .before .before .tag-of .ensures) ((c .before .before .refuse3 .ensures) log w)
 
 same-length-5 : tie.Need-same-length-5
 same-length-5 c = search needs
 
 returns-6 : tie.Need-returns-6
 unfolding fresh
-returns-6 c = λ log. fresh-as _ log _ _ _ _ _ (c .before .before .before .before .before .before .parse .ensures) (c .before .before .before .before .enum-told6 .given .1) (c .before .before .before .before .before .before .before .tag-of .ensures) ((c .before .before .refuse4 .ensures) log)
+returns-6 c = λ log w. fresh-as _ (beside log w) _ _ _ _ _ (c .before .before .before .before .before .before .parse .ensures) (c .before .before .before .before .enum-told6 .given .1) (c .before .before .before .before .before .before .before .tag-of .ensures) ((c .before .before .refuse4 .ensures) log w)
 
 same-length-6 : tie.Need-same-length-6
 same-length-6 c = search needs
 
 returns-7 : tie.Need-returns-7
 unfolding fresh
-returns-7 c = λ log. fresh-as _ log _ _ _ _ _ (c .before .before .before .before .before .before .parse .ensures) (c .before .before .before .before .enum-told7 .given .1) (c .before .before .before .before .before .before .before .tag-of .ensures) ((c .before .before .refuse5 .ensures) log)
+returns-7 c = λ log w. fresh-as _ (beside log w) _ _ _ _ _ (c .before .before .before .before .before .before .parse .ensures) (c .before .before .before .before .enum-told7 .given .1) (c .before .before .before .before .before .before .before .tag-of .ensures) ((c .before .before .refuse5 .ensures) log w)
 
 same-length-7 : tie.Need-same-length-7
 same-length-7 c = search needs
 
 returns-8 : tie.Need-returns-8
 unfolding fresh
-returns-8 c = λ log. fresh-as _ log _ _ _ _ _ (c .before .before .before .before .before .before .parse .ensures) (c .before .before .before .before .enum-told8 .given .1) (c .before .before .before .before .before .before .before .tag-of .ensures) ((c .before .before .refuse6 .ensures) log)
+returns-8 c = λ log w. fresh-as _ (beside log w) _ _ _ _ _ (c .before .before .before .before .before .before .parse .ensures) (c .before .before .before .before .enum-told8 .given .1) (c .before .before .before .before .before .before .before .tag-of .ensures) ((c .before .before .refuse6 .ensures) log w)
 
 pub serve-fresh-spec : {M : Type 1} → statement M
 serve-fresh-spec =

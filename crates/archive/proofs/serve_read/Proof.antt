@@ -1,12 +1,14 @@
--- `archive::serve_read` meets its contract: a case for each return.
+-- `archive::serve_read` meets its contract: a case for each return. The log of both parts is read from the border on that was chosen.
 use mathlib.Core.Path.{refl, sym, ap, _∙_}
 use native.Mathlib.Omega.{arith}
 use lib.ListN.{length}
 use borrow.Author.Tests.{not-true, not-false}
 use Rattle.message.proofs.Requests.{read-length, read-score}
-use Rattle.log.specs.LookUp.{lookUp, counted}
+use Rattle.block.specs.Log.{joined}
+use Rattle.block.proofs.Joined.{sectors-joined}
+use Rattle.log.specs.LookUp.{lookUp}
+use Rattle.log.specs.Parts.{beside}
 use Rattle.log.proofs.Counted.{counted-found}
-use Rattle.log.proofs.Parts.{look-up-alone}
 use Rattle.archive.proofs.Held.{found-within, found-most}
 use Rattle.archive.proofs.Laws.{read-kind, read-refused, read-found, read-as}
 use borrow.Author.Needs.{needs}
@@ -14,7 +16,7 @@ use Rattle.archive.proofs.serve_read.Statement.{statement}
 use Rattle.archive.proofs.serve_read.Tie as tie
 
 tag-of-requires : tie.Need-tag-of-requires
-tag-of-requires c κs = omega (arith, read-length _ _ _ (c .before .before .before .pre .0))
+tag-of-requires c κs = omega (arith, read-length _ _ _ (c .before .before .before .before .pre .0))
 
 is-lawful-requires : tie.Need-is-lawful-requires
 is-lawful-requires c κs = search needs
@@ -27,33 +29,32 @@ same-length c = search needs
 
 returns : tie.Need-returns
 returns c =
-    let k = c .before .before .before .before in
-    let t = k .before .before in
-    let a = t .before .before .before .before .args in
-    read-as (a .message .now) (a .log .now) _ _ _ (t .tag-of .ensures) (a .kind) (a .count) _ refl
-    (c .before .before .refuse .ensures (a .log .now) ∙ read-kind _ _ _ _ _ _ _ (k .before .is-lawful .ensures) (not-true _ (k .if1 .taken)))
+    let a = c .before .before .before .before .before .before .before .before .before .before .before .args in
+    read-as (a .message .now) (beside (a .log .now) (a .waiting .now)) _ _ _ (c .before .before .before .before .before .before .tag-of .ensures) (a .kind) (a .count) _ refl
+    (c .before .before .refuse .ensures _ _ ∙ read-kind _ _ _ _ _ _ _ (c .before .before .before .before .before .is-lawful .ensures) (not-true _ (c .before .before .before .before .if1 .taken)))
 
-slice-aggregate-fetch : tie.Need-slice-aggregate-fetch
-slice-aggregate-fetch c = search needs
+border-requires : tie.Need-border-requires
+border-requires c κs = search needs
 
 score-of-requires : tie.Need-score-of-requires
-score-of-requires c κs = omega (arith, read-length _ _ _ (c .before .before .before .before .before .before .before .pre .0))
+score-of-requires c κs = omega (arith, read-length _ _ _ (c .before .before .before .before .before .before .before .before .pre .0))
 
 fetch-requires : tie.Need-fetch-requires
-fetch-requires c κs = ap length (c .score-of .ensures) ∙ read-score _ _ _ (c .before .before .before .before .before .before .before .before .pre .0)
+fetch-requires c κs =
+    (c .before .border .ensures .0, ap length (c .score-of .ensures) ∙ read-score _ _ _ (c .before .before .before .before .before .before .before .before .before .pre .0))
 
 enum-known-look : tie.Need-enum-known-look
 enum-known-look c = search needs
 
 answer-read-requires : tie.Need-answer-read-requires
 answer-read-requires c κs =
-    let f = c .before .before .before .before in
-    let s = f .before .score-of .result .now in
-    let start = f .before .before .before .before .before .before .before .before .before in
-    let a = start .args in
-    let g = f .fetch .ensures ∙ ap (counted (a .count)) (look-up-alone (a .log .now) (a .kind) s) in
-    let e = (counted-found (a .count) (lookUp (a .log .now) (a .kind) s) _ _ (sym g ∙ c .before .before .look .given .1)) .0 in
-    (found-within (a .log .now) (a .kind) s _ _ e, found-most (a .log .now) (a .kind) s _ _ e, start .pre .2)
+    let a = c .before .before .before .before .before .before .before .before .before .before .before .before .before .before .args in
+    let s = c .before .before .before .before .before .score-of .result .now in
+    let b = c .before .before .before .before .before .before .border in
+    let J = joined (b .result .0) (a .log .now) (a .waiting .now) in
+    let e = (counted-found (a .count) (lookUp J (a .kind) s) _ _ (sym (c .before .before .before .before .fetch .ensures) ∙ c .before .before .look .given .1)) .0 in
+    let w = found-within J (a .kind) s _ _ e in
+    (b .ensures .0, omega (arith, w, sectors-joined (b .result .0) (a .log .now) (a .waiting .now) (b .ensures .0)), found-most J (a .kind) s _ _ e, c .before .before .before .before .before .before .before .before .before .before .before .before .before .before .pre .1)
 
 enum-known-look-2 : tie.Need-enum-known-look-2
 enum-known-look-2 c = search needs
@@ -66,32 +67,26 @@ same-length-2 c = search needs
 
 returns-2 : tie.Need-returns-2
 returns-2 c =
-    let l = c .before .before .before .before .before in
-    let f = l .before .before in
-    let s = f .before .score-of in
-    let k = f .before .before .before in
-    let t = k .before .before in
-    let a = t .before .before .before .before .args in
-    let g = f .fetch .ensures ∙ ap (counted (a .count)) (look-up-alone (a .log .now) (a .kind) (s .result .now)) in
-    read-as (a .message .now) (a .log .now) _ _ _ (t .tag-of .ensures) (a .kind) (a .count) _ (s .ensures)
+    let a = c .before .before .before .before .before .before .before .before .before .before .before .before .before .before .before .before .before .args in
+    let b = c .before .before .before .before .before .before .before .before .before .border in
+    let L = beside (a .log .now) (a .waiting .now) in
+    let J = joined (b .result .0) (a .log .now) (a .waiting .now) in
+    read-as (a .message .now) L _ _ _ (c .before .before .before .before .before .before .before .before .before .before .before .before .tag-of .ensures) (a .kind) (a .count) _ (c .before .before .before .before .before .before .before .before .score-of .ensures)
     (c .before .before .answer-read .ensures
-    ∙ read-found (a .kind) (a .count) _ _ (a .log .now) _ _ (k .before .is-lawful .ensures) (not-false _ (k .if1 .left)) (f .fetch .result) g _ _ (l .look .given .1))
+    ∙ read-found (a .kind) (a .count) _ _ L _ _ (c .before .before .before .before .before .before .before .before .before .before .before .is-lawful .ensures) (not-false _ (c .before .before .before .before .before .before .before .before .before .before .if1 .left)) J (b .ensures .1) (c .before .before .before .before .before .before .before .fetch .result) (c .before .before .before .before .before .before .before .fetch .ensures) _ _ (c .before .before .before .before .before .look .given .1))
 
 same-length-3 : tie.Need-same-length-3
 same-length-3 c = search needs
 
 returns-3 : tie.Need-returns-3
 returns-3 c =
-    let l = c .before .before .before .before .before in
-    let f = l .before .before in
-    let s = f .before .score-of in
-    let k = f .before .before .before in
-    let t = k .before .before in
-    let a = t .before .before .before .before .args in
-    let g = f .fetch .ensures ∙ ap (counted (a .count)) (look-up-alone (a .log .now) (a .kind) (s .result .now)) in
-    read-as (a .message .now) (a .log .now) _ _ _ (t .tag-of .ensures) (a .kind) (a .count) _ (s .ensures)
-    (c .before .before .refuse2 .ensures (a .log .now)
-    ∙ read-refused (a .kind) (a .count) _ _ (a .log .now) _ _ (k .before .is-lawful .ensures) (not-false _ (k .if1 .left)) (f .fetch .result) g _ (l .look2 .given .1))
+    let a = c .before .before .before .before .before .before .before .before .before .before .before .before .before .before .before .before .before .args in
+    let b = c .before .before .before .before .before .before .before .before .before .border in
+    let L = beside (a .log .now) (a .waiting .now) in
+    let J = joined (b .result .0) (a .log .now) (a .waiting .now) in
+    read-as (a .message .now) L _ _ _ (c .before .before .before .before .before .before .before .before .before .before .before .before .tag-of .ensures) (a .kind) (a .count) _ (c .before .before .before .before .before .before .before .before .score-of .ensures)
+    (c .before .before .refuse2 .ensures _ _
+    ∙ read-refused (a .kind) (a .count) _ _ L _ _ (c .before .before .before .before .before .before .before .before .before .before .before .is-lawful .ensures) (not-false _ (c .before .before .before .before .before .before .before .before .before .before .if1 .left)) J (b .ensures .1) (c .before .before .before .before .before .before .before .fetch .result) (c .before .before .before .before .before .before .before .fetch .ensures) _ (c .before .before .before .before .before .look2 .given .1))
 
 pub serve-read-spec : {M : Type 1} → statement M
 serve-read-spec =
@@ -102,7 +97,7 @@ serve-read-spec =
     refuse-requires
     same-length
     returns
-    slice-aggregate-fetch
+    border-requires
     score-of-requires
     fetch-requires
     enum-known-look

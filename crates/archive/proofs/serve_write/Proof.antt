@@ -1,15 +1,16 @@
 -- `archive::serve_write` meets its contract: a case for each return.
 use mathlib.Core.Path.{refl, _∙_}
-use Rattle.archive.proofs.Laws.{write-kind, write-long, write-stored, write-as}
 use native.Mathlib.Omega.{arith}
 use borrow.Author.Tests.{not-true, not-false}
 use Rattle.message.proofs.Requests.{write-length}
+use Rattle.log.specs.Parts.{beside}
+use Rattle.archive.proofs.Laws.{write-kind, write-long, write-stored, write-as}
 use borrow.Author.Needs.{needs}
 use Rattle.archive.proofs.serve_write.Statement.{statement}
 use Rattle.archive.proofs.serve_write.Tie as tie
 
 tag-of-requires : tie.Need-tag-of-requires
-tag-of-requires c κs = omega (arith, write-length _ _ (c .before .before .before .pre .0))
+tag-of-requires c κs = omega (arith, write-length _ _ (c .before .before .before .before .pre .0))
 
 is-lawful-requires : tie.Need-is-lawful-requires
 is-lawful-requires c κs = search needs
@@ -22,14 +23,12 @@ same-length c = search needs
 
 returns : tie.Need-returns
 returns c =
-    let k = c .before .before .before .before in
-    let t = k .before .before in
-    let a = t .before .before .before .before .args in
-    write-as (a .message .now) (a .log .now) _ _ _ (t .tag-of .ensures) (a .kind) _ refl
-    (c .before .before .refuse .ensures (a .log .now) ∙ write-kind _ _ _ _ _ _ (k .before .is-lawful .ensures) (not-true _ (k .if1 .taken)))
+    let a = c .before .before .before .before .before .before .before .before .before .before .before .args in
+    write-as (a .message .now) (beside (a .log .now) (a .waiting .now)) _ _ _ (c .before .before .before .before .before .before .tag-of .ensures) (a .kind) _ refl
+    (c .before .before .refuse .ensures _ _ ∙ write-kind _ _ _ _ _ _ (c .before .before .before .before .before .is-lawful .ensures) (not-true _ (c .before .before .before .before .if1 .taken)))
 
 data-of-requires : tie.Need-data-of-requires
-data-of-requires c κs = write-length _ _ (c .before .before .before .before .before .before .pre .0)
+data-of-requires c κs = write-length _ _ (c .before .before .before .before .before .before .before .pre .0)
 
 refuse-requires-2 : tie.Need-refuse-requires-2
 refuse-requires-2 c κs = search needs
@@ -39,16 +38,12 @@ same-length-2 c = search needs
 
 returns-2 : tie.Need-returns-2
 returns-2 c =
-    let d = c .before .before .before .before in
-    let k = d .before .before in
-    let t = k .before .before in
-    let a = t .before .before .before .before .args in
-    write-as (a .message .now) (a .log .now) _ _ _ (t .tag-of .ensures) (a .kind) _ (d .before .data-of .ensures)
-    (c .before .before .refuse2 .ensures (a .log .now)
-    ∙ write-long _ _ _ _ _ _ (k .before .is-lawful .ensures) (not-false _ (k .if1 .left)) (d .if2 .taken))
+    let a = c .before .before .before .before .before .before .before .before .before .before .before .before .before .args in
+    write-as (a .message .now) (beside (a .log .now) (a .waiting .now)) _ _ _ (c .before .before .before .before .before .before .before .before .tag-of .ensures) (a .kind) _ (c .before .before .before .before .before .data-of .ensures)
+    (c .before .before .refuse2 .ensures _ _ ∙ write-long _ _ _ _ _ _ (c .before .before .before .before .before .before .before .is-lawful .ensures) (not-false _ (c .before .before .before .before .before .before .if1 .left)) (c .before .before .before .before .if2 .taken))
 
 store-requires : tie.Need-store-requires
-store-requires c κs = c .before .if2 .left
+store-requires c κs = search needs
 
 answer-store-requires : tie.Need-answer-store-requires
 answer-store-requires c κs = search needs
@@ -61,13 +56,9 @@ same-length-4 c = search needs
 
 returns-3 : tie.Need-returns-3
 returns-3 c =
-    let d = c .before .before .before .before .before .before .before .before in
-    let k = d .before .before in
-    let t = k .before .before in
-    let a = t .before .before .before .before .args in
-    write-as (a .message .now) (a .log .now) _ _ _ (t .tag-of .ensures) (a .kind) _ (d .before .data-of .ensures)
-    (write-stored _ _ _ _ _ _ (k .before .is-lawful .ensures) (not-false _ (k .if1 .left)) _ _ _ (d .if2 .left)
-    (c .before .before .before .before .before .before .store .ensures) (c .before .before .answer-store .ensures _))
+    let a = c .before .before .before .before .before .before .before .before .before .before .before .before .before .before .before .before .before .args in
+    write-as (a .message .now) (beside (a .log .now) (a .waiting .now)) _ _ _ (c .before .before .before .before .before .before .before .before .before .before .before .before .tag-of .ensures) (a .kind) _ (c .before .before .before .before .before .before .before .before .before .data-of .ensures)
+    (write-stored _ _ _ _ _ _ (c .before .before .before .before .before .before .before .before .before .before .before .is-lawful .ensures) (not-false _ (c .before .before .before .before .before .before .before .before .before .before .if1 .left)) _ _ _ (c .before .before .before .before .before .before .before .before .if2 .left) (c .before .before .before .before .before .before .store .ensures) (c .before .before .answer-store .ensures _ _))
 
 pub serve-write-spec : {M : Type 1} → statement M
 serve-write-spec =

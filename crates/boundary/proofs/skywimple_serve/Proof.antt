@@ -1,18 +1,13 @@
-use mathlib.Core.Path.{_≡_, sym, ap, _∙_}
-use Prim.Native.Nat.{_+_, _*_, _≤_}
+-- `skywimple_serve` meets its contract: the archive's step, with the session as a number.
+use mathlib.Core.Path.{ap, _∙_}
 use native.Mathlib.Omega.{arith}
-use Rattle.buffer.specs.Bytes.{Bytes}
-use Rattle.archive.specs.Step.{step}
-use Rattle.archive.specs.declared.Session.{Session}
-use Rattle.results.proofs.ServeLaws.{is-fresh, is-greeted, is-closed, session-most, served-so}
+use Rattle.log.specs.Parts.{beside}
+use Rattle.request.specs.Step.{step}
+use Rattle.request.specs.declared.Session.{Session}
+use Rattle.results.proofs.ServeLaws.{session-most, served-so}
 use borrow.Author.Needs.{needs}
 use Rattle.boundary.proofs.skywimple_serve.Statement.{statement}
 use Rattle.boundary.proofs.skywimple_serve.Tie as tie
-use Rattle.boundary.proofs.skywimple_serve.Reads as reads
-use Rattle.boundary.proofs.skywimple_serve.Lts as lts
-use Rattle.archive.proofs.serve.Reads as serve-reads
-use Rattle.boundary.proofs.session_number.Reads as session-number-reads
-use Rattle.boundary.proofs.session_of.Reads as session-of-reads
 
 session-of-requires : tie.Need-session-of-requires
 session-of-requires c κs = search needs
@@ -27,10 +22,12 @@ session-number-requires : tie.Need-session-number-requires
 session-number-requires c κs = search needs
 
 mul-result : tie.Need-mul-result
-mul-result c = omega (arith, session-most (c .before .before .before .before .before .before .serve .result .session) ((c .session-number .result)) ((c .session-number .ensures)))
+mul-result c =
+    omega (arith, session-most (c .before .before .before .before .before .before .before .before .serve .result .session) (c .session-number .result) (c .session-number .ensures))
 
 add-result : tie.Need-add-result
-add-result c = omega (arith, session-most (c .before .before .before .before .before .before .serve .result .session) ((c .session-number .result)) ((c .session-number .ensures)), (c .before .struct-known .given .0))
+add-result c =
+    omega (arith, session-most (c .before .before .before .before .before .before .before .before .serve .result .session) (c .session-number .result) (c .session-number .ensures), c .before .struct-known .given .0)
 
 same-length : tie.Need-same-length
 same-length c = search needs
@@ -38,8 +35,14 @@ same-length c = search needs
 same-length-2 : tie.Need-same-length-2
 same-length-2 c = search needs
 
+same-length-3 : tie.Need-same-length-3
+same-length-3 c = search needs
+
 returns : tie.Need-returns
-returns c = served-so ((c .before .before .before .before .before .before .serve .result)) _ _ _ ((c .session-number .result)) ((c .before .before .before .before .before .before .serve .ensures) ∙ ap (λ (s : Session). step s ((c .before .before .before .before .before .before .before .before .before .before .before .before .before .args .message .now)) ((c .before .before .before .before .before .before .before .before .before .before .before .before .before .args .log .now)) ((c .before .before .before .before .before .before .before .before .before .before .before .before .before .args .reply .now))) ((c .before .before .before .before .before .before .before .before .before .session-of .ensures))) ((c .session-number .ensures))
+returns c =
+    let a = c .before .before .before .before .before .before .before .before .before .before .before .before .before .before .before .before .before .args in
+    served-so (c .before .before .before .before .before .before .before .before .serve .result) _ _ _ _ (c .session-number .result)
+    (c .before .before .before .before .before .before .before .before .serve .ensures ∙ ap (λ (s : Session). step s (a .message .now) (beside (a .log .now) (a .waiting .now)) (a .reply .now)) (c .before .before .before .before .before .before .before .before .before .before .before .before .session-of .ensures)) (c .session-number .ensures)
 
 pub skywimple-serve-spec : {M : Type 1} → statement M
 skywimple-serve-spec =
@@ -53,4 +56,5 @@ skywimple-serve-spec =
     add-result
     same-length
     same-length-2
+    same-length-3
     returns)

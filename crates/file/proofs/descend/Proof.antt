@@ -5,8 +5,8 @@ use native.Mathlib.Omega.{arith}
 use lib.ListN.{length}
 use Rattle.buffer.proofs.Put.{put-whole}
 use Rattle.block.specs.Block.{partsOf}
-use Rattle.log.specs.LookUp.{counted}
-use Rattle.log.proofs.Parts.{look-up-alone}
+use Rattle.block.specs.Log.{joined}
+use Rattle.block.proofs.Joined.{sectors-joined}
 use Rattle.entry.specs.Entry.{pointers}
 use Rattle.file.specs.File.{under}
 use Rattle.file.proofs.Places.{digit-small}
@@ -16,11 +16,12 @@ use Rattle.file.proofs.descend.Statement.{statement}
 use Rattle.file.proofs.descend.Tie as tie
 
 abbrev Inv-loop : tie.InvT-loop
-Inv-loop log e offset top none end score₀ leaf p level₀ score level =
-    (level < 8) × (length score ≡ 20) × ((page o : ℕ) → o / e .dsize ≡ offset / e .dsize → under log page e o level score ≡ under log page e o (e .depth) top)
+Inv-loop log end waiting e offset top score₀ leaf p level₀ score level =
+    (level < 8) × (length score ≡ 20)
+    × ((page o : ℕ) → o / e .dsize ≡ offset / e .dsize → under (joined (end .0) log waiting) page e o level score ≡ under (joined (end .0) log waiting) page e o (e .depth) top)
 
 abbrev μ-loop : tie.MeasureT-loop
-μ-loop log e offset top none end score₀ leaf p level₀ score level = level
+μ-loop log end waiting e offset top score₀ leaf p level₀ score level = level
 
 slice-aggregate-copy-at : tie.Need-slice-aggregate-copy-at Inv-loop μ-loop
 slice-aggregate-copy-at c = search needs
@@ -29,15 +30,16 @@ copy-at-requires : tie.Need-copy-at-requires Inv-loop μ-loop
 copy-at-requires c κs = search needs
 
 div-leaf : tie.Need-div-leaf Inv-loop μ-loop
-div-leaf c = search needs
+div-leaf c = omega (arith, c .before .before .before .before .before .before .pre .1 .dsize-from)
 
 loop-holds : tie.Need-loop-holds Inv-loop μ-loop
 loop-holds c =
-    let a = c .before .before .before .before .before .before .args in
-    let p = c .before .before .before .before .before .before .pre in
+    let a = c .before .before .before .before .before .before .before .args in
+    let p = c .before .before .before .before .before .before .before .pre in
     let copy-at = c .before .before .copy-at in
-    let t = (copy-at .ensures) ∙ put-whole _ (a .top .now) (p .1) in
-    (p .0 .depth, ap length t ∙ p .1, λ page o q. ap (under (a .log .now) page (a .e) o (a .e .depth)) t)
+    let log = joined (a .end .0) (a .log .now) (a .waiting .now) in
+    let t = copy-at .ensures ∙ put-whole _ (a .top .now) (p .2) in
+    (p .1 .depth, ap length t ∙ p .2, λ page o q. ap (under log page (a .e) o (a .e .depth)) t)
 
 slice-aggregate-is-zero-score : tie.Need-slice-aggregate-is-zero-score Inv-loop μ-loop
 slice-aggregate-is-zero-score c = search needs
@@ -48,26 +50,27 @@ is-zero-score-requires c κs = search needs
 returns : tie.Need-returns Inv-loop μ-loop
 unfolding partsOf
 returns c =
-    let a = c .before .before .before .before .before .before .before .before .before .before .before .args in
+    let a = c .before .before .before .before .before .before .before .before .before .before .before .before .args in
     let l = c .before .before .before .before .loop in
     let is-zero-score = c .before .is-zero-score in
     let if1 = c .if1 in
-    (omega arith, λ page o q. under-empty (a .log .now) page (a .e) o (l .level) (l .score) _ 0 (is-zero-score .ensures) (if1 .taken) ∙ l .inv .2 page o q)
-
-slice-aggregate-fetch : tie.Need-slice-aggregate-fetch Inv-loop μ-loop
-slice-aggregate-fetch c = search needs
+    let log = joined (a .end .0) (a .log .now) (a .waiting .now) in
+    (omega arith, λ page o q. under-empty log page (a .e) o (l .level) (l .score) _ 0 (is-zero-score .ensures) (if1 .taken) ∙ l .inv .2 page o q)
 
 add-fetch : tie.Need-add-fetch Inv-loop μ-loop
 add-fetch c = search needs
 
 cast-fetch : tie.Need-cast-fetch Inv-loop μ-loop
-cast-fetch c = omega (arith, (c .before .before .before .before .before .loop .inv .0))
+cast-fetch c = omega (arith, c .before .before .before .before .loop .inv .0)
 
-slice-aggregate-fetch-2 : tie.Need-slice-aggregate-fetch-2 Inv-loop μ-loop
-slice-aggregate-fetch-2 c = search needs
+slice-aggregate-fetch : tie.Need-slice-aggregate-fetch Inv-loop μ-loop
+slice-aggregate-fetch c = search needs
 
 fetch-requires : tie.Need-fetch-requires Inv-loop μ-loop
-fetch-requires c κs = (c .before .before .before .before .before .before .loop .inv .1)
+fetch-requires c κs =
+    let p = c .before .before .before .before .before .before .before .before .before .before .before .before .before .pre in
+    let loop = c .before .before .before .before .before .loop in
+    (p .0, loop .inv .1)
 
 enum-known-look : tie.Need-enum-known-look Inv-loop μ-loop
 enum-known-look c = search needs
@@ -78,119 +81,115 @@ enum-told c = search needs
 returns-2 : tie.Need-returns-2 Inv-loop μ-loop
 returns-2 c =
     let a = c .before .before .before .before .before .before .before .before .before .before .before .before .before .before .before .before .args in
-    let l = c .before .before .before .before .before .before .before .before .before .loop in
-    let loop-test = c .before .before .before .before .before .before .before .before .loop-test in
-    let is-zero-score = c .before .before .before .before .before .before .is-zero-score in
-    let if1 = c .before .before .before .before .before .if1 in
+    let l = c .before .before .before .before .before .before .before .before .loop in
     let fetch = c .before .before .fetch in
+    let loop-test = c .before .before .before .before .before .before .before .loop-test in
+    let p = c .before .before .before .before .before .before .before .before .before .before .before .before .before .before .before .before .pre in
+    let is-zero-score = c .before .before .before .before .before .is-zero-score in
+    let if1 = c .before .before .before .before .if1 in
     let enum-told = c .enum-told in
-    let found = (fetch .result) in
-    let e : l .level ≡ suc (l .level - 1) = omega (arith, (loop-test .taken)) in
-    let g = (fetch .ensures) ∙ ap (counted (a .e .psize)) (look-up-alone (a .log .now) (2 + l .level) (l .score)) in (
-      look-room (a .log .now) (2 + l .level) (l .score) (a .e .psize) found g,
-      λ page o q. level-refused (a .log .now) page (a .e) o (l .level) (l .level - 1) e (l .score) _ (is-zero-score .ensures) (if1 .left) found g _ (enum-told .given .1)
+    let log = joined (a .end .0) (a .log .now) (a .waiting .now) in
+    let e : l .level ≡ suc (l .level - 1) = omega (arith, loop-test .taken) in (
+      omega (arith, look-room log (2 + l .level) (l .score) (a .e .psize) (fetch .result) (fetch .ensures), sectors-joined (a .end .0) (a .log .now) (a .waiting .now) (p .0)),
+      λ page o q. level-refused log page (a .e) o (l .level) (l .level - 1) e (l .score) _ (is-zero-score .ensures) (if1 .left) (fetch .result) (fetch .ensures) _
+          (enum-told .given .1)
           ∙ l .inv .2 page o q,
     )
 
 returns-3 : tie.Need-returns-3 Inv-loop μ-loop
 returns-3 c =
     let a = c .before .before .before .before .before .before .before .before .before .before .before .before .before .before .before .before .before .before .args in
-    let l = c .before .before .before .before .before .before .before .before .before .before .before .loop in
-    let loop-test = c .before .before .before .before .before .before .before .before .before .before .loop-test in
-    let is-zero-score = c .before .before .before .before .before .before .before .before .is-zero-score in
-    let if1 = c .before .before .before .before .before .before .before .if1 in
+    let l = c .before .before .before .before .before .before .before .before .before .before .loop in
     let fetch = c .before .before .before .before .fetch in
+    let loop-test = c .before .before .before .before .before .before .before .before .before .loop-test in
+    let is-zero-score = c .before .before .before .before .before .before .before .is-zero-score in
+    let if1 = c .before .before .before .before .before .before .if1 in
     let look = c .before .before .look in
     let if2 = c .if2 in
-    let found = (fetch .result) in
-    let e : l .level ≡ suc (l .level - 1) = omega (arith, (loop-test .taken)) in
-    let g = (fetch .ensures) ∙ ap (counted (a .e .psize)) (look-up-alone (a .log .now) (2 + l .level) (l .score)) in (
+    let log = joined (a .end .0) (a .log .now) (a .waiting .now) in
+    let e : l .level ≡ suc (l .level - 1) = omega (arith, loop-test .taken) in (
       omega arith,
-      λ page o q. level-ragged (a .log .now) page (a .e) o (l .level) (l .level - 1) e (l .score) _ (is-zero-score .ensures) (if1 .left) found g _ _ (look .given .1) (if2 .taken)
+      λ page o q. level-ragged log page (a .e) o (l .level) (l .level - 1) e (l .score) _ (is-zero-score .ensures) (if1 .left) (fetch .result) (fetch .ensures) _ _
+          (look .given .1) (if2 .taken)
           ∙ l .inv .2 page o q,
     )
 
 sub-level : tie.Need-sub-level Inv-loop μ-loop
-sub-level c = omega (arith, (c .before .before .before .before .before .before .before .before .before .before .loop-test .taken))
+sub-level c = omega (arith, c .before .before .before .before .before .before .before .before .before .loop-test .taken)
 
 digit-requires : tie.Need-digit-requires Inv-loop μ-loop
-digit-requires c κs = omega (arith, (c .before .before .before .before .before .before .before .before .before .before .before .before .before .before .before .before .before .before .pre) .0 .psize-from)
-
-slice-aggregate-score-at : tie.Need-slice-aggregate-score-at Inv-loop μ-loop
-slice-aggregate-score-at c = search needs
+digit-requires c κs = omega (arith, c .before .before .before .before .before .before .before .before .before .before .before .before .before .before .before .before .before .before .pre .1 .psize-from)
 
 score-at-requires : tie.Need-score-at-requires Inv-loop μ-loop
 score-at-requires c κs =
-    let a = c .before .before .before .before .before .before .before .before .before .before .before .before .before .before .before .before .before .before .before .before .args in
-    let p = c .before .before .before .before .before .before .before .before .before .before .before .before .before .before .before .before .before .before .before .before .pre in
-    let l = c .before .before .before .before .before .before .before .before .before .before .before .before .before .loop in
-    let fetch = c .before .before .before .before .before .before .fetch in
-    let look = c .before .before .before .before .look in
-    let if2 = c .before .before .if2 in
-    let digit = c .before .digit in
-    let g = (fetch .ensures) ∙ ap (counted (a .e .psize)) (look-up-alone (a .log .now) (2 + l .level) (l .score)) in
-    let room = found-room (a .log .now) (2 + l .level) (l .score) (a .e .psize) (fetch .result) _ _ g (look .given .1) in
-    let small = digit-small (a .e .psize) _ (digit .result) (p .0 .psize-from) (p .0 .psize-to) (digit .ensures) in
-    (omega arith, omega (arith, room), (if2 .left), omega (arith, small))
+    let a = c .before .before .before .before .before .before .before .before .before .before .before .before .before .before .before .before .before .before .before .args in
+    let p = c .before .before .before .before .before .before .before .before .before .before .before .before .before .before .before .before .before .before .before .pre in
+    let l = c .before .before .before .before .before .before .before .before .before .before .before .loop in
+    let fetch = c .before .before .before .before .before .fetch in
+    let digit = c .digit in
+    let look = c .before .before .before .look in
+    let if2 = c .before .if2 in
+    let log = joined (a .end .0) (a .log .now) (a .waiting .now) in
+    let room = found-room log (2 + l .level) (l .score) (a .e .psize) (fetch .result) _ _ (fetch .ensures) (look .given .1) in
+    let small = digit-small (a .e .psize) _ (digit .result) (p .1 .psize-from) (p .1 .psize-to) (digit .ensures) in
+    (p .0, omega (arith, room, sectors-joined (a .end .0) (a .log .now) (a .waiting .now) (p .0)), if2 .left, omega (arith, small))
 
 loop-less : tie.Need-loop-less Inv-loop μ-loop
-loop-less c = omega (arith, (c .before .before .before .before .before .before .before .before .before .before .before .before .before .loop-test .taken))
+loop-less c = omega (arith, c .before .before .before .before .before .before .before .before .before .before .before .loop-test .taken)
 
 loop-again : tie.Need-loop-again Inv-loop μ-loop
 loop-again c =
-    let a = c .before .before .before .before .before .before .before .before .before .before .before .before .before .before .before .before .before .before .before .before .before .args in
-    let l = c .before .before .before .before .before .before .before .before .before .before .before .before .before .before .loop in
-    let loop-test = c .before .before .before .before .before .before .before .before .before .before .before .before .before .loop-test in
-    let is-zero-score = c .before .before .before .before .before .before .before .before .before .before .before .is-zero-score in
-    let if1 = c .before .before .before .before .before .before .before .before .before .before .if1 in
-    let fetch = c .before .before .before .before .before .before .before .fetch in
-    let look = c .before .before .before .before .before .look in
-    let if2 = c .before .before .before .if2 in
-    let digit = c .before .before .digit in
+    let a = c .before .before .before .before .before .before .before .before .before .before .before .before .before .before .before .before .before .before .before .before .args in
+    let l = c .before .before .before .before .before .before .before .before .before .before .before .before .loop in
+    let fetch = c .before .before .before .before .before .before .fetch in
+    let look = c .before .before .before .before .look in
+    let if2 = c .before .before .if2 in
     let score-at = c .score-at in
-    let found = (fetch .result) in
-    let e : l .level ≡ suc (l .level - 1) = omega (arith, (loop-test .taken)) in
-    let g = (fetch .ensures) ∙ ap (counted (a .e .psize)) (look-up-alone (a .log .now) (2 + l .level) (l .score)) in
-    let s = next-score (a .log .now) found _ _ (look .given .1) _ _ (score-at .ensures) (if2 .left) in
-    let i = (digit .ensures) in (
+    let loop-test = c .before .before .before .before .before .before .before .before .before .before .before .loop-test in
+    let is-zero-score = c .before .before .before .before .before .before .before .before .before .is-zero-score in
+    let if1 = c .before .before .before .before .before .before .before .before .if1 in
+    let digit = c .before .digit in
+    let log = joined (a .end .0) (a .log .now) (a .waiting .now) in
+    let e : l .level ≡ suc (l .level - 1) = omega (arith, loop-test .taken) in (
       omega (arith, l .inv .0),
-      s .1,
-      λ page o q. level-next (a .log .now) page (a .e) o (l .level) (l .level - 1) e (l .score) _ (is-zero-score .ensures) (if1 .left) found g _ _ (look .given .1) _ _ (if2 .left)
-          (i ∙ ap (λ (n : ℕ). n / pointers (a .e) ^ (l .level - 1) % pointers (a .e)) (sym q)) (s .0)
+      next-score log _ _ _ _ (score-at .ensures) (if2 .left),
+      λ page o q. level-next log page (a .e) o (l .level) (l .level - 1) e (l .score) _ (is-zero-score .ensures) (if1 .left) (fetch .result) (fetch .ensures) _ _
+          (look .given .1) _ _ (if2 .left)
+          (digit .ensures ∙ ap (λ (n : ℕ). n / pointers (a .e) ^ (l .level - 1) % pointers (a .e)) (sym q)) (score-at .ensures)
           ∙ l .inv .2 page o q,
     )
-
-slice-aggregate-fetch-3 : tie.Need-slice-aggregate-fetch-3 Inv-loop μ-loop
-slice-aggregate-fetch-3 c = search needs
 
 type-at-requires : tie.Need-type-at-requires Inv-loop μ-loop
 type-at-requires c κs = search needs
 
-slice-aggregate-fetch-4 : tie.Need-slice-aggregate-fetch-4 Inv-loop μ-loop
-slice-aggregate-fetch-4 c = search needs
+slice-aggregate-fetch-2 : tie.Need-slice-aggregate-fetch-2 Inv-loop μ-loop
+slice-aggregate-fetch-2 c = search needs
 
 fetch-requires-2 : tie.Need-fetch-requires-2 Inv-loop μ-loop
-fetch-requires-2 c κs = (c .before .before .before .before .loop .inv .1)
+fetch-requires-2 c κs =
+    let p = c .before .before .before .before .before .before .before .before .before .before .before .pre in
+    let loop = c .before .before .before .loop in
+    (p .0, loop .inv .1)
 
 returns-4 : tie.Need-returns-4 Inv-loop μ-loop
 returns-4 c =
     let a = c .before .before .before .before .before .before .before .before .before .before .before .before .args in
-    let l = c .before .before .before .before .before .loop in
-    let loop-test = c .before .before .before .before .loop-test in
+    let l = c .before .before .before .before .loop in
     let type-at = c .before .before .type-at in
     let fetch2 = c .fetch2 in
-    let t = (type-at .result) in
-    let found = (fetch2 .result) in
-    let z : l .level ≡ 0 = omega (arith, (loop-test .left)) in
-    let g = (fetch2 .ensures) ∙ ap (counted (a .e .dsize)) (look-up-alone (a .log .now) t (l .score)) in (
-      look-room (a .log .now) t (l .score) (a .e .dsize) found g,
-      λ page o q. leaf-looked-up (a .log .now) page (a .e) o (l .score) t (type-at .ensures) found g
-          ∙ ap (λ (n : ℕ). under (a .log .now) page (a .e) o n (l .score)) (sym z) ∙ l .inv .2 page o q,
+    let loop-test = c .before .before .before .loop-test in
+    let p = c .before .before .before .before .before .before .before .before .before .before .before .before .pre in
+    let log = joined (a .end .0) (a .log .now) (a .waiting .now) in
+    let t = type-at .result in
+    let z : l .level ≡ 0 = omega (arith, loop-test .left) in (
+      omega (arith, look-room log t (l .score) (a .e .dsize) (fetch2 .result) (fetch2 .ensures), sectors-joined (a .end .0) (a .log .now) (a .waiting .now) (p .0)),
+      λ page o q. leaf-looked-up log page (a .e) o (l .score) t (type-at .ensures) (fetch2 .result) (fetch2 .ensures)
+          ∙ ap (λ (n : ℕ). under log page (a .e) o n (l .score)) (sym z) ∙ l .inv .2 page o q,
     )
 
 pub descend-spec : {M : Type 1} → statement M
 descend-spec =
     tie.close
     (tie.spec Inv-loop μ-loop slice-aggregate-copy-at copy-at-requires div-leaf loop-holds slice-aggregate-is-zero-score is-zero-score-requires returns
-    slice-aggregate-fetch add-fetch cast-fetch slice-aggregate-fetch-2 fetch-requires enum-known-look enum-told returns-2 returns-3 sub-level digit-requires
-    slice-aggregate-score-at score-at-requires loop-less loop-again slice-aggregate-fetch-3 type-at-requires slice-aggregate-fetch-4 fetch-requires-2 returns-4)
+    add-fetch cast-fetch slice-aggregate-fetch fetch-requires enum-known-look enum-told returns-2 returns-3 sub-level digit-requires score-at-requires
+    loop-less loop-again type-at-requires slice-aggregate-fetch-2 fetch-requires-2 returns-4)

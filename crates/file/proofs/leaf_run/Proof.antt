@@ -2,7 +2,7 @@
 use mathlib.Core.Path.{ap₂, _∙_}
 use Rattle.tree.proofs.Pieces.{part-of}
 use native.Mathlib.Omega.{arith}
-use Rattle.file.specs.declared.Located.the-variants.{Stored}
+use Rattle.file.specs.declared.Extent.the-variants.{Stored}
 use Rattle.file.proofs.Steps.{leaf-past, leaf-in}
 use borrow.Author.Needs.{needs}
 use Rattle.file.proofs.leaf_run.Statement.{statement}

@@ -1,5 +1,4 @@
 -- `lookup::look_up` meets its contract.
-use Rattle.log.specs.Parts.{tape}
 use Rattle.block.specs.Log.{joined}
 use Rattle.lookup.proofs.Laws.{look-none, look-some}
 use borrow.Author.Needs.{needs}
@@ -21,12 +20,13 @@ why-absent-requires c κs = search needs
 returns : tie.Need-returns
 returns c =
     let a = c .before .before .before .before .before .before .before .args in
-    look-none (tape (a .log .now) (a .waiting .now)) (a .kind) (a .score .now) _ _ (c .before .before .before .find-held .ensures) (c .before .enum-told .given .1) (c .why-absent .ensures)
+    look-none (joined (a .end .0) (a .log .now) (a .waiting .now)) (a .kind) (a .score .now) _ _ (c .before .before .before .find-held .ensures)
+    (c .before .enum-told .given .1) (c .why-absent .ensures)
 
 returns-2 : tie.Need-returns-2
 returns-2 c =
     let a = c .before .before .before .before .before .before .before .args in
-    look-some (tape (a .log .now) (a .waiting .now)) (a .kind) (a .score .now) _ _ _ (c .before .before .before .find-held .ensures) (c .before .place .given .1)
+    look-some (joined (a .end .0) (a .log .now) (a .waiting .now)) (a .kind) (a .score .now) _ _ _ (c .before .before .before .find-held .ensures) (c .before .place .given .1)
 
 pub look-up-spec : {M : Type 1} → statement M
 look-up-spec = tie.close (tie.spec find-held-requires enum-known-place enum-told why-absent-requires returns returns-2)

@@ -2,29 +2,33 @@
 use native.Mathlib.Omega.{arith}
 use borrow.Author.Needs.{needs}
 use borrow.Author.Tests.{not-true, not-false}
+use Rattle.block.specs.Log.{joined}
 use Rattle.walk.proofs.FromRoot.{root-refused, ill-formed-root, root-found}
-use Rattle.visit.proofs.Visits.{Known, found-known}
+use Rattle.visit.proofs.Visits.{Known, found-known, in-both}
 use Rattle.walk.proofs.walk_root.Statement.{statement}
 use Rattle.walk.proofs.walk_root.Tie as tie
 
 -- where the function began: one `.before` for each lent slice
 abbrev start : tie.After-visit → tie.Start
-start v = v .before .before .before
+start v = v .before .before .before .before
 
 -- what is known of the root that was found
 found : (c : tie.After-look)
     → let a = start (c .before .before) .args in
-    Known (a .log .now) 0 (a .left) 1 300 (a .score .now) (c .look .given .0 .0 .0) (c .look .given .0 .1 .0) (c .before .before .visit .result .spent)
+    Known (joined (a .end .0) (a .log .now) (a .waiting .now)) 0 (a .left) 1 300 (a .score .now) (c .look .given .0 .0 .0) (c .look .given .0 .1 .0) (c .before .before .visit .result .spent)
 found c = found-known _ _ _ _ _ _ _ (c .before .before .visit .ensures) _ _ (c .look .given .1)
 
 refused : tie.Need-returns
 refused c =
     let v = c .before .before .before in
     let a = start v .args in
-    root-refused (a .log .now) (a .score .now) (a .left) (v .visit .ensures) (c .before .enum-told .given .1) (c .answer .ensures)
+    root-refused (joined (a .end .0) (a .log .now) (a .waiting .now)) (a .score .now) (a .left) (v .visit .ensures) (c .before .enum-told .given .1) (c .answer .ensures)
 
 root-bytes-requires : tie.Need-root-bytes-requires
-root-bytes-requires c κs = found (c .before) .in-log
+root-bytes-requires c κs =
+    let f = start (c .before .before .before) in
+    let p = f .pre .0 in
+    (p, in-both (f .args .end .0) (f .args .log .now) (f .args .waiting .now) p _ (found (c .before) .in-log))
 
 ill-formed : tie.Need-returns-2
 ill-formed c =

@@ -283,6 +283,20 @@ impl Server {
         self.reply().expect("a reply")
     }
 
+    /// Has what waits on disk.
+    #[track_caller]
+    pub fn sync(&mut self) {
+        assert_eq!(self.ask(&sync_message(9)), sync_reply(9));
+    }
+
+    /// Stores a block, and has it on disk.
+    #[track_caller]
+    pub fn store(&mut self, tag: u8, block: &[u8]) {
+        let reply = self.ask(&write_message(tag, block));
+        assert_eq!(reply, write_reply(tag, block));
+        self.sync();
+    }
+
     /// Closes its input and waits; its status and words.
     pub fn end(mut self) -> (i32, String) {
         drop(self.input.take());
@@ -313,6 +327,14 @@ pub fn write_reply(tag: u8, data: &[u8]) -> Vec<u8> {
 pub fn read_message(tag: u8, data: &[u8]) -> Vec<u8> {
     let score = boundary::sha1(data);
     message(12, tag, &[&score[..], &[13, 0, 0xff, 0xff]].concat())
+}
+
+pub fn sync_message(tag: u8) -> Vec<u8> {
+    message(16, tag, b"")
+}
+
+pub fn sync_reply(tag: u8) -> Vec<u8> {
+    message(17, tag, b"")
 }
 
 /// The error reply of a refusal other than 12.

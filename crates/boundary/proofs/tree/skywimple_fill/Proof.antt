@@ -8,6 +8,9 @@ use Rattle.boundary.proofs.tree.skywimple_fill.Tie as tie
 fill-requires : tie.Need-fill-requires
 fill-requires c κs = search needs
 
+stop-sector-requires : tie.Need-stop-sector-requires
+stop-sector-requires c κs = search needs
+
 number-requires : tie.Need-number-requires
 number-requires c κs = search needs
 
@@ -16,23 +19,28 @@ cast-result c = search needs
 
 mul-result : tie.Need-mul-result
 mul-result c =
-    let a = c .before .before .before .before .before .before .before .before .args in
-    let shared-slice-known2 = c .before .before .before .before .before .before .shared-slice-known2 in
-    let fill = c .before .before .before .fill in
-    omega (arith, fills-few (a .log .now) (a .entry .now) (a .offset) (a .buffer .now) _ (fill .result) (λ k. omega (arith, (shared-slice-known2 .given) k)) (fill .ensures))
+    let a = c .before .before .before .before .before .before .before .before .before .before .args in
+    let fill = c .before .before .before .before .fill in
+    let shared-slice-known3 = c .before .before .before .before .before .before .before .shared-slice-known3 in
+    omega (arith, fills-few (a .log .now) (a .waiting .now) (a .entry .now) (a .offset) (a .buffer .now) _ (fill .result) (λ k. omega (arith, shared-slice-known3 .given k)) (fill .ensures))
 
 add-result : tie.Need-add-result
 add-result c =
-    let a = c .before .before .before .before .before .before .before .before .args in
-    let shared-slice-known2 = c .before .before .before .before .before .before .shared-slice-known2 in
-    let fill = c .before .before .before .fill in
-    omega (arith, fills-few (a .log .now) (a .entry .now) (a .offset) (a .buffer .now) _ (fill .result) (λ k. omega (arith, (shared-slice-known2 .given) k)) (fill .ensures))
+    let a = c .before .before .before .before .before .before .before .before .before .before .args in
+    let fill = c .before .before .before .before .fill in
+    let shared-slice-known3 = c .before .before .before .before .before .before .before .shared-slice-known3 in
+    omega (arith, fills-few (a .log .now) (a .waiting .now) (a .entry .now) (a .offset) (a .buffer .now) _ (fill .result) (λ k. omega (arith, shared-slice-known3 .given k)) (fill .ensures))
 
 same-length : tie.Need-same-length
 same-length c = search needs
 
 returns : tie.Need-returns
-returns c = filled-so ((c .before .before .before .fill .result)) _ _ ((c .number .result)) ((c .before .before .before .fill .ensures)) ((c .number .ensures))
+returns c =
+    let fill = c .before .before .before .before .fill in
+    let number = c .number in
+    let stop-sector = c .before .stop-sector in
+    filled-so (fill .result) _ _ (number .result) (stop-sector .result) (fill .ensures) (number .ensures) (stop-sector .ensures)
 
 pub skywimple-fill-spec : {M : Type 1} → statement M
-skywimple-fill-spec = tie.close (tie.spec fill-requires number-requires cast-result mul-result add-result same-length returns)
+skywimple-fill-spec =
+    tie.close (tie.spec fill-requires stop-sector-requires number-requires cast-result mul-result add-result same-length returns)

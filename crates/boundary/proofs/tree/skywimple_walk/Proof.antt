@@ -1,4 +1,4 @@
--- `boundary::tree::skywimple_walk` meets its contract; the sum fits since the visits are few and the sector is one of the longest log.
+-- `boundary::tree::skywimple_walk` meets its contract; the sum fits since the visits are few and the sector is one of the longest log and waiting part.
 use native.Mathlib.Omega.{arith}
 use Rattle.results.proofs.Visits.{walk-small, walked-so}
 use borrow.Author.Needs.{needs}
@@ -18,20 +18,43 @@ cast-result : tie.Need-cast-result
 cast-result c = search needs
 
 mul-result : tie.Need-mul-result
-mul-result c = let s = c .before .before .before .before .args in let w = walk-small (s .log .now) (s .score .now) (s .allowance) _ (c .before .before .walk .ensures) in omega (arith, w .few, w .told, c .end-sector .ensures)
+mul-result c =
+    let s = c .before .before .before .before .before .args in
+    let walk = c .before .before .walk in
+    let end-sector = c .end-sector in
+    let w = walk-small (s .log .now) (s .waiting .now) (s .score .now) (s .allowance) _ (walk .ensures) in
+    omega (arith, w .few, w .told, end-sector .ensures)
 
 add-result : tie.Need-add-result
-add-result c = let s = c .before .before .before .before .args in let w = walk-small (s .log .now) (s .score .now) (s .allowance) _ (c .before .before .walk .ensures) in omega (arith, w .few, w .told, c .end-sector .ensures)
+add-result c =
+    let s = c .before .before .before .before .before .args in
+    let walk = c .before .before .walk in
+    let end-sector = c .end-sector in
+    let w = walk-small (s .log .now) (s .waiting .now) (s .score .now) (s .allowance) _ (walk .ensures) in
+    omega (arith, w .few, w .told, end-sector .ensures)
 
 mul-result-2 : tie.Need-mul-result-2
-mul-result-2 c = let s = c .before .before .before .before .args in let w = walk-small (s .log .now) (s .score .now) (s .allowance) _ (c .before .before .walk .ensures) in omega (arith, w .few, w .told, c .end-sector .ensures)
+mul-result-2 c =
+    let s = c .before .before .before .before .before .args in
+    let walk = c .before .before .walk in
+    let end-sector = c .end-sector in
+    let w = walk-small (s .log .now) (s .waiting .now) (s .score .now) (s .allowance) _ (walk .ensures) in
+    omega (arith, w .few, w .told, end-sector .ensures)
 
 add-result-2 : tie.Need-add-result-2
-add-result-2 c = let s = c .before .before .before .before .args in let w = walk-small (s .log .now) (s .score .now) (s .allowance) _ (c .before .before .walk .ensures) in omega (arith, w .few, w .told, c .end-sector .ensures)
+add-result-2 c =
+    let s = c .before .before .before .before .before .args in
+    let walk = c .before .before .walk in
+    let end-sector = c .end-sector in
+    let w = walk-small (s .log .now) (s .waiting .now) (s .score .now) (s .allowance) _ (walk .ensures) in
+    omega (arith, w .few, w .told, end-sector .ensures)
 
 returns : tie.Need-returns
 returns c =
-    walked-so (c .before .before .walk .result) _ (c .before .number .result) (c .end-sector .result) (c .before .before .walk .ensures) (c .before .number .ensures) (c .end-sector .ensures)
+    let walk = c .before .before .walk in
+    let number = c .before .number in
+    let end-sector = c .end-sector in
+    walked-so (walk .result) _ (number .result) (end-sector .result) (walk .ensures) (number .ensures) (end-sector .ensures)
 
 pub skywimple-walk-spec : {M : Type 1} → statement M
 skywimple-walk-spec =

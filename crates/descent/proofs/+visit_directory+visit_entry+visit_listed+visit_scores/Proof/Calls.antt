@@ -20,21 +20,21 @@ use Rattle.visit.proofs.answer.Reads as answer
 use Rattle.visit.proofs.entry_bytes.Reads as entry-bytes
 use Rattle.descent.proofs.nest_of.Reads as nest-of
 use Rattle.visit.proofs.one_more.Reads as one-more
-use Rattle.visit.proofs.score_bytes.Reads as score-bytes
+use Rattle.tree.proofs.score_at.Reads as score-at
 use Rattle.visit.proofs.visit_level.Reads as visit-level
 
 -- three times what is left of the allowance, and the place in the order of the calls that spend nothing: directory, listed or scores, entry
 abbrev pub μ-directory : Measures 1 directory-kinds.ps ℕ
-μ-directory κs a = 3 * (a .1 .1 .1 .1 .0) + 2
+μ-directory κs a = 3 * (a .1 .1 .1 .1 .1 .1 .0) + 2
 
 abbrev pub μ-listed : Measures 1 listed-kinds.ps ℕ
-μ-listed κs a = 3 * (a .1 .1 .1 .1 .1 .0) + 1
+μ-listed κs a = 3 * (a .1 .1 .1 .1 .1 .1 .1 .0) + 1
 
 abbrev pub μ-scores : Measures 1 scores-kinds.ps ℕ
-μ-scores κs a = 3 * (a .1 .1 .1 .1 .1 .1 .0) + 1
+μ-scores κs a = 3 * (a .1 .1 .1 .1 .1 .1 .1 .1 .0) + 1
 
 abbrev pub μ-entry : Measures 2 entry-kinds.ps ℕ
-μ-entry κs a = 3 * (a .1 .1 .1 .1 .1 .0)
+μ-entry κs a = 3 * (a .1 .1 .1 .1 .1 .1 .1 .0)
 
 -- a function at a measure t, and below it
 abbrev pub directory-at : ℕ → In 1 directory-kinds.ps
@@ -94,4 +94,4 @@ listed-calls t = (
 )
 
 abbrev pub scores-calls : ℕ → scores-lts.Claims
-scores-calls t = (score-bytes.Asked, score-bytes.Learnt, entry-below t, entry.Post)
+scores-calls t = (score-at.Asked, score-at.Learnt, entry-below t, entry.Post)

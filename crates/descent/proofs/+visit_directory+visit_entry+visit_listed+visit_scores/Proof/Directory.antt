@@ -1,6 +1,7 @@
 -- `descent::visit_directory` meets its contract: the entries of the block in order.
 use Prim.Native.Nat.{ℕ, _-_}
 use borrow.Author.Needs.{needs}
+use Rattle.block.specs.Log.{joined}
 use Rattle.reader.specs.Reader.{bytesAt}
 use Rattle.descent.specs.Parts.{visitListed}
 use Rattle.descent.proofs.InOrder.{Rest, rest-at-first, all-done, rest-goes-on, refused-stops}
@@ -10,16 +11,16 @@ use Rattle.descent.proofs.+visit_directory+visit_entry+visit_listed+vis
 use Rattle.descent.proofs.+visit_directory+visit_entry+visit_listed+visit_scores.Proof.Calls.{directory-at, directory-calls}
 
 abbrev Inv : lts.InvT-loop
-Inv log first size nest left count visits₀ i₀ visits i =
-    Rest (λ f. visitListed f log nest) 40 (wholes (bytesAt log (first .0) size)) left count visits i
+Inv log end waiting first size nest left count visits₀ i₀ visits i =
+    Rest (λ f. visitListed f (joined (end .0) log waiting) nest) 40 (wholes (bytesAt (joined (end .0) log waiting) (first .0) size)) left count visits i
 
 abbrev μ : lts.MeasureT-loop
-μ log first size nest left count visits₀ i₀ visits i = count - i
+μ log end waiting first size nest left count visits₀ i₀ visits i = count - i
 
 module _ (t : ℕ) where
   -- where the function began: one `.before` for each lent slice
   abbrev start : lts.At-loop (directory-calls t) (directory-at t) Post Inv μ → lts.Start (directory-calls t) (directory-at t) Post Inv μ
-  start l = l .before .before
+  start l = l .before .before .before
 
   loop-holds : lts.Need-loop-holds (directory-calls t) (directory-at t) Post Inv μ
   loop-holds c = rest-at-first _ _ _ _ _

@@ -3,6 +3,8 @@ use Prim.Native.Nat.{ℕ}
 use native.Mathlib.Omega.{arith}
 use borrow.Author.Needs.{needs}
 use borrow.Author.Tests.{not-true, not-false}
+use Rattle.block.specs.Log.{joined}
+use Rattle.visit.proofs.Visits.{in-both}
 use Rattle.descent.proofs.EntryBlocks.{EntryMet, block-known, refused-ends, leaf-ends, directory-below, ragged-is-refused, scores-below}
 use Rattle.descent.proofs.visit_entry.Reads.{Post}
 use Rattle.descent.proofs.+visit_directory+visit_entry+visit_listed+visit_scores.Lts-visit_entry as lts
@@ -11,12 +13,12 @@ use Rattle.descent.proofs.+visit_directory+visit_entry+visit_listed+vis
 module _ (t : ℕ) where
   -- where the function began: one `.before` for each lent slice
   abbrev start : lts.After-visit-level (entry-calls t) (entry-at-measure t) Post → lts.Start (entry-calls t) (entry-at-measure t) Post
-  start c = c .before .before .before
+  start c = c .before .before .before .before
 
   -- what the visit met
   met : (c : lts.After-visit-level (entry-calls t) (entry-at-measure t) Post)
       → let a = start c .args in
-      EntryMet (a .log .now) (a .e) (a .level) (a .nest) (a .score .now) (a .left) (c .visit-level .result)
+      EntryMet (joined (a .end .0) (a .log .now) (a .waiting .now)) (a .e) (a .level) (a .nest) (a .score .now) (a .left) (c .visit-level .result)
   met c = record { met = c .visit-level .ensures }
 
   refused : lts.Need-returns (entry-calls t) (entry-at-measure t) Post
@@ -34,7 +36,9 @@ module _ (t : ℕ) where
   visit-directory-requires c κs =
       let k = c .before .before .before .before in
       let b = block-known (met (k .before .before)) (k .look .given .1) in
-      (omega (arith, b .some-left), (b .in-log, b .not-many, b .not-deep))
+      let f = start (k .before .before) in
+      let p = f .pre .1 .0 in
+      (omega (arith, b .some-left), (p, in-both (f .args .end .0) (f .args .log .now) (f .args .waiting .now) p _ (b .in-log), b .not-many, b .not-deep))
 
   one-more-requires : lts.Need-one-more-requires (entry-calls t) (entry-at-measure t) Post
   one-more-requires c κs =
@@ -58,7 +62,9 @@ module _ (t : ℕ) where
   visit-scores-requires c κs =
       let k = c .before .before .before in
       let b = block-known (met (k .before .before)) (k .look .given .1) in
-      (omega (arith, b .some-left), (b .in-log, b .not-many, c .if3 .left, omega arith))
+      let f = start (k .before .before) in
+      let p = f .pre .1 .0 in
+      (omega (arith, b .some-left), (p, in-both (f .args .end .0) (f .args .log .now) (f .args .waiting .now) p _ (b .in-log), b .not-many, c .if3 .left, omega arith))
 
   one-more-requires-2 : lts.Need-one-more-requires-2 (entry-calls t) (entry-at-measure t) Post
   one-more-requires-2 c κs =

@@ -4,6 +4,7 @@ use mathlib.Core.Path.{sym, _∙_}
 use native.Mathlib.Omega.{arith}
 use borrow.Author.Needs.{needs}
 use borrow.Author.Tests.{not-true, not-false}
+use Rattle.block.specs.Log.{joined}
 use Rattle.reader.specs.Reader.{bytesAt}
 use Rattle.descent.proofs.Listed.{EntryRead, entry-read, depth-at-most-7, score-of-20, inactive-is-skipped, ill-formed-is-refused, well-formed-is-visited}
 use Rattle.descent.proofs.visit_listed.Reads.{Post}
@@ -13,13 +14,13 @@ use Rattle.descent.proofs.+visit_directory+visit_entry+visit_listed+vis
 module _ (t : ℕ) where
   -- where the function began: one `.before` for each lent slice
   abbrev start : lts.After-entry-bytes (listed-calls t) (listed-at t) Post → lts.Start (listed-calls t) (listed-at t) Post
-  start c = c .before .before
+  start c = c .before .before .before
 
   -- the entry as it is read
   here : (c : lts.After-entry-at (listed-calls t) (listed-at t) Post)
       → let a = start (c .before .before) .args in
-      EntryRead (bytesAt (a .log .now) (a .first .0) (a .size)) (a .i) (c .before .before .entry-bytes .result) (c .entry-at .result)
-  here c = entry-read _ _ _ _ (start (c .before .before) .pre .1 .3) (c .before .before .entry-bytes .ensures) (c .entry-at .ensures)
+      EntryRead (bytesAt (joined (a .end .0) (a .log .now) (a .waiting .now)) (a .first .0) (a .size)) (a .i) (c .before .before .entry-bytes .result) (c .entry-at .result)
+  here c = entry-read _ _ _ _ (start (c .before .before) .pre .1 .4) (c .before .before .entry-bytes .ensures) (c .entry-at .ensures)
 
   skipped : lts.Need-returns (listed-calls t) (listed-at t) Post
   skipped c = (omega arith, λ f l. inactive-is-skipped (here (c .before .before)) (not-true _ (c .if1 .taken)) f _ _ _)
@@ -32,7 +33,7 @@ module _ (t : ℕ) where
   visit-entry-requires : lts.Need-visit-entry-requires (listed-calls t) (listed-at t) Post
   visit-entry-requires c κs =
       let r = here (c .before .before .before .before .before .before .before) in
-      (omega arith, (score-of-20 r, depth-at-most-7 r))
+      (omega arith, (start (c .before .before .before .before .before .before .before .before .before) .pre .1 .0, score-of-20 r, depth-at-most-7 r))
 
   visited : lts.Need-returns-3 (listed-calls t) (listed-at t) Post
   visited c =

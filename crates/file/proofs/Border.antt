@@ -1,0 +1,84 @@
+-- Where the sectors of both parts are read on from makes no difference: the run is found at the same place, in the same part.
+use mathlib.Core.Path.{_≡_, refl, sym, ap, _∙_}
+use mathlib.Core.Bool.{cond}
+use mathlib.Core.Option.{Option, none, some}
+use Prim.Native.Nat.{ℕ, zero, suc, _+_, _-_, _*_, _%_, _≤_, _<_}
+use native.Mathlib.Omega.{arith}
+use lib.Dec.{leb, eqb}
+use borrow.Author.Tests.{lt-ltb}
+use lib.ListN.{length, take, length-take}
+use Rattle.ground.specs.Choice.{on}
+use Rattle.buffer.specs.Bytes.{Bytes, same}
+use Rattle.kind.specs.Kind.{zeroScore}
+use Rattle.refusal.specs.declared.Refusal.the-variants as why
+use Rattle.block.specs.Block.{Row}
+use Rattle.block.specs.Log.{sectors, Alike, joined, used}
+use Rattle.block.proofs.Used.{used-le-sectors}
+use Rattle.block.proofs.Joined.{used-joined}
+use Rattle.block.proofs.Alike.{used-alike}
+use Rattle.log.specs.LookUp.{held, absence}
+use Rattle.log.specs.Parts.{tape}
+use Rattle.log.proofs.Alike.{held-alike, absence-alike}
+use Rattle.lookup.proofs.Both.{used-waits, used-front}
+use Rattle.entry.specs.declared.Entry.{Entry}
+use Rattle.tree.specs.Tree.{pointer, typeAt}
+use Rattle.file.specs.declared.Extent.{Extent}
+use Rattle.file.specs.declared.Extent.the-variants.{Stored, Zeros, Refused}
+use Rattle.file.specs.File.{zeroRun, fetched, pointerIndex, under, split}
+use Rattle.file.proofs.Inside.{Inside, under-in}
+
+-- ---- logs with the same sectors
+
+on-same : (o : Option Row) (x : Extent) (f g : Row → Extent) → ((r : Row) → f r ≡ g r) → on o x f ≡ on o x g
+on-same none x f g e = refl
+on-same (some r) x f g e = e r
+
+module _ (a b : Bytes) (f : Alike a b) (page : ℕ) (e : Entry) (offset : ℕ) where
+  fetched-alike : (t : ℕ) (s : Bytes) (count : ℕ) (g h : Row → Extent) → ((r : Row) → g r ≡ h r) → fetched a t s count g ≡ fetched b t s count h
+  fetched-alike t s count g h q =
+      rw (held-alike a b f t s, absence-alike a b f)
+      (on-same (held b t s) (Refused (absence b)) _ _ (λ r. ap (λ (x : Extent). cond (leb (length (r .bytes)) count) x (Refused why.OverCount)) (q r)))
+
+  pub under-alike : (level : ℕ) (s : Bytes) → under a page e offset level s ≡ under b page e offset level s
+  unfolding under
+  under-alike zero s = ap (λ (x : Extent). cond (same s zeroScore) (zeroRun page e offset) x) (fetched-alike (typeAt e 0) s (e .dsize) _ _ (λ r. refl))
+  under-alike (suc d) s =
+      ap (λ (x : Extent). cond (same s zeroScore) (zeroRun page e offset) x)
+      (fetched-alike (2 + suc d) s (e .psize) _ _
+      (λ r. ap (λ (x : Extent). cond (eqb (length (r .bytes) % 20) 0) x (Refused why.Pointers)) (under-alike d (pointer (r .bytes) (pointerIndex e offset d)))))
+
+-- ---- the border
+
+-- it is the end of the used part, or nothing waits and it is behind it
+module _ (log waiting : Bytes) (u : ℕ) (h : u ≤ sectors (length log)) (f : Alike (joined u log waiting) (tape log waiting)) where
+  same-used : used (joined u log waiting) ≡ used log + used waiting
+  same-used = used-alike (joined u log waiting) (tape log waiting) f ∙ used-joined log waiting
+
+  border-place : (w : ℕ) → used waiting ≡ w → (used log ≤ u) × (0 < w → u ≡ used log)
+  border-place zero q =
+      let front : used (take (512 * u) log) ≡ used log = used-front u log waiting h 0 (sym q) refl ∙ same-used ∙ (let z : used log + used waiting ≡ used log = omega arith in z) in
+      (omega (arith, front, used-le-sectors (take (512 * u) log), length-take (512 * u) log), λ p. absurd (omega arith))
+  border-place (suc w) q =
+      let both = used-waits u log waiting h (suc w) (sym q) (λ z. omega arith) in
+      let e : u ≡ used log = omega (arith, both, same-used) in
+      (omega arith, λ p. e)
+
+  -- a run in the used part is split alike
+  split-alike : (page : ℕ) (x : Extent) → Inside (used log + used waiting) page x → split (512 * u) x ≡ split (512 * used log) x
+  split-alike page (Stored at n) i = go (used waiting) refl
+    where
+      go : (w : ℕ) → used waiting ≡ w → split (512 * u) (Stored at n) ≡ split (512 * used log) (Stored at n)
+      go zero q =
+          let B = border-place zero q in
+          let lt : at < 512 * used log = omega (arith, i .2) in
+          rw (lt-ltb at (512 * used log) lt, lt-ltb at (512 * u) (omega (arith, B .0))) refl
+      go (suc w) q = ap (λ (k : ℕ). split (512 * k) (Stored at n)) (border-place (suc w) q .1 (omega arith))
+  split-alike page (Zeros n) i = refl
+  split-alike page (Refused w) i = refl
+
+  pub border-split : (page : ℕ) (e : Entry) (offset level : ℕ) (s : Bytes)
+      → split (512 * u) (under (joined u log waiting) page e offset level s) ≡ split (512 * used log) (under (tape log waiting) page e offset level s)
+  border-split page e offset level s =
+      let x = under (tape log waiting) page e offset level s in
+      let i : Inside (used log + used waiting) page x = rw (← used-joined log waiting) (under-in (tape log waiting) page e offset level s) in
+      ap (split (512 * u)) (under-alike (joined u log waiting) (tape log waiting) f page e offset level s) ∙ split-alike page x i

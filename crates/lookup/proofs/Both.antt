@@ -1,0 +1,64 @@
+-- The first u sectors of a log and those of a waiting part: where their used part ends; and a log read to its end, with nothing behind it.
+use mathlib.Core.Path.{_≡_, refl, sym, ap, _∙_}
+use mathlib.Core.Bool.{Bool, true, false}
+use mathlib.Core.List.{[], append-nil}
+use Prim.Native.Nat.{ℕ, zero, suc, _+_, _-_, _*_, _≤_, _<_}
+use native.Mathlib.Nat.{le-antisymm}
+use native.Mathlib.Omega.{arith}
+use lib.Dec.{ltb}
+use borrow.Author.Tests.{ltb-true, ltb-false}
+use lib.ListN.{length, take}
+use Rattle.buffer.specs.Bytes.{Bytes, zeros}
+use Rattle.block.specs.Log.{sectors, at, Alike, joined, usedOf, used}
+use Rattle.block.proofs.Used.{lt-used, used-le, used-le-sectors, at-used, blank-past, at-beyond}
+use Rattle.block.proofs.Joined.{at-log, at-waiting, at-alone}
+use Rattle.block.proofs.Alike.{used-alike}
+use Rattle.log.specs.LookUp.{held, lookUp}
+use Rattle.log.proofs.Alike.{held-alike, look-up-alike}
+
+module _ (u : ℕ) (log waiting : Bytes) (h : u ≤ sectors (length log)) where
+  both : Bytes
+  both = joined u log waiting
+
+  least : used both ≤ u + used waiting
+  unfolding both
+  least = used-le both (u + used waiting) (λ n g. ap zeros (at-waiting u log waiting h n (omega arith)) ∙ blank-past waiting (n - u) (omega arith))
+
+  most : (w : ℕ) → used waiting ≡ w → 0 < w → u + w ≤ used both
+  unfolding both
+  most zero q p = absurd (omega arith)
+  most (suc w) q p =
+      let e : u + w - u ≡ w = omega arith in
+      let s : zeros (at both (u + w)) ≡ false = ap zeros (at-waiting u log waiting h (u + w) (omega arith) ∙ ap (at waiting) e) ∙ at-used waiting w q in
+      omega (arith, lt-used both (u + w) s)
+
+  -- a waiting sector is used: the used part ends there
+  pub used-waits : (w : ℕ) → w ≡ used waiting → (w ≡ 0 → ⊥) → u + w ≡ used (joined u log waiting)
+  unfolding both
+  used-waits w e p = let q : used waiting ≡ w = sym e in le-antisymm (most w q (omega arith)) (omega (arith, least))
+
+  -- none is: it ends among the log's sectors
+  pub used-front : (w : ℕ) → w ≡ used waiting → w ≡ 0 → used (take (512 * u) log) ≡ used (joined u log waiting)
+  unfolding both joined used usedOf
+  used-front w e p = ap used (sym (append-nil (take (512 * u) log))) ∙ used-alike (joined u log []) both same
+    where
+      same : Alike (joined u log []) both
+      same n = go (ltb n u) refl
+        where
+          go : (b : Bool) → ltb n u ≡ b → at (joined u log []) n ≡ at both n
+          go true q = let g = ltb-true n u q in at-log u log [] h n g ∙ sym (at-log u log waiting h n g)
+          go false q =
+              let g = ltb-false n u q in
+              at-waiting u log [] h n g ∙ at-beyond [] (n - u) (omega arith) ∙ sym (at-waiting u log waiting h n g ∙ at-beyond waiting (n - u) (omega arith))
+
+-- a log read to its end, with nothing behind it
+module _ (log : Bytes) where
+  same-sectors : Alike (joined (sectors (length log)) log []) log
+  unfolding used usedOf
+  same-sectors = at-alone (sectors (length log)) log [] (omega arith) (used-le-sectors log) refl
+
+  pub held-whole : (t : ℕ) (s : Bytes) → held (joined (sectors (length log)) log []) t s ≡ held log t s
+  held-whole = held-alike (joined (sectors (length log)) log []) log same-sectors
+
+  pub look-up-whole : (t : ℕ) (s : Bytes) → lookUp (joined (sectors (length log)) log []) t s ≡ lookUp log t s
+  look-up-whole = look-up-alike (joined (sectors (length log)) log []) log same-sectors

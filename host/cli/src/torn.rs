@@ -1,0 +1,160 @@
+//! Writes that are torn: a step of writing fails, the machine stops, and of each write that was not
+//! synced any sectors arrived, whole or in part. The second program's ledger is told which, and from
+//! then on every answer has to be the ledger's.
+
+use std::collections::BTreeSet;
+use std::env;
+use std::fs;
+use std::path::Path;
+
+use boundary::{sha1, Session, MOST_WAITING};
+use second::account::Account;
+use second::ledger::{Origin, Prediction};
+use second::message::{whole, Lent};
+
+use crate::failing::{quietly, Folder};
+use crate::faults::{on_failing_disk, on_good_disk, How, Lost, Random};
+use crate::format::{BLANK, SECTOR};
+use crate::reader::{self, Reader};
+use crate::session::{whole_reply, Answers, REPLY, SYNC};
+use crate::status::Failure;
+use crate::writer::Writer;
+
+/// How many logs are tried, unless the environment has another number in `TORN_ROUNDS`.
+const ROUNDS: u64 = 400;
+/// How often a log is opened while the disk may fail.
+const LIVES: usize = 4;
+const SECTORS: usize = 96;
+const WAITING: usize = MOST_WAITING * SECTOR;
+
+fn hello() -> Vec<u8> {
+    whole(4, 0, b"\0\x0202\0\0\0\0\0")
+}
+
+fn write(block: &[u8]) -> Vec<u8> {
+    whole(14, 1, &[&[13, 0, 0, 0], block].concat())
+}
+
+fn read(block: &[u8]) -> Vec<u8> {
+    whole(12, 2, &[&sha1(block)[..], &[13, 0, 0xff, 0xff]].concat())
+}
+
+/// Has a log answer a message.
+fn ask(log: &mut dyn Answers, session: Session, message: &[u8]) -> Result<(u8, Vec<u8>), Failure> {
+    let mut reply = vec![0; REPLY];
+    let served = quietly(|streams| log.serve(session, message, &mut reply, streams))?;
+    let number = served
+        .outcome
+        .map_or_else(|refusal| refusal.number(), |()| 0);
+    Ok((number, whole_reply(&reply).to_vec()))
+}
+
+/// Opens the log and sends messages until a step fails. What was answered, the ledger takes as well.
+fn live(path: &Path, messages: &[Vec<u8>], account: &mut Account) -> Result<(), Failure> {
+    let mut writer = quietly(|streams| Writer::open(path, false, streams))?;
+    let greeted = Origin::After(account.ledger.sessions().len());
+    account.request(Origin::Fresh, &hello(), REPLY);
+    for message in messages {
+        let answer = ask(&mut writer, Session::Greeted, message)?;
+        let Prediction { number, reply, .. } = account.request(greeted, message, REPLY);
+        assert_eq!(answer, (number, reply));
+    }
+    Ok(())
+}
+
+/// The machine stopped: the ledger is told which sectors of the waiting rows arrived. All others are
+/// what they were.
+fn stop(path: &Path, account: &mut Account) {
+    let left = fs::read(path).unwrap();
+    let mut expected = account.log().to_vec();
+    let (mut arrived, mut torn) = (BTreeSet::new(), BTreeSet::new());
+    for (number, bytes) in account.on_their_way() {
+        let bounds = number * SECTOR..(number + 1) * SECTOR;
+        let found = &left[bounds.clone()];
+        expected[bounds].copy_from_slice(found);
+        if found == bytes {
+            arrived.insert(number);
+        } else if found != BLANK {
+            torn.insert(number);
+        }
+    }
+    assert!(left == expected, "a settled sector was harmed");
+    account.crash(&left, &arrived, &torn, Some(WAITING));
+}
+
+/// Reads every block, as a server that only reads. How many are there, and whether there is doubt.
+fn check(path: &Path, blocks: &[Vec<u8>], account: &Account) -> (usize, bool) {
+    let mut ledger = account.ledger.clone();
+    let greeted = Origin::After(ledger.sessions().len());
+    let mut predict = |origin, message: &[u8]| -> Prediction {
+        ledger.request(origin, message, REPLY, account.lent())
+    };
+    predict(Origin::Fresh, &hello());
+    let mut reader = quietly(|streams| Reader::open(path, streams)).unwrap();
+    let mut numbers = Vec::new();
+    for block in blocks.iter().map(|block| &block[..]).chain([&b"never"[..]]) {
+        let Prediction { number, reply, .. } = predict(greeted, &read(block));
+        let answer = ask(&mut reader, Session::Greeted, &read(block));
+        assert_eq!(answer.unwrap(), (number, reply));
+        numbers.push(number);
+    }
+    let held = numbers.iter().filter(|number| **number == 0).count();
+    (held, numbers.contains(&12))
+}
+
+/// Some groups of some blocks, with a sync after each.
+fn messages(blocks: &[Vec<u8>], random: &mut Random) -> Vec<Vec<u8>> {
+    let mut messages = Vec::new();
+    for _ in 0..=random.below(4) {
+        for _ in 0..=random.below(4) {
+            messages.push(write(&blocks[random.below(blocks.len())]));
+        }
+        messages.push(SYNC.to_vec());
+    }
+    messages
+}
+
+#[test]
+fn torn_writes() {
+    let rounds = env::var("TORN_ROUNDS").map_or(ROUNDS, |rounds| rounds.parse().unwrap());
+    let blocks = [1, 300, 403, 404, 900, 1209, 2000].map(|length| vec![length as u8 | 1; length]);
+    let (mut stops, mut doubts) = (0, 0);
+    for seed in 0..rounds {
+        let mut random = Random(seed);
+        let folder = Folder::new();
+        let path = folder.log();
+        let init = ["--sectors", &SECTORS.to_string()];
+        assert_eq!(on_good_disk(|| folder.run("init", &init)), 0);
+        let mut account = Account::new(Lent {
+            log: SECTORS * SECTOR,
+            waiting: Some(WAITING),
+        });
+        for _ in 0..LIVES {
+            let messages = messages(&blocks, &mut random);
+            let how = [How::Before, How::Half, How::After, How::Forgets][random.below(4)];
+            let lost = Lost::Torn(random.below(usize::MAX) as u64);
+            let failed = on_failing_disk(random.below(24), how, lost, || {
+                let _ = live(&path, &messages, &mut account);
+            });
+            stop(&path, &mut account);
+            stops += u64::from(failed);
+            doubts += u64::from(check(&path, &blocks, &account).1);
+            if random.below(3) == 0 {
+                // Another reader renews the mark first, where a crash left it behind.
+                let log = on_good_disk(|| quietly(|streams| reader::read(&path, false, streams)));
+                assert!(log.unwrap() == account.log());
+            }
+        }
+        // All that is stored later is there, as if nothing had happened.
+        on_good_disk(|| {
+            let all = blocks.iter().map(|block| write(block));
+            let all: Vec<_> = all.chain([SYNC.to_vec()]).collect();
+            let stored = live(&path, &all, &mut account);
+            stored.map_err(|failure| failure.words).unwrap();
+            stop(&path, &mut account);
+            assert_eq!(check(&path, &blocks, &account).0, blocks.len());
+        });
+    }
+    let enough = stops > rounds && doubts > rounds / 2;
+    assert!(enough, "{stops} stops, {doubts} doubts");
+}
