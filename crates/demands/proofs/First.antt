@@ -25,6 +25,9 @@ module _ (t : ℕ) (s : Bytes) where
   abbrev is : Row → Bool
   is r = eqb (r .kind) t && same (r .score) s
 
+  is-so : (r : Row) → r .kind ≡ t → r .score ≡ s → is r ≡ true
+  is-so r k e = simp (eq-eqb (r .kind) t k, ap (λ (b : Bytes). same b s) e ∙ same-refl s)
+
   pub first-none : (rows : List Row) → ((r : Row) → List·Memᴰ r rows → r .kind ≡ t → r .score ≢ s) → firstRow t s rows ≡ none
   unfolding firstRow
   first-none [] f = refl
@@ -35,6 +38,16 @@ module _ (t : ℕ) (s : Bytes) where
           let p = and-true (eqb (r .kind) t) (same (r .score) s) q in
           absurd (f r (List·Memᴰ·head refl) (eqb-true (r .kind) t (p .0)) (same-true (r .score) s (p .1)))
       go false q e = e
+
+  pub first-none-out : (rows : List Row) → firstRow t s rows ≡ none → (r : Row) → List·Memᴰ r rows → r .kind ≡ t → r .score ≢ s
+  unfolding firstRow
+  first-none-out [] e r m k score = List·Memᴰ·not-nil m
+  first-none-out (x ∷ rows) e r m k score = go (is x) refl e (List·Memᴰ·cases-cons m) (λ f i. first-none-out rows f r i k score)
+    where
+      go : (b : Bool) → is x ≡ b → cond b (some x) (firstRow t s rows) ≡ none → (r ≡ x) ⊎ List·Memᴰ r rows → (firstRow t s rows ≡ none → List·Memᴰ r rows → ⊥) → ⊥
+      go true q n i f = let z : _≡_ {A = ℕ} 0 1 = cc in omega arith
+      go false q n (inl i) f = true≢false (sym (is-so r k score) ∙ ap is i ∙ q)
+      go false q n (inr i) f = f n i
 
   pub first-in : (rows : List Row) (r : Row) → firstRow t s rows ≡ some r → List·Memᴰ r rows × (r .kind ≡ t) × (r .score ≡ s)
   unfolding firstRow
@@ -59,13 +72,10 @@ module _ (t : ℕ) (s : Bytes) where
       Least : Option Row → Type 0
       Least o = (r : Row) × (o ≡ some r) × (r .first ≤ y .first)
 
-      this : y ≡ x → is x ≡ true
-      this q = simp (eq-eqb (x .kind) t (ap (λ (z : Row). z .kind) (sym q) ∙ k), ap (λ (b : Bytes). same b s) (ap (λ (z : Row). z .score) (sym q) ∙ e) ∙ same-refl s)
-
       go : (b : Bool) → is x ≡ b → (y ≡ x) ⊎ List·Memᴰ y rows → (List·Memᴰ y rows → Least (firstRow t s rows)) → Least (cond b (some x) (firstRow t s rows))
       go true q (inl w) f = (x, refl, omega (arith, ap (λ (z : Row). z .first) w))
       go true q (inr w) f = (x, refl, omega (arith, ascends-from archive (suc (x .first)) rows (a .1) y w))
-      go false q (inl w) f = absurd (true≢false (sym (this w) ∙ q))
+      go false q (inl w) f = absurd (true≢false (sym (is-so y k e) ∙ ap is w ∙ q))
       go false q (inr w) f = f w
 
   pub first-front : (xs ys : List Row) (r : Row) → firstRow t s xs ≡ some r → firstRow t s (xs ++ ys) ≡ some r

@@ -41,7 +41,7 @@ use Rattle.demands.proofs.Known.{same-allowed, write-decision}
 use Rattle.demands.proofs.Events.{stands, mirrors}
 use Rattle.demands.proofs.Hurts.{only}
 use Rattle.demands.proofs.MayBe.{any-sector-may-be-zeroed, any-write-may-be-torn}
-use Rattle.demands.proofs.Torn.{on-its-way}
+use Rattle.demands.proofs.Torn.{added-is-on-its-way}
 
 -- "hello 00 0b 04 00 00 02 30 32 00 00 00 00 00"; a write of 404 times `a` as a data block, tag 1
 hello : Bytes
@@ -202,7 +202,7 @@ unfolding asked-put
 torn-can-be =
     let h = one none alone-allowed alone-fit in
     let e = put-effect none alone-allowed alone-fit in
-    let way = on-its-way h asked-put stored put-small e in
+    let way = added-is-on-its-way h asked-put stored put-small e in
     let t = any-write-may-be-torn h (some asked-put) (1 ∷ []) (0 ∷ []) none put-small
     (λ n i. (stored, way, covered n (omega (arith, only 1 n i)))) (λ n i. (stored, way, covered n (omega (arith, only 0 n i)))) apart in
     (h, asked-put, stored, t .0, e, two-parts, t .1)

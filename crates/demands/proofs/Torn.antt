@@ -1,48 +1,49 @@
 -- A stop: what was settled is there; of what waited what arrived whole is too, what did not is not known or as if never written. And growth.
 use mathlib.Core.Path.{_≡_, refl, sym, ap, subst, _∙_}
 use mathlib.Core.Bool.{Bool, true, false, true≢false}
-use mathlib.Core.List.{List, [], _∷_, _++_, List·Memᴰ, List·Memᴰ·head, List·Memᴰ·tail, List·Memᴰ·append-cases, List·Memᴰ·eq-of-singleton}
-use mathlib.Core.Logic.{_≢_, _⊎_, inl, inr}
+use mathlib.Core.List.{List, [], _∷_, _++_, List·Memᴰ, List·Memᴰ·head, List·Memᴰ·tail}
+use mathlib.Core.Logic.{_≢_}
 use mathlib.Core.Option.{Option, none, some}
-use Prim.Native.Nat.{ℕ, _≤_, _<_}
+use Prim.Native.Nat.{ℕ, _<_}
 use native.Mathlib.Omega.{arith}
 use lib.Dec.{ltb}
 use borrow.Author.Tests.{ltb-true, ltb-false, lt-ltb, not-true}
 use Rattle.buffer.specs.Bytes.{Bytes, same}
 use Rattle.buffer.proofs.Bytes.{same-refl}
-use Rattle.message.specs.Message.{requestOf}
 use Rattle.kind.specs.Kind.{zeroScore}
 use Rattle.block.specs.Block.{Row, parts}
 use Rattle.block.specs.Log.{at, used, sound}
 use Rattle.block.proofs.Used.{at-beyond}
 use Rattle.log.specs.Parts.{Lent, oneLog}
-use Rattle.ledger.specs.Archive.{Effect, adds}
-use Rattle.ledger.specs.Ledger.{Ledger, has, hasAll, hit, intact, end, there, atSettling, enter, Doubtful}
+use Rattle.ledger.specs.Archive.{Effect}
+use Rattle.ledger.specs.Ledger.{Ledger, hasAll, intact, end, atSettling, Doubtful}
 use Rattle.ledger.specs.Reflects.{Reflects}
-use Rattle.ledger.specs.History.{Item, given, ruling}
+use Rattle.ledger.specs.History.{Item, given}
 use Rattle.ledger.specs.Events.{crash, begun, beginning, log-then, books-then}
-use Rattle.ledger.proofs.Covers.{covers-in, hit-none, hit-not}
-use Rattle.ledger.proofs.Intact.{intact-in, intact-out}
-use Rattle.ledger.proofs.Kept.{has-neither, keep-out, keep-in, there-late}
+use Rattle.ledger.proofs.Covers.{covers-in, hit-not}
+use Rattle.ledger.proofs.Intact.{intact-out}
+use Rattle.ledger.proofs.Kept.{keep-in}
 use Rattle.ledger.proofs.Doubt.{alone-early}
 use Rattle.ledger.proofs.Reflects.{used-end, row-sound}
 use Rattle.ledger.proofs.Crash.{Pending}
 use Rattle.ledger.proofs.Stop.{reflects-stop}
 use Rattle.ledger.proofs.Happens.{pending, follows-all}
+use Rattle.ledger.specs.Named.{AddsNewNames}
+use Rattle.ledger.proofs.Named.{waiting-is-only as only, torn-is-gone}
 use Rattle.ledger.proofs.Aftermath.{stopped, same-start, settled-stays, whole-is-there, torn-is-doubtful, nothing-behind}
-use Rattle.demands.specs.Ledger.{Extent, coveredBy}
+use Rattle.demands.specs.Ledger.{coveredBy}
 use Rattle.demands.specs.Instance.{extentOf, relent, archive}
 use Rattle.demands.specs.Events as claims
 use Rattle.demands.specs.Events.{Past, logThen, ledgerThen, Unchanged, OnItsWay, tornLedger, Torn}
 use Rattle.demands.proofs.Laws.{lawful}
 use Rattle.demands.proofs.LogLaws.{length-grown, at-grown}
 use Rattle.demands.proofs.LentLaws.{blank-behind}
-use Rattle.demands.proofs.First.{first-none}
-use Rattle.demands.proofs.TellAdds.{Fits, tell-fits}
+use Rattle.demands.proofs.First.{first-none, first-none-out}
+use Rattle.demands.proofs.TellAdds.{tell-fits}
 use Rattle.demands.proofs.Uncovered.{uncovered-at}
 use Rattle.demands.proofs.Doubt.{covering}
 use Rattle.demands.proofs.Moment.{read-unknown}
-use Rattle.demands.proofs.Events.{stands, mirrors, least, from-intact}
+use Rattle.demands.proofs.Events.{stands, mirrors, to-intact, from-intact}
 
 pub growth-adds-blanks : claims.GrowthAddsBlanks
 growth-adds-blanks k log w = (length-grown k log, λ n. at-grown k log n w)
@@ -116,65 +117,40 @@ module _ (h : Past) (q : Option (Item archive)) (arrived torn : List ℕ) (lend 
             let p = intact-out archive (after .changed) (after .rows) (x .0) (x .1) in
             absurd (true≢false (sym (x .2) ∙ doubt .1 (x .0 .first) (x .0) (row-sound archive lawful hurt after reflects-after (x .0) (p .0) (p .1))))
 
+-- the row that a request adds which was never answered
+pub added-is-on-its-way : claims.AddedIsOnItsWay
+added-is-on-its-way h q r small-so e =
+    let x = extentOf (books-then archive h .begin) in
+    let new = lawful .tell-adds (ledgerThen h) x (given archive (books-then archive h .past) q) (q .request) r small-so e in (
+      subst (λ (L : Ledger archive). List·Memᴰ r (L .rows)) (sym (ap (λ (a : Effect Row). begun archive a (ledgerThen h)) e)) (last-in (ledgerThen h .rows)),
+      omega (arith, stands h .waiting .before, new .1),
+    )
+  where
+    last-in : (rows : List Row) → List·Memᴰ r (rows ++ (r ∷ []))
+    last-in [] = List·Memᴰ·head refl
+    last-in (x ∷ rows) = List·Memᴰ·tail (last-in rows)
+
+-- ---- rows by their names: type and score
+
+abbrev nameOf : Row → ℕ × Bytes
+nameOf r = (r .kind, r .score)
+
+adds-new-names : AddsNewNames archive nameOf
+adds-new-names L x s q r small-so e y m same =
+    let f = tell-fits L x s q r small-so e in
+    first-none-out (r .kind) (r .score) (intact archive L) (f .alone) y m (ap (λ (n : ℕ × Bytes). n .0) same) (ap (λ (n : ℕ × Bytes). n .1) same)
+
+pub waiting-is-only : claims.WaitingIsOnly
+waiting-is-only h r m late =
+    let o = only archive lawful nameOf adds-new-names h none tt r m late in (
+      from-intact h (r .kind) (r .score) r (o .0) refl refl,
+      λ x u. o .1 x (to-intact h (r .kind) (r .score) x u) (λ i. (u .of-type i, u .of-score i)),
+    )
+
 pub torn-not-known : claims.TornNotKnown
-torn-not-known h q arrived torn lend hurt r count m buffer ok way out u none-there Q =
+torn-not-known h q arrived torn lend hurt r count m buffer ok way out u Q =
     let L = tornLedger h q arrived torn in
     let R = reflects-after h q arrived torn lend hurt ok in
     read-unknown hurt L R (r .kind) count (r .score) m buffer (not-zero h q arrived torn lend hurt ok r way) Q
-    (first-none (r .kind) (r .score) (intact archive L) none-there)
+    (first-none (r .kind) (r .score) (intact archive L) (λ x i k s. torn-is-gone archive lawful nameOf adds-new-names h q arrived torn lend hurt ok r way out x i (λ j. (k j, s j))))
     (uncovered-at (intact archive L) (end archive L) (r .first) (omega (arith, u, used-end archive lawful hurt L R)) (bare h q arrived torn lend hurt ok r way out u))
-
--- the row that a request adds which was never answered
-module _ (h : Past) (q : Item archive) (r : Row) (small-so : archive .OfBytes (q .request)) (e : ruling archive (books-then archive h) q .effect ≡ adds r) where
-  abbrev started : Ledger archive
-  started = beginning archive (books-then archive h) (some q)
-
-  begins-so : started ≡ enter archive r (ledgerThen h)
-  begins-so = ap (λ (x : Effect Row). begun archive x (ledgerThen h)) e
-
-  abbrev size : Extent
-  size = extentOf (books-then archive h .begin)
-
-  new : Fits (intact archive (ledgerThen h)) (end archive (ledgerThen h)) (ledgerThen h .start) size (requestOf (q .request .message)) (q .request .message) r
-  new = tell-fits (ledgerThen h) size (given archive (books-then archive h .past) q) (q .request) r small-so e
-
-  pub on-its-way : OnItsWay h (some q) r
-  on-its-way = (
-    subst (λ (L : Ledger archive). List·Memᴰ r (L .rows)) (sym begins-so) (last-in (ledgerThen h .rows)),
-    omega (arith, stands h .waiting .before, new .here),
-  )
-    where
-      last-in : (rows : List Row) → List·Memᴰ r (rows ++ (r ∷ []))
-      last-in [] = List·Memᴰ·head refl
-      last-in (x ∷ rows) = List·Memᴰ·tail (last-in rows)
-
-  -- no intact row has its type and score if it did not arrive whole: there was none, and it is not there itself
-  module _ (arrived torn : List ℕ) (out : hasAll arrived (r .first) (parts r) ≡ false) where
-    abbrev left-so : Ledger archive
-    left-so = tornLedger h (some q) arrived torn
-
-    none-left : (x : Row) → List·Memᴰ x (intact archive left-so) → x .kind ≡ r .kind → x .score ≡ r .score → ⊥
-    none-left x m k s =
-        let p = intact-out archive (left-so .changed) (left-so .rows) x m in
-        let t = keep-out archive (there archive (started .start) arrived) (started .rows) x (p .0) in
-        which (p .1) (t .1) (List·Memᴰ·append-cases (ledgerThen h .rows) (subst (λ (L : Ledger archive). List·Memᴰ x (L .rows)) begins-so (t .0)))
-      where
-        unhit : hit archive (left-so .changed) x ≡ false → hit archive (ledgerThen h .changed) x ≡ false
-        unhit f = hit-not archive (ledgerThen h .changed) x (λ n c.
-            let w : has n (started .changed) ≡ false =
-            has-neither n (started .changed) _ (hit-none archive (left-so .changed) x n f c) .0 in
-            ap (λ (L : Ledger archive). has n (L .changed)) (sym begins-so) ∙ w)
-
-        which : hit archive (left-so .changed) x ≡ false → there archive (started .start) arrived x ≡ true → List·Memᴰ x (ledgerThen h .rows) ⊎ List·Memᴰ x (r ∷ []) → ⊥
-        which f t (inl i) =
-            let u = from-intact h (r .kind) (r .score) x (intact-in archive (ledgerThen h .changed) (ledgerThen h .rows) x i (unhit f)) k s in
-            let l = least h (r .kind) (r .score) x u in
-            let c : none ≡ some (l .0) = sym (new .alone) ∙ l .1 in
-            let z : _≡_ {A = ℕ} 0 1 = cc in omega arith
-        which f t (inr i) =
-            let late : started .start ≤ r .first = omega (arith, on-its-way .1, ap (λ (L : Ledger archive). L .start) begins-so) in
-            true≢false (sym (there-late archive (started .start) arrived r late (ap (there archive (started .start) arrived) (sym (List·Memᴰ·eq-of-singleton i)) ∙ t)) ∙ out)
-
-pub torn-write-not-known : claims.TornWriteNotKnown
-torn-write-not-known h q arrived torn lend hurt r count m buffer ok e out u Q =
-    torn-not-known h (some q) arrived torn lend hurt r count m buffer ok (on-its-way h q r (ok .0) e) out u (none-left h q r (ok .0) e arrived torn out) Q

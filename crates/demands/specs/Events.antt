@@ -168,21 +168,21 @@ abbrev pub WholeIsThere : Type 0
 WholeIsThere = (h : Past) (q : Option (Item archive)) (arrived torn : List ℕ) (lend : Option ℕ) (hurt : Lent) (r : Row)
     → Torn h q arrived torn lend hurt → OnItsWay h q r → hasAll arrived (r .first) (parts r) ≡ true → sound (oneLog hurt) (r .first) ≡ some r
 
--- one that did not is "not known" while any of its sectors is in the used part, if no other copy of it is there
+-- each block on its way is the only one of its type and score: a write adds one only where none is unchanged, and damage falls where nothing waits
+abbrev pub WaitingIsOnly : Type 0
+WaitingIsOnly = (h : Past) (r : Row) → List·Memᴰ r (ledgerThen h .rows) → ledgerThen h .start ≤ r .first
+    → Unchanged h (r .kind) (r .score) r × ((x : Row) → Unchanged h (r .kind) (r .score) x → x ≡ r)
+
+-- the row of the request that was never answered is on its way
+abbrev pub AddedIsOnItsWay : Type 0
+AddedIsOnItsWay = (h : Past) (q : Item archive) (r : Row) → SomeOfBytes archive (some q) → ruling archive (books-then archive h) q .effect ≡ adds r → OnItsWay h (some q) r
+
+-- one that did not is "not known" while any of its sectors is in the used part
 abbrev pub TornNotKnown : Type 0
 TornNotKnown = (h : Past) (q : Option (Item archive)) (arrived torn : List ℕ) (lend : Option ℕ) (hurt : Lent) (r : Row) (count : ℕ) (m buffer : Bytes)
-    → Torn h q arrived torn lend hurt → OnItsWay h q r → hasAll arrived (r .first) (parts r) ≡ false → r .first < used (oneLog hurt)
-    → let L = tornLedger h q arrived torn in
-    ((x : Row) → List·Memᴰ x (intact archive L) → x .kind ≡ r .kind → x .score ≡ r .score → ⊥)
-    → Reads m buffer hurt (r .kind) count (r .score)
-    → step Greeted m hurt buffer ≡ refused (NotKnown (record { 0 = firstUncovered (intact archive L) (end archive L) 0 })) (tagOf m) Greeted hurt buffer
-
--- so is the block that the request adds which was never answered: no other copy of it is there
-abbrev pub TornWriteNotKnown : Type 0
-TornWriteNotKnown = (h : Past) (q : Item archive) (arrived torn : List ℕ) (lend : Option ℕ) (hurt : Lent) (r : Row) (count : ℕ) (m buffer : Bytes)
-    → Torn h (some q) arrived torn lend hurt → ruling archive (books-then archive h) q .effect ≡ adds r
+    → Torn h q arrived torn lend hurt → OnItsWay h q r
     → hasAll arrived (r .first) (parts r) ≡ false → r .first < used (oneLog hurt) → Reads m buffer hurt (r .kind) count (r .score)
-    → let L = tornLedger h (some q) arrived torn in
+    → let L = tornLedger h q arrived torn in
     step Greeted m hurt buffer ≡ refused (NotKnown (record { 0 = firstUncovered (intact archive L) (end archive L) 0 })) (tagOf m) Greeted hurt buffer
 
 -- and as if never written if none is: each sector is as it was in the log alone

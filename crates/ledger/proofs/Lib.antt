@@ -19,3 +19,4 @@ pub mod Asks
 pub mod After
 pub mod Theorem
 pub mod Aftermath
+pub mod Named

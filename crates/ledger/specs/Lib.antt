@@ -6,3 +6,4 @@ pub mod History
 pub mod Reflects
 pub mod Events
 pub mod Aftermath
+pub mod Named
