@@ -2,7 +2,6 @@
 //! synced any sectors arrived, whole or in part. The second program's ledger is told which, and from
 //! then on every answer has to be the ledger's.
 
-use std::collections::BTreeSet;
 use std::env;
 use std::fs;
 use std::path::Path;
@@ -14,7 +13,7 @@ use second::message::{whole, Lent};
 
 use crate::failing::{quietly, Folder};
 use crate::faults::{on_failing_disk, on_good_disk, How, Lost, Random};
-use crate::format::{BLANK, SECTOR};
+use crate::format::SECTOR;
 use crate::reader::{self, Reader};
 use crate::session::{whole_reply, Answers, REPLY, SYNC};
 use crate::status::Failure;
@@ -66,20 +65,8 @@ fn live(path: &Path, messages: &[Vec<u8>], account: &mut Account) -> Result<(), 
 /// what they were.
 fn stop(path: &Path, account: &mut Account) {
     let left = fs::read(path).unwrap();
-    let mut expected = account.log().to_vec();
-    let (mut arrived, mut torn) = (BTreeSet::new(), BTreeSet::new());
-    for (number, bytes) in account.on_their_way() {
-        let bounds = number * SECTOR..(number + 1) * SECTOR;
-        let found = &left[bounds.clone()];
-        expected[bounds].copy_from_slice(found);
-        if found == bytes {
-            arrived.insert(number);
-        } else if found != BLANK {
-            torn.insert(number);
-        }
-    }
-    assert!(left == expected, "a settled sector was harmed");
-    account.crash(&left, &arrived, &torn, Some(WAITING));
+    let same = account.stopped(&left, Some(WAITING));
+    assert!(same, "a settled sector was harmed");
 }
 
 /// Reads every block, as a server that only reads. How many are there, and whether there is doubt.

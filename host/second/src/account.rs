@@ -5,7 +5,7 @@ use std::collections::BTreeSet;
 use crate::ledger::{Effect, Ledger, Origin, Prediction, Row};
 use crate::log::write_in;
 use crate::message::Lent;
-use crate::sector::SECTOR;
+use crate::sector::{blank, SECTOR};
 
 pub struct Account {
     pub ledger: Ledger,
@@ -103,6 +103,28 @@ impl Account {
         self.ledger.crash(whole, torn);
         self.log.copy_from_slice(log);
         self.waiting = waiting_len.map(|length| vec![0; length]);
+    }
+
+    /// The same, told by the log alone: a sector on its way that is neither blank nor what was to be
+    /// written is torn. Whether every other sector is as it was.
+    pub fn stopped(&mut self, log: &[u8], waiting_len: Option<usize>) -> bool {
+        let mut expected = self.log.clone();
+        let (mut whole, mut torn) = (BTreeSet::new(), BTreeSet::new());
+        for (number, bytes) in self.on_their_way() {
+            let bounds = number * SECTOR..(number + 1) * SECTOR;
+            let found = &log[bounds.clone()];
+            expected[bounds].copy_from_slice(found);
+            if found == bytes {
+                whole.insert(number);
+            } else if !blank(found) {
+                torn.insert(number);
+            }
+        }
+        if log != expected {
+            return false;
+        }
+        self.crash(log, &whole, &torn, waiting_len);
+        true
     }
 
     /// What the archive last wrote into the log, and zeros where it never wrote.
