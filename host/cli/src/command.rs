@@ -6,7 +6,10 @@ use crate::arguments::{Arguments, Syntax};
 use crate::format::MOST_SECTORS;
 use crate::status::{self, Failure, DONE, USAGE};
 use crate::streams::Streams;
-use crate::{demo, doubt, get, help, init, list, put, read, report, serve, walk};
+use crate::{
+    card, demo, doubt, get, help, init, list, put, put_file, read, report, restore, save, search,
+    serve, walk,
+};
 
 pub struct Command {
     pub name: &'static str,
@@ -33,7 +36,7 @@ const fn syntax(
     }
 }
 
-pub const COMMANDS: [Command; 10] = [
+pub const COMMANDS: [Command; 15] = [
     Command {
         name: "init",
         usage: "LOG --sectors N",
@@ -115,6 +118,51 @@ pub const COMMANDS: [Command; 10] = [
         details: help::WALK,
         syntax: syntax(&["--adopt"], &["--allowance"], &["LOG", "SCORE"], 2),
         run: walk::run,
+    },
+    Command {
+        name: "put-file",
+        usage: "LOG FILE [--adopt]",
+        summary: "store a file of any size, print its entry",
+        details: help::PUT_FILE,
+        syntax: syntax(&["--adopt"], &[], &["LOG", "FILE"], 2),
+        run: put_file::run,
+    },
+    Command {
+        name: "save",
+        usage: "LOG FILE... [--adopt]",
+        summary: "store files under a root, print its score",
+        details: help::SAVE,
+        syntax: syntax(&["--adopt"], &[], &["LOG", "FILE"], usize::MAX),
+        run: save::run,
+    },
+    Command {
+        name: "restore",
+        usage: "LOG ROOT DIR [--overwrite] [--adopt]",
+        summary: "write the files of a saved root to a folder",
+        details: help::RESTORE,
+        syntax: syntax(&["--overwrite", "--adopt"], &[], &["LOG", "ROOT", "DIR"], 3),
+        run: restore::run,
+    },
+    Command {
+        name: "search",
+        usage: "LOG ROOT 'QUERY' [--json] [--html FILE] [--adopt]",
+        summary: "ask a query of every card of a saved root",
+        details: help::SEARCH,
+        syntax: syntax(
+            &["--json", "--adopt"],
+            &["--html"],
+            &["LOG", "ROOT", "QUERY"],
+            3,
+        ),
+        run: search::run,
+    },
+    Command {
+        name: "card",
+        usage: "FILE",
+        summary: "say whether a file is a card, and what is wrong where",
+        details: help::CARD,
+        syntax: syntax(&[], &[], &["FILE"], 1),
+        run: card::run,
     },
     Command {
         name: "demo",
@@ -203,7 +251,7 @@ fn overview() -> String {
          Blocks are stored in one append-only log and named by their SHA-1 score.\n\nCommands:\n",
     );
     for command in &COMMANDS {
-        text += &format!("  {:7} {}\n", command.name, command.summary);
+        text += &format!("  {:8} {}\n", command.name, command.summary);
     }
     text += "\n`skywimple COMMAND --help` says more; `skywimple --version` prints the version.\n";
     text += "Words after `--` are never options.\n\nExit statuses:\n";

@@ -1,4 +1,4 @@
-//! `demo`: three donor cards, a damaged sector, and what is answered then.
+//! `demo`: the registry's story: four donors, one of them never tested, one card damaged, and who may give.
 
 use std::env;
 use std::ffi::OsString;
@@ -11,21 +11,50 @@ use boundary::Refusal;
 
 use crate::format::SECTOR;
 use crate::hex;
-use crate::status::{Failure, CLAIM_FAILED, DONE, VERDICT_NOT_KNOWN};
+use crate::status::{Failure, CLAIM_FAILED, DONE, PARTLY, VERDICT_NOT_KNOWN};
 use crate::streams::Streams;
 use crate::unique;
 
 const LOG: &str = "cards.log";
+const BACK: &str = "back";
 
-/// The cards: the antigen absent, present, and not tested.
-const CARDS: [(&str, &str); 3] = [
-    ("ada.card", "donor: Ada\nantigen Vel: absent\n"),
-    ("ben.card", "donor: Ben\nantigen Vel: present\n"),
-    ("eve.card", "donor: Eve\nantigen Vel: not tested\n"),
+/// The cards. Nobody tested Eve for Vel, so her card does not name it.
+const CARDS: [(&str, &str); 4] = [
+    ("ada.card", "K=absent\nVel=absent\n"),
+    ("ben.card", "K=absent\nVel=present\n"),
+    ("dan.card", "Fya=present\nK=absent\nVel=absent\n"),
+    ("eve.card", "K=absent\n"),
 ];
 
-/// The refusal after the damage: the second card's sector.
-const NOT_KNOWN: Refusal = Refusal::NotKnown { sector: 1 };
+/// The card that is damaged, and the sector that it is in.
+const LOST: usize = 2;
+
+const QUERY: &str = "not Vel and not K";
+
+const TABLE: &str = "\
+query: not Vel and not K
+
+answer     name      why
+yes        ada.card
+yes        dan.card
+not known  eve.card  nobody tested: Vel
+no         ben.card
+
+4 cards: 2 yes, 1 not known, 0 unreadable, 1 no
+";
+
+const TABLE_AFTER_DAMAGE: &str = "\
+query: not Vel and not K
+
+answer      name      why
+yes         ada.card
+not known   eve.card  nobody tested: Vel
+unreadable  dan.card  refusal 12 (not known), first doubtful sector 2, byte 1024 of the log
+no          ben.card
+
+An unreadable card is no answer: it may be a yes or a no. DO NOT READ IT AS ABSENT.
+4 cards: 1 yes, 1 not known, 1 unreadable, 1 no
+";
 
 /// Runs a command, tells what fails and gives the status.
 type Run = fn(&[OsString], &mut Streams) -> u8;
@@ -41,8 +70,8 @@ pub fn run(run: Run, streams: &mut Streams) -> Result<u8, Failure> {
     demo.play()?;
     let claims = demo.claims;
     demo.say(&format!(
-        "All {claims} claims above were checked. Damage made a card \"not known\", never \"absent\"; \
-         storing it again healed it."
+        "All {claims} claims above were checked. What nobody tested was never \"absent\", a damaged card \
+         was never an answer, and saving the cards again healed it."
     ))?;
     Ok(DONE)
 }
@@ -63,41 +92,43 @@ struct Answer {
 
 impl Demo<'_, '_> {
     fn play(&mut self) -> Result<(), Failure> {
-        let scores = self.store()?;
-        self.before(&scores)?;
+        let root = self.save()?;
+        self.ask(&root)?;
         self.damage()?;
-        self.after(&scores)?;
-        self.heal(&scores)
+        self.ask_again(&root)?;
+        self.restore(&root)?;
+        self.heal(&root)
     }
 
-    /// Stores the cards and gives their scores.
-    fn store(&mut self) -> Result<Vec<String>, Failure> {
-        self.say("A log of 8 sectors, and three donor cards stored in it.")?;
-        let made = self.command(&["init", LOG, "--sectors", "8"])?;
+    /// Saves the cards and gives their root.
+    fn save(&mut self) -> Result<String, Failure> {
+        self.say("A registry has a log of 16 sectors, and saves the cards of four donors in it.")?;
+        let made = self.command(&["init", LOG, "--sectors", "16"])?;
         self.claim("the log is made", made.status == DONE)?;
         for (name, card) in CARDS {
             let path = self.folder.join(name);
             fs::write(&path, card).map_err(|e| Failure::disk("write", &path, &e))?;
         }
-        let names = CARDS.map(|(name, _)| name);
-        let stored = self.command(&["put", LOG, names[0], names[1], names[2]])?;
-        let scores: Vec<String> = stored
-            .out
-            .lines()
-            .filter_map(|line| line.split(' ').next())
-            .map(String::from)
-            .collect();
-        self.claim(
-            "each card got a score",
-            stored.status == DONE && scores.len() == 3,
-        )?;
-        Ok(scores)
+        let root = self.save_cards()?;
+        self.claim("they have one root", root.len() == 40)?;
+        Ok(root)
     }
 
-    /// A held card, and one that nobody stored.
-    fn before(&mut self, scores: &[String]) -> Result<(), Failure> {
-        self.say("A card is read by its score.")?;
-        self.reads(&scores[1], CARDS[1].1)?;
+    /// The root of the cards, or what was answered in its place.
+    fn save_cards(&mut self) -> Result<String, Failure> {
+        let names = CARDS.map(|(name, _)| name);
+        let saved = self.command(&[&["save", LOG], &names[..]].concat())?;
+        Ok(saved.out.trim_end().to_string())
+    }
+
+    /// Who may give, and a card that nobody stored.
+    fn ask(&mut self, root: &str) -> Result<(), Failure> {
+        self.say("A patient has antibodies against Vel and K: only blood without both will do. Who may give?")?;
+        let found = self.command(&["search", LOG, root, QUERY])?;
+        self.claim(
+            "Ada and Dan may give and Ben may not; Eve was never tested for Vel, and that is no \"absent\"",
+            found.status == DONE && found.out == TABLE,
+        )?;
         self.say("A card that nobody stored: the log is sound, so it can say \"not held\".")?;
         let other = self.command(&["get", LOG, &never_stored()])?;
         self.claim(
@@ -106,62 +137,75 @@ impl Demo<'_, '_> {
         )
     }
 
-    /// Writes over the sector of the second card.
+    /// Writes over the sector of the lost card.
     fn damage(&mut self) -> Result<(), Failure> {
-        self.say("Now a disk accident: the sector with Ben's card is overwritten. Who reads the answer as \
-             \"absent\" gives a patient the wrong blood.")?;
+        self.say(
+            "Now a disk accident: the sector with Dan's card is overwritten. The doctor asks again.",
+        )?;
         let path = self.folder.join(LOG);
         let damage = || {
             let file = OpenOptions::new().write(true).open(&path)?;
-            file.write_all_at(&[0xdb; SECTOR], SECTOR as u64)
+            file.write_all_at(&[0xdb; SECTOR], (LOST * SECTOR) as u64)
         };
         damage().map_err(|e| Failure::disk("write", &path, &e))
     }
 
-    /// The lost card is not known, and so is any that isn't found; the others read.
-    fn after(&mut self, scores: &[String]) -> Result<(), Failure> {
-        let lost = self.command(&["get", LOG, &scores[1]])?;
+    /// The lost card is no answer, and what isn't found is not known; the others answer as before.
+    fn ask_again(&mut self, root: &str) -> Result<(), Failure> {
+        let found = self.command(&["search", LOG, root, QUERY])?;
         self.claim(
-            "status 12, not known, and not a byte; it says where the damage is",
-            refused(&lost, NOT_KNOWN, "not known") && lost.err.contains("sector is 1, at byte 512"),
+            "status 33; Dan's card is unreadable, neither a yes nor a no, and it says where the damage is",
+            found.status == PARTLY && found.out == TABLE_AFTER_DAMAGE,
         )?;
         let other = self.command(&["get", LOG, &never_stored()])?;
+        let doubt = Refusal::NotKnown { sector: LOST };
         self.claim(
-            "the card that nobody stored is \"not known\" now as well: it could have been there",
-            refused(&other, NOT_KNOWN, "not known"),
+            "status 12: the card that nobody stored is \"not known\" now, since it could have been there",
+            refused(&other, doubt, "not known"),
         )?;
-        self.say("The other cards are as they were.")?;
-        self.reads(&scores[0], CARDS[0].1)?;
-        self.reads(&scores[2], CARDS[2].1)?;
-        let report = self.command(&["report", LOG, "--map", "--width", "8"])?;
-        let shown = report.status == VERDICT_NOT_KNOWN && report.out.contains("\n0 #?#.....\n");
-        self.claim("status 32, one sector is doubtful", shown)
-    }
-
-    /// Stores the lost card again.
-    fn heal(&mut self, scores: &[String]) -> Result<(), Failure> {
-        self.say("Ben's card is stored again from a copy.")?;
-        let again = self.command(&["put", LOG, CARDS[1].0])?;
-        let same = again.status == DONE && again.out.trim_end() == scores[1];
-        self.claim("it has the score that it had", same)?;
-        self.reads(&scores[1], CARDS[1].1)
-    }
-
-    /// Reads a card, which has to be this one.
-    fn reads(&mut self, score: &str, card: &str) -> Result<(), Failure> {
-        let read = self.command(&["get", LOG, score])?;
+        let report = self.command(&["report", LOG, "--map", "--width", "16"])?;
+        let shown = report.out.contains("\n 0 ##?#####........\n");
         self.claim(
-            "the card, byte for byte",
-            read.status == DONE && read.out == card,
+            "status 32, one sector is doubtful",
+            report.status == VERDICT_NOT_KNOWN && shown,
+        )
+    }
+
+    /// What can be restored is, byte for byte, and nothing stands in for the rest.
+    fn restore(&mut self, root: &str) -> Result<(), Failure> {
+        self.say("The cards are written back to a folder, as far as they can be read.")?;
+        let restored = self.command(&["restore", LOG, root, BACK])?;
+        let folder = self.folder.join(BACK);
+        let back = |at: usize| fs::read(folder.join(CARDS[at].0)).ok();
+        let same = |at: usize| back(at).is_some_and(|card| card == CARDS[at].1.as_bytes());
+        self.claim(
+            "status 33; three cards are as they were, and of Dan's there is no file at all",
+            restored.status == PARTLY
+                && restored.err.contains("dan.card is not restored: ")
+                && [0, 1, 3].into_iter().all(same)
+                && back(LOST).is_none(),
+        )
+    }
+
+    /// Saves the cards again.
+    fn heal(&mut self, root: &str) -> Result<(), Failure> {
+        self.say("The cards are saved again, Dan's from a copy.")?;
+        let again = self.save_cards()?;
+        self.claim("they have the root that they had", again == root)?;
+        let found = self.command(&["search", LOG, root, QUERY])?;
+        self.claim(
+            "all is answered as before the damage",
+            found.status == DONE && found.out == TABLE,
         )
     }
 
     /// Runs a command in this process; shows it as one would type it, and its answer.
     fn command(&mut self, words: &[&str]) -> Result<Answer, Failure> {
-        // Only names of files have a dot.
-        let in_folder = |word: &&str| match Path::new(word).extension() {
-            Some(_) => self.folder.join(word).into_os_string(),
-            None => OsString::from(word),
+        let is_file =
+            |word: &str| word == LOG || word == BACK || CARDS.iter().any(|(name, _)| word == *name);
+        let in_folder = |word: &&str| match is_file(word) {
+            true => self.folder.join(word).into_os_string(),
+            false => OsString::from(word),
         };
         let full: Vec<OsString> = words.iter().map(in_folder).collect();
         let (mut out, mut err) = (Vec::new(), Vec::new());
@@ -179,7 +223,7 @@ impl Demo<'_, '_> {
         let (out, err) = (text(out), text(err));
         let shown = format!(
             "  $ skywimple {}\n{}",
-            words.join(" "),
+            typed(words),
             indented(&(out.clone() + &err))
         );
         self.streams.answer(shown.as_bytes())?;
@@ -208,12 +252,23 @@ fn refused(answer: &Answer, refusal: Refusal, words: &str) -> bool {
     answer.status == number && answer.out.is_empty() && answer.err.starts_with(&expected)
 }
 
+/// A command as one types it.
+fn typed(words: &[&str]) -> String {
+    let quoted = |word: &&str| match word.contains(' ') {
+        true => format!("'{word}'"),
+        false => word.to_string(),
+    };
+    let words: Vec<_> = words.iter().map(quoted).collect();
+    words.join(" ")
+}
+
 fn never_stored() -> String {
-    hex::encode(&boundary::sha1(b"donor: Nobody\n"))
+    hex::encode(&boundary::sha1(b"K=present\n"))
 }
 
 fn indented(text: &str) -> String {
-    text.lines().map(|line| format!("  {line}\n")).collect()
+    let line = |line: &str| format!("  {line}").trim_end().to_string() + "\n";
+    text.lines().map(line).collect()
 }
 
 /// A folder that is removed in the end.

@@ -20,7 +20,8 @@ pub fn active(bytes: &[u8]) -> bool {
     bytes[8] & 1 == 1
 }
 
-fn number(bytes: &[u8]) -> u64 {
+/// A number of these bytes, the first one the highest.
+pub fn number(bytes: &[u8]) -> u64 {
     let digit = |number, byte: &u8| number * 256 + u64::from(*byte);
     bytes.iter().fold(0, digit)
 }

@@ -31,7 +31,7 @@ pub fn quoted(path: &Path) -> String {
 }
 
 /// Marks of direction, and separators of lines and paragraphs.
-fn turns(sign: char) -> bool {
+pub fn turns(sign: char) -> bool {
     matches!(sign, '\u{200e}' | '\u{200f}' | '\u{2028}'..='\u{202e}' | '\u{2066}'..='\u{2069}')
 }
 

@@ -366,3 +366,97 @@ fn doubt_that_fails() {
         failed
     });
 }
+
+/// Two files beside a log.
+const FILES: [(&str, usize); 2] = [("first", 500), ("second", 100)];
+
+/// Writes the two files into a folder.
+fn write_files(folder: &Folder) {
+    for (name, length) in FILES {
+        fs::write(folder.0.join(name), block(7, length)).unwrap();
+    }
+}
+
+/// The status of a command on the log, with paths in its folder, and what it printed.
+fn answered(folder: &Folder, command: &str, word: Option<&str>, paths: &[&str]) -> (u8, String) {
+    let mut words = vec![OsString::from(command), folder.log().into_os_string()];
+    words.extend(word.map(OsString::from));
+    words.extend(
+        paths
+            .iter()
+            .map(|path| folder.0.join(path).into_os_string()),
+    );
+    let mut out = Vec::new();
+    let status = command::run(
+        &words,
+        &mut Streams {
+            input: &mut io::empty(),
+            out: &mut out,
+            err: &mut io::sink(),
+            out_terminal: false,
+            err_terminal: false,
+            progress: false,
+        },
+    );
+    (
+        status,
+        String::from_utf8(out).unwrap().trim_end().to_string(),
+    )
+}
+
+/// The files that are whole in a folder, and how many others there are.
+fn restored(folder: &Folder) -> (usize, usize) {
+    let Ok(found) = fs::read_dir(folder.0.join("back")) else {
+        return (0, 0);
+    };
+    let found = found.count();
+    let whole = FILES.into_iter().filter(|(name, length)| {
+        let bytes = fs::read(folder.0.join("back").join(name));
+        bytes.is_ok_and(|bytes| bytes == block(7, *length))
+    });
+    let whole = whole.count();
+    (whole, found - whole)
+}
+
+/// A root that was printed leads to its files, whatever is lost then; where a step fails, none is.
+#[test]
+fn a_printed_root_is_on_disk() {
+    every_fault(|step, how, lost| {
+        let folder = Folder::with(0);
+        write_files(&folder);
+        let mut answer = (0, String::new());
+        let failed = on_failing_disk(step, how, lost, || {
+            answer = answered(&folder, "save", None, &["first", "second"]);
+        });
+        let expected = if failed { (74, 0) } else { (0, 40) };
+        assert_eq!((answer.0, answer.1.len()), expected);
+        on_good_disk(|| {
+            let root = match failed {
+                true => answered(&folder, "save", None, &["first", "second"]).1,
+                false => answer.1,
+            };
+            let back = answered(&folder, "restore", Some(&root), &["back"]);
+            assert_eq!((back.0, restored(&folder)), (0, (2, 0)));
+        });
+        failed
+    });
+}
+
+/// A file is restored whole or not at all, and nothing else is left.
+#[test]
+fn a_file_is_restored_whole_or_not() {
+    every_fault(|step, how, lost| {
+        let folder = Folder::with(0);
+        write_files(&folder);
+        let (_, root) = on_good_disk(|| answered(&folder, "save", None, &["first", "second"]));
+        let mut status = 0;
+        let failed = on_failing_disk(step, how, lost, || {
+            status = answered(&folder, "restore", Some(&root), &["back"]).0;
+        });
+        assert_eq!(status, if failed { 74 } else { 0 });
+        let (whole, others) = restored(&folder);
+        assert_eq!(others, 0, "{step} {how:?} {lost:?}");
+        assert!(failed || whole == 2, "{step} {how:?} {lost:?}");
+        failed
+    });
+}

@@ -110,8 +110,78 @@ terminal the time gone by and the time expected are shown.
   --adopt        take a log without a good mark as it is, and mark it
 ";
 
+pub const PUT_FILE: &str = "\
+Stores FILE, or standard input (`-`), as a tree: leaves of 57,344 bytes, over them pointer blocks of
+2,867 scores, of the least depth; each without the zeros at its end, so that zeros take no room. When
+all of it is on disk and reads back from the file as it was, prints the entry, 80 hex digits, which
+`read` and `search` take. Where the log is full (14), what was stored stays, and the same command goes
+on from there. What comes from standard input is taken into memory first.
+  --adopt    take a log without a good mark as it is, and mark it
+";
+
+pub const SAVE: &str = "\
+Stores each FILE as `put-file` does, a directory of them and a root over it. When all of it is on disk
+and reads back from the log's file as it was, prints the root's score, which `restore`, `search` and `walk`
+take. A file is saved with its bytes and its name, the last component of its path, and with nothing
+else. Before anything is written it is refused (64) if two files have one name, if a name has a line
+feed in it or is not UTF-8, or if a FILE is a folder. The same files in the same order have the same
+root; what is stored already is not stored twice.
+The root's type is `skywimple save`. Its directory block has one entry, a directory, of which the first
+file has the names of the others, in their order, each ended by a line feed.
+  --adopt    take a log without a good mark as it is, and mark it
+";
+
+pub const RESTORE: &str = "\
+Writes the files that `save` stored under ROOT (the score, 40 hex digits) to the folder DIR, which is
+made if it is not there. Where a file of one of the names is there already, nothing is written, and the
+status is 73. Each file is written under another name, synced, and then renamed: it is there whole or
+not at all.
+A file of which a part cannot be read is not written, since nothing may stand in for what is lost; it is
+told on standard error with the refusal, its block and the log's first doubtful sector. All others are
+written, and the status is 33. A file of which the name is lost is named name-lost-N: it was the file N
+of those that `save` was given. Where the root itself cannot be read, or `save` did not make it,
+nothing is written; the status is the refusal's number (16 for a root that `save` did not make).
+  --overwrite  replace files that are there; the log and its mark never
+  --adopt      take a log without a good mark as it is, and mark it
+";
+
+pub const SEARCH: &str = "\
+Asks QUERY of each card that `save` stored under ROOT, or of one card, by its entry (80 hex digits), and
+prints a row for each: the answer, the card's name, and why. First those with yes, then not known, then
+unreadable, then no; at the end their counts.
+  yes         the query holds, by what the card says
+  no          it does not
+  not known   what the card says does not decide it. Named are the antigens of the query that nobody
+              tested and that keep it open: each stands in a part of the query that is not known, and
+              all parts around that are not known either. Once all of them are tested it is yes or no;
+              testing any others changes nothing
+  unreadable  no answer: the file is damaged, missing or no card. Named are the refusal, for 12 the
+              log's first doubtful sector, and for 25 the line and byte where the card goes wrong
+A card has at most 4,096 bytes, of lines NAME=present or NAME=absent, each ended by a line feed. A name
+is 1 to 8 letters and digits, and none of and, or, not; names rise: digits, capitals, small letters.
+A query has at most 256 bytes: names, `not`, `and`, `or` and round brackets, at most 16 deep, with one
+space between any two of them. `not` binds tightest, `or` least. Quote it for the shell:
+'not Vel and ( K or not Fya )'. One that is ill-formed is refused with 26 before any card is read; the
+place of its first error is told, in bytes from 1 on.
+The status is 0 if each card is yes, no or not known, and 33 if any could not be read. Each card takes
+a scan of the log; at a terminal progress is shown.
+  --json       prints JSON, an object on each line: name; answer: \"yes\", \"no\", \"not known\" or
+               \"unreadable\"; with not known missing: the antigens; with unreadable number and sector,
+               which is null but for 12. Where a name is lost, it is null, and place is the card's place
+  --html FILE  writes a page that stands alone and prints well; overwrites FILE only if it is a page.
+               With - it goes to standard output, in place of the table
+  --adopt      take a log without a good mark as it is, and mark it
+";
+
+pub const CARD: &str = "\
+Says whether FILE, or standard input (`-`), is a card, which `search --help` describes. If not, the first
+place that is wrong is told by its line and by its byte in the line, both from 1 on, and the status is
+25.
+";
+
 pub const DEMO: &str = "\
-Stores three donor cards, reads one, damages a sector, and shows that the card in it is \"not known\"
-and never \"absent\", that the others can be read, and that storing it again heals it. Each step is
-checked; if one does not go as said, the status is 1. The folder is removed at the end.
+Saves the cards of four donors, one of whom nobody tested for the antigen, and asks who may give. Then a
+sector is damaged: the card in it is unreadable, and never a no. What can be restored is, and saving the
+cards again heals it. Each step is checked; if one does not go as said, the status is 1. The folder is
+removed at the end.
 ";

@@ -47,7 +47,7 @@ pub fn take(file: &File, path: &Path) -> Result<(), Failure> {
         Err(TryLockError::WouldBlock) => {
             let words = format!(
                 "another writer holds {}. Wait until it has ended (`serve --wait SECONDS` does); \
-                 reading (get, report, read, walk, serve --read-only) goes on meanwhile.",
+                 reading (get, read, search, restore, serve --read-only) goes on meanwhile.",
                 path.display()
             );
             Err(Failure::new(BUSY, words))

@@ -1,9 +1,13 @@
 //! Skywimple's command-line program, over the proved archive.
 
 mod arguments;
+mod block_store;
 mod blocks;
+mod card;
+mod card_text;
 mod closed;
 mod command;
+mod contents;
 mod demo;
 mod disk;
 mod doubt;
@@ -13,6 +17,7 @@ mod escape;
 mod failing;
 #[cfg(test)]
 mod faults;
+mod findings;
 mod format;
 mod get;
 mod handshake;
@@ -27,12 +32,22 @@ mod log_file;
 mod loss;
 mod map;
 mod mark;
+mod markup;
+mod names;
+mod output_file;
+mod page;
 mod progress;
 mod put;
+mod put_file;
+mod query;
 mod read;
 mod reader;
 mod report;
+mod restore;
 mod same;
+mod save;
+mod saved;
+mod search;
 mod sectors;
 mod serve;
 mod session;
@@ -43,6 +58,7 @@ mod terminal;
 #[cfg(test)]
 mod torn;
 mod trail;
+mod tree_writer;
 mod unique;
 mod walk;
 mod words;

@@ -1,18 +1,16 @@
 //! `report`: the log's numbers and verdict, and its map.
 
 use std::ffi::OsStr;
-use std::fs::{self, File};
-use std::io::Read;
-use std::os::unix::fs::{FileTypeExt, MetadataExt};
+use std::fs;
 use std::path::Path;
 
 use crate::arguments::Arguments;
 use crate::blocks;
 use crate::escape;
 use crate::map::Map;
-use crate::mark;
+use crate::output_file::{self, Kind};
 use crate::reader;
-use crate::status::{Failure, DONE, EXISTS, VERDICT_NOT_KNOWN};
+use crate::status::{Failure, DONE, VERDICT_NOT_KNOWN};
 use crate::streams::Streams;
 use crate::svg;
 use crate::terminal;
@@ -21,6 +19,13 @@ use boundary::report;
 
 /// The bytes that a report buffer needs.
 const BUFFER: usize = 128;
+
+/// A picture may overwrite a picture only.
+const PICTURE: Kind = Kind {
+    option: "--svg",
+    name: "picture",
+    fronts: &["<svg", "<?xml"],
+};
 
 /// What is asked for besides the lines.
 struct Wanted<'a> {
@@ -79,7 +84,10 @@ fn wanted(arguments: &Arguments) -> Result<Wanted<'_>, Failure> {
         Some(Picture::Alone) if wanted.json || wanted.map => Err(Failure::usage(
             "--svg - has standard output for the picture alone, without --json and --map",
         )),
-        Some(Picture::File(picture)) => may_draw(arguments.path(0), picture).map(|()| wanted),
+        Some(Picture::File(picture)) => {
+            output_file::may_write(arguments.path(0), Path::new(picture), &PICTURE)?;
+            Ok(wanted)
+        }
         _ => Ok(wanted),
     }
 }
@@ -175,41 +183,4 @@ impl Report {
             .collect();
         format!("{{{}}}\n", fields.join(","))
     }
-}
-
-/// A picture may overwrite a picture only: not the log or its mark, by whatever name, nor any other
-/// file.
-fn may_draw(log: &Path, picture: &OsStr) -> Result<(), Failure> {
-    let picture = Path::new(picture);
-    let mark = mark::path_of(log);
-    let identity = |path: &Path| fs::metadata(path).ok().map(|file| (file.dev(), file.ino()));
-    let file = identity(picture);
-    let same = file.is_some() && [identity(log), identity(&mark)].contains(&file);
-    if same || mark::resolved(picture) == mark {
-        let words = format!("--svg would overwrite the log: {}", picture.display());
-        return Err(Failure::usage(words));
-    }
-    if holds_something_else(picture) {
-        let words = format!(
-            "{} is there already and no picture, so it is not overwritten. Give --svg another \
-             name, or move it away.",
-            picture.display()
-        );
-        return Err(Failure::new(EXISTS, words));
-    }
-    Ok(())
-}
-
-/// Whether a file is there that doesn't begin as a picture. Pipes and terminals hold nothing.
-fn holds_something_else(path: &Path) -> bool {
-    let Ok(kind) = fs::metadata(path).map(|file| file.file_type()) else {
-        return false;
-    };
-    if kind.is_fifo() || kind.is_char_device() {
-        return false;
-    }
-    let mut front = Vec::new();
-    // Where nothing can be read, nobody knows what would be overwritten.
-    let read = File::open(path).and_then(|file| file.take(5).read_to_end(&mut front));
-    read.is_err() || !(front.starts_with(b"<svg") || front == b"<?xml")
 }

@@ -12,6 +12,8 @@ pub const DONE: u8 = 0;
 /// What the demonstration ends with where a claim of its does not hold.
 pub const CLAIM_FAILED: u8 = 1;
 pub const VERDICT_NOT_KNOWN: u8 = 32;
+/// Some of what was asked for could not be read.
+pub const PARTLY: u8 = 33;
 pub const USAGE: u8 = 64;
 pub const UNFIT: u8 = 65;
 pub const MISSING: u8 = 66;
@@ -21,15 +23,19 @@ pub const BUSY: u8 = 75;
 pub const PROTOCOL: u8 = 76;
 
 /// All statuses, as the help prints them.
-pub const TABLE: [(&str, &str); 12] = [
+pub const TABLE: [(&str, &str); 13] = [
     ("0", "done"),
     (
-        "1 to 23",
+        "1 to 26",
         "refused; the status is the refusal's number (11 not held, 12 not known)",
     ),
     (
         "32",
         "report, list: part of the log is doubtful, the verdict is notknown",
+    ),
+    (
+        "33",
+        "search, restore: some cards or files could not be read, and are named",
     ),
     ("64", "the words given make no command"),
     (
@@ -38,7 +44,10 @@ pub const TABLE: [(&str, &str); 12] = [
     ),
     ("66", "no such file, or the log has no mark (see --adopt)"),
     ("69", "./skywimple: the program could not be built"),
-    ("73", "init or --svg would overwrite a file"),
+    (
+        "73",
+        "init, restore, --svg or --html would overwrite a file",
+    ),
     ("74", "reading or writing failed"),
     ("75", "another writer holds the log"),
     (
@@ -47,7 +56,7 @@ pub const TABLE: [(&str, &str); 12] = [
     ),
     (
         "128 + n",
-        "interrupted by signal n (130: Ctrl-C): init leaves nothing, serve what it answered for",
+        "interrupted by signal n (130: Ctrl-C): init leaves nothing, restore whole files, serve what it answered for",
     ),
 ];
 

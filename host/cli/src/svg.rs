@@ -3,6 +3,7 @@
 use std::fmt::Write;
 
 use crate::map::{Cell, Map, Scaled};
+use crate::markup::escaped;
 
 /// The side of a cell, with its gap.
 const STEP: usize = 12;
@@ -87,30 +88,4 @@ fn legend(text: &mut String, map: &Map, group: usize, y: usize) {
     }
     let words = format!("sectors a cell: {group}");
     write(text, MARGIN + 18 + 390, y, 12, &words);
-}
-
-/// Text as it may stand in XML; control characters may not.
-fn escaped(name: &str) -> String {
-    let mut text = String::new();
-    for sign in name.chars() {
-        match sign {
-            '&' => text.push_str("&amp;"),
-            '<' => text.push_str("&lt;"),
-            '>' => text.push_str("&gt;"),
-            sign if sign.is_control() => text.push('\u{fffd}'),
-            '\u{fffe}' | '\u{ffff}' => text.push('\u{fffd}'),
-            sign => text.push(sign),
-        }
-    }
-    text
-}
-
-#[cfg(test)]
-mod tests {
-    use super::escaped;
-
-    #[test]
-    fn names_are_escaped() {
-        assert_eq!(escaped("a<b>&\n\u{1}"), "a&lt;b&gt;&amp;\u{fffd}\u{fffd}");
-    }
 }

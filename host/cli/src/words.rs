@@ -154,6 +154,21 @@ pub fn refusal(refusal: Refusal) -> String {
     told(refusal, None)
 }
 
+/// What a refusal is called, its number, and for 12 the first doubtful sector.
+pub fn brief(refusal: Refusal) -> String {
+    let number = refusal.number();
+    let name = entry_of(refusal).map_or("refused", |words| words.name);
+    match refusal.first_doubtful() {
+        Some(first) => {
+            let byte = first * SECTOR;
+            format!(
+                "refusal {number} ({name}), first doubtful sector {first}, byte {byte} of the log"
+            )
+        }
+        None => format!("refusal {number} ({name})"),
+    }
+}
+
 /// A refusal of a block that a tree leads to: no option changes its type or its count. What can be
 /// done depends on which block it is.
 pub fn refusal_in_tree(refusal: Refusal, block: Option<(u8, &Score)>) -> String {
@@ -206,14 +221,21 @@ pub fn full(log: &str, sectors: usize, used: usize, needed: usize) -> String {
     told(Refusal::NoRoom, Some(&advice))
 }
 
+/// A refusal's words where other blocks of the same file may have been stored before.
+pub fn midway(words: &str) -> String {
+    words.replace(
+        "Nothing was stored",
+        "What was stored before it stays; the same command finds it and goes on",
+    )
+}
+
 /// The sectors of a megabyte.
 const A_MEGABYTE: usize = 2048;
 
 fn told(refusal: Refusal, advice: Option<&str>) -> String {
     let number = refusal.number();
-    let mut all = Refusal::ALL.iter().zip(&REFUSALS);
-    match all.find(|(which, _)| which.number() == number) {
-        Some((_, w)) => {
+    match entry_of(refusal) {
+        Some(w) => {
             let advice = advice.unwrap_or(w.advice);
             let mut words = format!("{} ({number}): {}. ", w.name, w.when);
             if let Some(first) = refusal.first_doubtful() {
@@ -225,9 +247,34 @@ fn told(refusal: Refusal, advice: Option<&str>) -> String {
     }
 }
 
+fn entry_of(refusal: Refusal) -> Option<&'static Words> {
+    let number = refusal.number();
+    let mut all = Refusal::ALL.iter().zip(&REFUSALS);
+    let found = all.find(|(which, _)| which.number() == number);
+    found.map(|(_, words)| words)
+}
+
 #[cfg(test)]
 mod tests {
     use super::*;
+
+    #[test]
+    fn in_few_words() {
+        let why = Refusal::NotKnown { sector: 3 };
+        let words = "refusal 12 (not known), first doubtful sector 3, byte 1536 of the log";
+        assert_eq!(brief(why), words);
+        assert_eq!(brief(Refusal::Card), "refusal 25 (not a card)");
+    }
+
+    #[test]
+    fn what_was_stored_before_stays() {
+        let clash = midway(&refusal(Refusal::Clash));
+        let lack = midway(&full("x.log", 10, 9, 2));
+        for words in [clash, lack] {
+            assert!(words.contains("stored before it stays"), "{words}");
+            assert!(!words.contains("Nothing was stored"), "{words}");
+        }
+    }
 
     #[test]
     fn not_held_and_not_known_differ() {

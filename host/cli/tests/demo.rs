@@ -4,6 +4,9 @@ mod common;
 
 use common::*;
 
+/// All that it writes.
+const SHOWN: &str = include_str!("demo.txt");
+
 #[test]
 fn it_shows_what_it_says() {
     let place = Place::new();
@@ -15,25 +18,10 @@ fn it_shows_what_it_says() {
     assert!(output.status.success(), "{output:?}");
     assert!(output.stderr.is_empty());
     let text = String::from_utf8(output.stdout).unwrap();
-    let steps = [
-        "$ skywimple init cards.log",
-        "$ skywimple put cards.log ada.card ben.card eve.card",
-        "antigen Vel: present",
-        "not held (11)",
-        "not known (12)",
-        "antigen Vel: not tested",
-        "cards.log: notknown\n  0 #?#.....\n",
-        "$ skywimple put cards.log ben.card",
-        "antigen Vel: present",
-        "claims above were checked",
-    ];
-    let mut rest = &text[..];
-    for step in steps {
-        let at = rest
-            .find(step)
-            .unwrap_or_else(|| panic!("{step} in {text}"));
-        rest = &rest[at + step.len()..];
+    for (line, expected) in text.lines().zip(SHOWN.lines()) {
+        assert_eq!(line, expected);
     }
+    assert_eq!(text, SHOWN);
     assert!(only(&place.folder, &[]), "the folder is removed");
 }
 

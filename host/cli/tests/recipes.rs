@@ -27,10 +27,14 @@ fn using_it() {
     assert!(output.status.success(), "{output:?}");
     assert_eq!(String::from_utf8_lossy(&output.stderr), "");
     let text = String::from_utf8(output.stdout).unwrap();
-    let card = place.file("card.txt");
+    let card = place.file("ada.card");
+    assert!(place.file("back/ada.card") == card && place.file("back/eve.card") == b"K=absent\n");
     let card = String::from_utf8(card).unwrap();
     for told in [
-        &card,
+        "ada.card: a card, 2 antigens",
+        "yes        ada.card\nnot known  eve.card  nobody tested: Vel\n",
+        "2 of 2 files restored to back",
+        &card.repeat(2),
         "verdict=sound",
         &score(card.as_bytes()),
         "00 06 05 00 00 00 00 00 00 02 03 07",

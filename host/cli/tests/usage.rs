@@ -10,8 +10,9 @@ use std::process::{Command, Stdio};
 
 use common::*;
 
-const COMMANDS: [&str; 10] = [
-    "init", "put", "get", "serve", "doubt", "report", "list", "read", "walk", "demo",
+const COMMANDS: [&str; 15] = [
+    "init", "put", "get", "serve", "doubt", "report", "list", "read", "walk", "put-file", "save",
+    "restore", "search", "card", "demo",
 ];
 
 #[test]
@@ -22,6 +23,7 @@ fn help_and_version() {
     let overview = overview.text();
     for (status, words) in [
         ("32", "notknown"),
+        ("33", "search, restore"),
         ("65", "mark"),
         ("69", "could not be built"),
         ("75", "another writer"),
@@ -114,7 +116,11 @@ fn words_that_make_no_command() {
 #[test]
 fn missing_words() {
     let place = Place::with_log(2);
-    let cases: [(&[&str], &str); 8] = [
+    let cases: [(&[&str], &str); 12] = [
+        (&["put-file", "log"], "FILE is missing"),
+        (&["save"], "LOG and FILE are missing"),
+        (&["restore", "log"], "ROOT and DIR are missing"),
+        (&["search", "log", "root"], "QUERY is missing"),
         (&["init"], "LOG is missing"),
         (&["init", "new"], "--sectors is missing"),
         (&["get"], "LOG and SCORE are missing"),
@@ -223,7 +229,7 @@ fn odd_words_never_bring_it_down() {
         OsStr::from_bytes(b"--\xff"),
         OsStr::from_bytes(b"--type=\xff"),
     ];
-    for command in &COMMANDS[..9] {
+    for command in &COMMANDS[..14] {
         for first in odd.iter().chain([&OsStr::new("log")]) {
             for second in odd {
                 let words = [OsStr::new(command), first, second];
@@ -233,7 +239,7 @@ fn odd_words_never_bring_it_down() {
                     assert_eq!(answer.err, "", "{words:?}");
                     continue;
                 }
-                let known = [3, 9, 11, 14, 16, 32, 64, 65, 66, 73, 74];
+                let known = [3, 9, 11, 14, 16, 25, 32, 64, 65, 66, 73, 74];
                 assert!(known.contains(&answer.status), "{words:?}: {answer:?}");
                 assert!(answer.out.is_empty(), "{words:?}: {answer:?}");
                 let told = answer.err.starts_with("skywimple: ") && answer.err.ends_with('\n');

@@ -1,0 +1,49 @@
+//! `put-file`: stores a file of any size, prints its entry.
+
+use std::fs::File;
+use std::io::{Cursor, Read};
+use std::path::Path;
+
+use crate::arguments::Arguments;
+use crate::block_store::{self, BlockStore, Subject};
+use crate::hex;
+use crate::progress::Progress;
+use crate::reader;
+use crate::status::{Failure, DONE};
+use crate::streams::Streams;
+use crate::tree_writer::FILE;
+
+pub fn run(arguments: &Arguments, streams: &mut Streams) -> Result<u8, Failure> {
+    let (path, file) = (arguments.path(0), arguments.path(1));
+    let (name, mut source) = source(file, streams)?;
+    let doing = format!("storing {}", name.display());
+    let subject = Subject {
+        name,
+        doing: &doing,
+    };
+    let mut log = BlockStore::open(path, arguments.flag("--adopt"), streams)?;
+    let written = log.write(&FILE, &mut *source, subject, streams)?;
+    log.finish(streams)?;
+    let log = reader::read(path, false, streams)?;
+    let mut progress = Progress::start();
+    block_store::reads_back(&log, &written, name, |bytes| {
+        progress.show_before(streams, || format!("{doing}: {bytes} bytes read back"));
+    })?;
+    streams.clear_progress();
+    streams.answer(format!("{}\n", hex::encode(&written.entry)).as_bytes())?;
+    Ok(DONE)
+}
+
+/// A file, or standard input, and its name. What someone may be slow to send is taken in first, so that
+/// it holds up no other writer.
+fn source<'a>(file: &'a Path, streams: &mut Streams) -> Result<(&'a Path, Box<dyn Read>), Failure> {
+    if file.as_os_str() != "-" {
+        let opened = File::open(file).map_err(|e| Failure::open(file, &e))?;
+        return Ok((file, Box::new(opened)));
+    }
+    let name = Path::new("standard input");
+    let mut bytes = Vec::new();
+    let read = streams.input.read_to_end(&mut bytes);
+    read.map_err(|e| Failure::disk("read", name, &e))?;
+    Ok((name, Box::new(Cursor::new(bytes))))
+}
