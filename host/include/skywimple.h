@@ -76,6 +76,21 @@ uint64_t skywimple_fill(const uint8_t *log, size_t log_len, const uint8_t *waiti
 uint64_t skywimple_walk(const uint8_t *log, size_t log_len, const uint8_t *waiting,
                         size_t waiting_len, const uint8_t score[20], uint64_t allowance);
 
+/* Where two directory blocks first differ, each a multiple of 40 bytes and at most 57,344 (else 16). The
+   result is the number, 256 times the block that has the entry (1 the first, 2 the second, 0 where there
+   is no difference), and 1024 times the byte of that block at which its 40 bytes start. */
+uint64_t skywimple_difference(const uint8_t *first, size_t first_len, const uint8_t *second,
+                              size_t second_len);
+
+/* Counts the differences between two directory entries, 40 bytes each. The result is the number, 256
+   times the units spent, which are at most 1,000,000, and 268435456 times the count, up to there:
+   number = result % 256, units = result / 256 % 1048576, count = result / 268435456. *told becomes the
+   first doubtful sector for 12, else 0. */
+uint64_t skywimple_differences(const uint8_t *log, size_t log_len, const uint8_t *waiting,
+                               size_t waiting_len, const uint8_t *first, size_t first_len,
+                               const uint8_t *second, size_t second_len, uint64_t allowance,
+                               uint64_t *told);
+
 /* Asks a query of the card that an entry leads to. entry has 40 bytes; page is zeros. A card has at
    most 4,096 bytes (else 25), a query at most 256 (else 26). The result is the number, 256 times the
    value (1 yes, 2 no, 3 not known; 0 where it is refused), and for 12 also 65536 times the first

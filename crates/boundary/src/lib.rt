@@ -2,6 +2,7 @@
 // A slice is a pointer and a length, an array a pointer. `host/include/skywimple.h` declares them for C.
 pub mod blocks;
 pub mod cards;
+pub mod changes;
 pub mod survey;
 pub mod tree;
 

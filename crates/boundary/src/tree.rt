@@ -34,7 +34,7 @@ fn stop_sector(stop: Stop) -> usize
 }
 
 // The sector that the end of a walk tells of, 0 where it tells of none.
-fn end_sector(end: End) -> usize
+pub fn end_sector(end: End) -> usize
     ensures { λ r. ⌜ r ≡ endSector end ⌝ }
 {
     match end {

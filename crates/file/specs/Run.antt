@@ -1,17 +1,10 @@
 -- A run as a part of the log, of the waiting part or of the lent page: its bytes, and its place in memory.
-use mathlib.Core.Path.{_≡_}
 use mathlib.Core.List.{List}
-use Prim.Native.Nat.{ℕ, _+_}
-use lib.ListN.{take, drop}
-use denote.Ref.{RefT, ptr, now}
+use Prim.Native.Nat.{ℕ}
+use denote.Ref.{RefT}
+use Rattle.buffer.specs.Part.{Part}
 use Rattle.file.specs.declared.Located.{Located}
 use Rattle.file.specs.declared.Located.the-variants.{Stored, Waiting, Zeros, Refused}
-
--- r is the n bytes of s from k on: the same bytes, at the same place
-pub record Part (s : RefT (List ℕ)) (k n : ℕ) (r : RefT (List ℕ)) : Type 0 where
-  pub bytes : now r ≡ take n (drop k (now s))
-  pub block : ptr r .0 ≡ ptr s .0
-  pub place : ptr r .1 ≡ k + ptr s .1
 
 -- "handed back as a part of the log or of the lent blank page"; "in the settled log or among the waiting sectors"; "A refusal hands back an empty part", the page's
 abbrev pub runOf : Located → RefT (List ℕ) → RefT (List ℕ) → RefT (List ℕ) → RefT (List ℕ) → Type 0

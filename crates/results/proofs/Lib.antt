@@ -10,3 +10,4 @@ pub mod Visits
 pub mod Unpacked
 pub mod Fills
 pub mod Searches
+pub mod Changes

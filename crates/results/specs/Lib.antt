@@ -4,4 +4,5 @@ pub mod Blocks
 pub mod Survey
 pub mod Tree
 pub mod Search
+pub mod Changes
 pub mod Unpacked

@@ -16,6 +16,7 @@ use Rattle.demands.specs.Histories.{Keeps, afterwards}
 use Rattle.demands.proofs.Keeps.{step-keeps, list-keeps}
 use Rattle.file_laws.proofs.Again.{again}
 use Rattle.walk_laws.proofs.Again.{walk-again}
+use Rattle.compare_laws.proofs.Swapped.{compared-again}
 use Rattle.trees.specs.Again.{waitingOf, Alike, AfterOne, AfterAny}
 
 -- the waiting part's length, 0 where none is lent
@@ -43,6 +44,7 @@ module _ (L later : Lent) (k : Keeps L later) where
     keeps = k;
     reads = λ page entry offset a. again (L .log) (waitingOf L) (later .log) (waitingOf later) page entry offset same-lent still-held a;
     walks = λ score n v w. walk-again (L .log) (waitingOf L) (later .log) (waitingOf later) score n v same-lent still-held w;
+    compares = λ x y n d. compared-again (L .log) (waitingOf L) (later .log) (waitingOf later) x y n same-lent still-held d;
   }
 
 pub after-one : AfterOne

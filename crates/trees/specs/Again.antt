@@ -1,4 +1,4 @@
--- "reading a file again after appends gives the same run", and so of a walk: what an archive answered about a tree it answers again, on any log.
+-- "reading a file again after appends gives the same run", and so of a walk and of a comparison: what an archive answered about a tree it answers again, on any log.
 use mathlib.Core.Path.{_≡_}
 use mathlib.Core.Bool.{true}
 use mathlib.Core.List.{List, []}
@@ -20,6 +20,7 @@ use Rattle.file_laws.specs.Bytes.{runBytes}
 use Rattle.walk.specs.Walk.{walkOf}
 use Rattle.visit.specs.declared.End.the-variants.{Done}
 use Rattle.visit.specs.Visit.{walked}
+use Rattle.comparison.specs.Differences.{differencesOf}
 
 -- the waiting part, as reading and walking are lent it: an empty one where none is
 abbrev pub waitingOf : Lent → Bytes
@@ -39,11 +40,17 @@ abbrev pub WalksAlike : Lent → Lent → Type 0
 WalksAlike L later = (score : Bytes) (allowance visits : ℕ)
     → walkOf (L .log) (waitingOf L) score allowance ≡ walked visits Done → walkOf (later .log) (waitingOf later) score allowance ≡ walked visits Done
 
--- all three
+-- a comparison that ends with number 0 does so later with the same count and units
+abbrev pub ComparesAlike : Lent → Lent → Type 0
+ComparesAlike L later = (x y : Bytes) (allowance : ℕ) → differencesOf (L .log) (waitingOf L) x y allowance .end ≡ Done
+    → differencesOf (later .log) (waitingOf later) x y allowance ≡ differencesOf (L .log) (waitingOf L) x y allowance
+
+-- all four
 pub record Alike (L later : Lent) : Type 0 where
   pub keeps : Keeps L later
   pub reads : ReadsAlike L later
   pub walks : WalksAlike L later
+  pub compares : ComparesAlike L later
 
 -- after any request, on any log; and after any list of requests
 abbrev pub AfterOne : Type 0

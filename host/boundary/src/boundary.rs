@@ -61,6 +61,24 @@ extern "C" {
         score: *const [u8; 20],
         allowance: u64,
     ) -> u64;
+    pub fn skywimple_difference(
+        first: *const u8,
+        first_len: usize,
+        second: *const u8,
+        second_len: usize,
+    ) -> u64;
+    pub fn skywimple_differences(
+        log: *const u8,
+        log_len: usize,
+        waiting: *const u8,
+        waiting_len: usize,
+        first: *const u8,
+        first_len: usize,
+        second: *const u8,
+        second_len: usize,
+        allowance: u64,
+        told: *mut u64,
+    ) -> u64;
     pub fn skywimple_search(
         log: *const u8,
         log_len: usize,

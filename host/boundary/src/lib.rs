@@ -3,6 +3,7 @@
 
 mod boundary;
 mod cards;
+mod changes;
 mod digest;
 mod refusal;
 mod report;
@@ -11,6 +12,7 @@ mod tree;
 mod zeros;
 
 pub use cards::{is_card, search, Value};
+pub use changes::{difference, differences, Compared, Difference};
 pub use digest::{crc32, sha1, sha1_into};
 pub use refusal::Refusal;
 pub use report::{report, sound_at};

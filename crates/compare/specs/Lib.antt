@@ -1,0 +1,2 @@
+-- What the clauses of `compare` cite besides the definition.
+pub mod Parts

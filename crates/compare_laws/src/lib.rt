@@ -1,0 +1,1 @@
+// The laws of a comparison that no contract needs. Nothing runs here.

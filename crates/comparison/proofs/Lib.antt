@@ -1,0 +1,3 @@
+-- The laws of a comparison that its code and its theorems share.
+pub mod Absent
+pub mod Bounds

@@ -1,0 +1,3 @@
+-- What the clauses of `pair` cite.
+pub mod Verdict
+pub mod Opened
