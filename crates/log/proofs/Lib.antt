@@ -7,6 +7,7 @@ pub mod InBlock
 pub mod Doubt
 pub mod FirstDoubt
 pub mod Written
+pub mod Appended
 pub mod Alike
 pub mod Parts
 pub mod Counted

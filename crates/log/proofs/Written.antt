@@ -24,7 +24,7 @@ use Rattle.log.proofs.Blocks.{blocks-append, blocks-used}
 use Rattle.log.specs.Laws.{HeldStays}
 
 -- rows behind do not hide the first of a type and score
-first-front : (t : ℕ) (s : Bytes) (xs ys : List Row) (r : Row) → firstOf t s xs ≡ some r → firstOf t s (xs ++ ys) ≡ some r
+pub first-front : (t : ℕ) (s : Bytes) (xs ys : List Row) (r : Row) → firstOf t s xs ≡ some r → firstOf t s (xs ++ ys) ≡ some r
 unfolding firstOf
 first-front t s [] ys r e = let z : _≡_ {A = ℕ} 0 1 = cc in absurd (omega arith)
 first-front t s (x ∷ xs) ys r e = go (eqb (x .kind) t && same (x .score) s) e (first-front t s xs ys r)
@@ -51,7 +51,7 @@ module _ (log : Bytes) (r : Row) (v : valid r ≡ true) (end : r .first ≡ used
       at-written log r v room (r .first) ∙ rw (le-leb (r .first) (r .first) (omega arith), lt-ltb (r .first) (r .first + parts r) (omega arith), z)
 
   -- a sound block in the used part is sound still
-  still : (n : ℕ) (x : Row) → sound log n ≡ some x → sound (written log r) n ≡ some x
+  pub still : (n : ℕ) (x : Row) → sound log n ≡ some x → sound (written log r) n ≡ some x
   still n x e =
       let p = sound-reads log n x e in
       let here : x .first ≡ n = p .1 in
@@ -84,7 +84,7 @@ module _ (log : Bytes) (r : Row) (v : valid r ≡ true) (end : r .first ≡ used
       ∙ sound-finds log x (p .0) (omega (arith, used-le-sectors log))
       (λ k g. ap (λ (m : ℕ). at log (m + k)) here ∙ sym (kept (n + k) (omega arith)) ∙ p .3 k g)
 
-  same-sound : (n : ℕ) → n < used log → sound (written log r) n ≡ sound log n
+  pub same-sound : (n : ℕ) → n < used log → sound (written log r) n ≡ sound log n
   same-sound n h = go (sound log n) (sound (written log r) n) refl refl
     where
       go : (a b : Option Row) → sound log n ≡ a → sound (written log r) n ≡ b → b ≡ a
@@ -92,7 +92,7 @@ module _ (log : Bytes) (r : Row) (v : valid r ≡ true) (end : r .first ≡ used
       go none none p q = refl
       go none (some x) p q = sym (before n x h q) ∙ p
 
-  same-front : blocks (written log r) ≡ blocks log ++ foundFrom (sound (written log r)) (sectors (length log) - used log) (0 + used log)
+  pub same-front : blocks (written log r) ≡ blocks log ++ foundFrom (sound (written log r)) (sectors (length log) - used log) (0 + used log)
   unfolding blocks
   same-front =
       let k = sectors (length log) - used log in

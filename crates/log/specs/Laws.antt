@@ -1,7 +1,7 @@
 -- What is promised of look-up and doubt, for any log.
 use mathlib.Core.Path.{_≡_}
 use mathlib.Core.Bool.{true, false, cond}
-use mathlib.Core.List.{[]}
+use mathlib.Core.List.{[], _∷_, _++_}
 use mathlib.Core.Option.{none, some}
 use Prim.Native.Nat.{ℕ, suc, _+_, _≤_, _<_}
 use lib.ListN.{length}
@@ -20,6 +20,11 @@ use Rattle.log.specs.LookUp.{blocks, inBlock, outside, firstDoubtful, he
 abbrev pub HeldStays : Type 0
 HeldStays = (log : Bytes) (r : Row) → valid r ≡ true → r .first ≡ used log → r .first + parts r ≤ sectors (length log)
     → (t : ℕ) (s : Bytes) (x : Row) → held log t s ≡ some x → held (written log r) t s ≡ some x
+
+-- appending adds one sound block, behind all others, and no other
+abbrev pub BlocksAppended : Type 0
+BlocksAppended = (log : Bytes) (r : Row) → valid r ≡ true → r .first ≡ used log → r .first + parts r ≤ sectors (length log)
+    → blocks (written log r) ≡ blocks log ++ (r ∷ [])
 
 -- a pass from the front stands at n: no block that starts before n reaches past it
 abbrev pub PassedTo : Bytes → ℕ → Type 0

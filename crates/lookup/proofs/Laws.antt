@@ -160,7 +160,7 @@ not-zero t s b p q = rw (sym p ∙ q) (go (lawful t))
     go true = refl
     go false = refl
 
-look-cases : (o : Option Row) (w : Refusal) (p : Place) → p ≡ placeOf o → (p ≡ Nowhere → Refused w ≡ on o (Refused w) (λ (r : Row). Found (record { 0 = r .first }) (length (r .bytes))))
+pub look-cases : (o : Option Row) (w : Refusal) (p : Place) → p ≡ placeOf o → (p ≡ Nowhere → Refused w ≡ on o (Refused w) (λ (r : Row). Found (record { 0 = r .first }) (length (r .bytes))))
 look-cases none w p e z = refl
 look-cases (some r) w p e z = let y : _≡_ {A = ℕ} 0 1 = cc in absurd (omega arith)
 
@@ -168,7 +168,7 @@ pub look-none : (log : Bytes) (t : ℕ) (s : Bytes) (p : Place) (w : Refusal) �
 unfolding lookUp
 look-none log t s p w e z a = ap Refused a ∙ look-cases (held log t s) (absence log) p e z
 
-look-found : (o : Option Row) (w : Refusal) (p : Place) (f : SectorNumber) (n : ℕ) → p ≡ placeOf o → p ≡ At f n → Found f n ≡ on o (Refused w) (λ (r : Row). Found (record { 0 = r .first }) (length (r .bytes)))
+pub look-found : (o : Option Row) (w : Refusal) (p : Place) (f : SectorNumber) (n : ℕ) → p ≡ placeOf o → p ≡ At f n → Found f n ≡ on o (Refused w) (λ (r : Row). Found (record { 0 = r .first }) (length (r .bytes)))
 look-found none w p f n e z = let y : _≡_ {A = ℕ} 0 1 = cc in absurd (omega arith)
 look-found (some r) w p f n e z =
     let q : At f n ≡ At (record { 0 = r .first }) (length (r .bytes)) = sym z ∙ e in

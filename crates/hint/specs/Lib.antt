@@ -1,0 +1,3 @@
+pub mod Hint
+pub mod Rebuilt
+pub mod Promises

@@ -1,0 +1,49 @@
+-- `rebuild::enter_at` meets its contract.
+use Rattle.rebuild.proofs.Turns.{entered-none, label-facts, entered-some}
+use borrow.Author.Needs.{needs}
+use Rattle.rebuild.proofs.enter_at.Statement.{statement}
+use Rattle.rebuild.proofs.enter_at.Tie as tie
+
+slice-aggregate-sound-at : tie.Need-slice-aggregate-sound-at
+slice-aggregate-sound-at c = search needs
+
+sound-at-requires : tie.Need-sound-at-requires
+sound-at-requires c κs = search needs
+
+slice-aggregate-sector-at : tie.Need-slice-aggregate-sector-at
+slice-aggregate-sector-at c = search needs
+
+sector-at-requires : tie.Need-sector-at-requires
+sector-at-requires c κs = search needs
+
+enter-label-requires : tie.Need-enter-label-requires
+enter-label-requires c κs =
+    let a = c .before .before .before .before .before .before .before .before .args in
+    label-facts (a .log .now) (a .n .0) _ (c .before .before .before .before .sound-at .ensures) (c .before .before .before .if1 .taken) _ (c .before .sector-at .ensures)
+
+same-length : tie.Need-same-length
+same-length c = search needs
+
+returns : tie.Need-returns
+returns c =
+    let a = c .before .before .before .before .before .before .before .before .before .before .before .args in
+    entered-some (a .log .now) (a .n .0) _ (c .before .before .before .before .before .before .before .sound-at .ensures) (c .before .before .before .before .before .before .if1 .taken) _ (c .before .before .before .before .sector-at .ensures)
+    (a .index .now) _ (c .before .before .enter-label .ensures)
+
+returns-2 : tie.Need-returns-2
+returns-2 c =
+    let a = c .before .before .before .before .before .args in
+    entered-none (a .log .now) (a .n .0) _ (c .before .sound-at .ensures) (a .index .now) (c .if1 .left)
+
+pub enter-at-spec : {M : Type 1} → statement M
+enter-at-spec =
+    tie.close
+    (tie.spec
+    slice-aggregate-sound-at
+    sound-at-requires
+    slice-aggregate-sector-at
+    sector-at-requires
+    enter-label-requires
+    same-length
+    returns
+    returns-2)
