@@ -13,13 +13,14 @@ static uint8_t log_bytes[LOG];
 static uint8_t waiting[WAITING];
 static uint8_t reply[REPLY];
 static uint8_t session = 0;
+static const uint8_t date[8] = {'2', '0', '2', '6', '1', '1', '1', '6'};
 
 /* One message, and what its number and its reply have to be. */
 static void ask(const char *what, const uint8_t *message, size_t length, uint32_t number, const uint8_t *expected,
                 size_t expected_length) {
     memset(reply, 0xee, sizeof reply);
-    uint32_t result = skywimple_serve(session, message, length, log_bytes, sizeof log_bytes, waiting, sizeof waiting, reply,
-                                      sizeof reply);
+    uint32_t result = skywimple_serve(session, message, length, date, sizeof date, log_bytes, sizeof log_bytes, waiting,
+                                      sizeof waiting, reply, sizeof reply);
     if (result % 256 != number || memcmp(reply, expected, expected_length) != 0 || reply[expected_length] != 0xee) {
         fprintf(stderr, "%s: number %u, reply %02x %02x %02x %02x ..\n", what, (unsigned)(result % 256), reply[0], reply[1],
                 reply[2], reply[3]);
@@ -46,14 +47,14 @@ int main(void) {
     read[27] = 3;
     const uint8_t bytes[] = {0, 5, 13, 2, 'a', 'b', 'c'};
     ask("read", read, sizeof read, 0, bytes, sizeof bytes);
-    if (log_bytes[0] != 0 || waiting[0] != 'r') {
+    if (log_bytes[0] != 0 || memcmp(waiting, "date=20261116\nrec=00000000\n", 27) != 0) {
         return 1;
     }
 
     const uint8_t sync[] = {0, 2, 16, 3};
     const uint8_t synced[] = {0, 2, 17, 3};
     ask("sync", sync, sizeof sync, 0, synced, sizeof synced);
-    if (log_bytes[0] != 'r' || waiting[0] != 0) {
+    if (log_bytes[0] != 'd' || waiting[0] != 0) {
         return 1;
     }
     ask("read after it", read, sizeof read, 0, bytes, sizeof bytes);

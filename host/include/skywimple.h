@@ -1,7 +1,7 @@
 /* The functions of target/staticlib/libboundary.a, which `rt staticlib boundary` writes.
    crates/boundary/src has their contracts. A slice is a pointer to its bytes, not null, and their
    count. Slices of one call do not overlap, unless both are only read. "Number" is the number of a
-   refusal, 1 to 23, 25 or 26, or 0 for none.
+   refusal, 1 to 26, or 0 for none.
 
    waiting is the waiting part of log: whole sectors of 512 bytes, at most 256 of them (else 3), all
    zeros at first, and from then on as the last skywimple_serve left it. Its sectors are numbered on
@@ -30,19 +30,22 @@ uint32_t skywimple_sha1(const uint8_t *s, size_t s_len, uint8_t *out, size_t out
 /* Answers one request. session: 0 fresh, 1 greeted, anything else closed. The result is the number,
    and 256 times the session afterwards. A reply stands at the front of reply, which needs 57,348
    bytes; a stored block is appended in waiting, and a sync moves all that is there into log and
-   leaves waiting all zeros. 14 ("no room"): log has too few sectors beyond the used ones of both, or
-   waiting too few blank ones left, which a sync mends. An error reply's text is why= and two digits,
+   leaves waiting all zeros. It gets date, which is eight decimal digits with every message, else the
+   number is 24; a block that is held already keeps the date that it has, or has none. 14 ("no room"):
+   log has too few sectors beyond the used ones of both, or waiting too few blank ones left, which a
+   sync mends. An error reply's text is why= and two digits,
    and for 12 also " at=" and the first doubtful sector in eight lower-case hex digits. */
 uint32_t skywimple_serve(uint8_t session, const uint8_t *message, size_t message_len,
-                         uint8_t *log, size_t log_len, uint8_t *waiting, size_t waiting_len,
-                         uint8_t *reply, size_t reply_len);
+                         const uint8_t *date, size_t date_len, uint8_t *log, size_t log_len,
+                         uint8_t *waiting, size_t waiting_len, uint8_t *reply, size_t reply_len);
 
 /* Writes the report of log, without what waits, to the front of buffer, which needs 128 bytes. The result is the number,
    and 256 times the length of the text. */
 uint32_t skywimple_report(const uint8_t *log, size_t log_len, uint8_t *buffer, size_t buffer_len);
 
 /* The sound block that starts at a sector: the number (3 for a log that is not allowed), and 256
-   times the block's size in bytes, 0 where none starts. */
+   times the block's size in bytes, 0 where none starts. Its sectors are the size over 389, rounded up,
+   if the sector begins with the line of a date, else over 403. */
 uint32_t skywimple_sound_at(const uint8_t *log, size_t log_len, size_t sector);
 
 /* The length of a block without the zeros at its end (for pointer types, zero scores). A refusal is

@@ -1,3 +1,2 @@
--- `Held`: what look-up finds; `Laws`: the returns of the code.
-pub mod Held
+-- The returns of the code.
 pub mod Laws

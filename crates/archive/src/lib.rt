@@ -1,4 +1,5 @@
-// One request: a session, a message, the lent log with its waiting part, and the lent reply buffer. Any bytes are answered.
+// One request: a session, a message, a date, the lent log with its waiting part, and the lent reply buffer. Any bytes are answered.
+use block::Block;
 use kind::LONGEST;
 use log::Look;
 use log::Receipt;
@@ -15,9 +16,9 @@ ghost use lib.ListN.{length};
 ghost use Rattle.buffer.specs.Bytes.{Bytes};
 ghost use Rattle.kind.specs.Kind.{longest};
 ghost use Rattle.log.specs.Parts.{beside};
-ghost use Rattle.block.specs.Block.{partsOf};
-ghost use Rattle.block.specs.Log.{sectors, joined};
-ghost use Rattle.reader.specs.Reader.{bytesAt};
+ghost use mathlib.Core.Option.{some};
+ghost use Rattle.block.specs.Block.{Inside};
+ghost use Rattle.block.specs.Log.{sectors, joined, bytesOf};
 ghost use Rattle.message.specs.Message.{tagOf, scoreOf, dataOf, requestOf};
 ghost use Rattle.message.specs.Reply.{readReply};
 ghost use Rattle.message.specs.Reply.{reply as replyOf};
@@ -112,16 +113,15 @@ fn answer_read<'a>(
     log: &'a [u8],
     end: SectorNumber,
     waiting: &'a [u8],
-    first: SectorNumber,
-    size: usize,
+    b: Block,
     tag: u8,
     reply: &mut [u8],
 ) -> Answer
-    requires { ⌜ (end .0 ≤ sectors (length (now log))) × (first .0 + partsOf size ≤ end .0 + sectors (length (now waiting))) × (size ≤ longest) × (replyRoom ≤ length (now reply)) ⌝ }
-    ensures { λ r. ⌜ outcomeOf r (now (log .entry)) (now (waiting .entry)) (now (reply .exit)) ≡ granted (readReply tag (bytesAt (joined (end .0) (now (log .entry)) (now (waiting .entry))) (first .0) size)) Greeted (beside (now (log .entry)) (now (waiting .entry))) (now (reply .entry)) ⌝ }
+    requires { ⌜ (end .0 ≤ sectors (length (now log))) × Inside (end .0 + sectors (length (now waiting))) b × (b .size ≤ longest) × (replyRoom ≤ length (now reply)) ⌝ }
+    ensures { λ r. ⌜ outcomeOf r (now (log .entry)) (now (waiting .entry)) (now (reply .exit)) ≡ granted (readReply tag (bytesOf (joined (end .0) (now (log .entry)) (now (waiting .entry))) b)) Greeted (beside (now (log .entry)) (now (waiting .entry))) (now (reply .entry)) ⌝ }
 {
-    message::write_head(reply, message::READ_REPLY, tag, size);
-    reader::copy_out(log, end, waiting, first, size, &mut reply[message::HEAD..]);
+    message::write_head(reply, message::READ_REPLY, tag, b.size);
+    reader::copy_out(log, end, waiting, b, &mut reply[message::HEAD..]);
     Answer {
         number: 0,
         session: Session::Greeted,
@@ -147,7 +147,7 @@ fn serve_read<'a>(
     let end = lookup::border(log, waiting);
     let look = lookup::fetch(log, end, waiting, kind, message::score_of(message), count);
     match look {
-        Look::Found { first, size } => answer_read(log, end, waiting, first, size, tag, reply),
+        Look::Found(b) => answer_read(log, end, waiting, b, tag, reply),
         Look::Refused(why) => refuse(why, tag, Session::Greeted, reply),
     }
 }
@@ -170,9 +170,16 @@ fn answer_store(receipt: Receipt, tag: u8, reply: &mut [u8]) -> Answer
 }
 
 // A write: tests 9 and 10, then the store.
-fn serve_write(message: &[u8], log: &[u8], waiting: &mut [u8], reply: &mut [u8], kind: u8) -> Answer
-    requires { ⌜ (requestOf (now message) ≡ Write kind) × (replyRoom ≤ length (now reply)) ⌝ }
-    ensures { λ r. ⌜ outcomeOf r (now (log .entry)) (now (waiting .exit)) (now (reply .exit)) ≡ write kind (tagOf (now (message .entry))) (dataOf (now (message .entry))) (beside (now (log .entry)) (now (waiting .entry))) (now (reply .entry)) ⌝ }
+fn serve_write(
+    message: &[u8],
+    date: &[u8],
+    log: &[u8],
+    waiting: &mut [u8],
+    reply: &mut [u8],
+    kind: u8,
+) -> Answer
+    requires { ⌜ (requestOf (now message) ≡ Write kind) × (replyRoom ≤ length (now reply)) × (length (now date) ≡ 8) ⌝ }
+    ensures { λ r. ⌜ outcomeOf r (now (log .entry)) (now (waiting .exit)) (now (reply .exit)) ≡ write (now (date .entry)) kind (tagOf (now (message .entry))) (dataOf (now (message .entry))) (beside (now (log .entry)) (now (waiting .entry))) (now (reply .entry)) ⌝ }
 {
     let tag = message::tag_of(message);
     if !kind::is_lawful(kind) {
@@ -182,7 +189,7 @@ fn serve_write(message: &[u8], log: &[u8], waiting: &mut [u8], reply: &mut [u8],
     if LONGEST < data.len() {
         return refuse(Refusal::DataLength, tag, Session::Greeted, reply);
     }
-    let receipt = store::store(log, waiting, kind, data);
+    let receipt = store::store(log, waiting, date, kind, data);
     answer_store(receipt, tag, reply)
 }
 
@@ -198,9 +205,15 @@ fn serve_sync(log: &mut [u8], waiting: &mut [u8], tag: u8, reply: &mut [u8]) -> 
 }
 
 // A request in a greeted session.
-fn serve_greeted(message: &[u8], log: &mut [u8], waiting: &mut [u8], reply: &mut [u8]) -> Answer
-    requires { ⌜ (4 ≤ length (now message)) × (replyRoom ≤ length (now reply)) ⌝ }
-    ensures { λ r. ⌜ outcomeOf r (now (log .exit)) (now (waiting .exit)) (now (reply .exit)) ≡ greeted (requestOf (now (message .entry))) (tagOf (now (message .entry))) (now (message .entry)) (beside (now (log .entry)) (now (waiting .entry))) (now (reply .entry)) ⌝ }
+fn serve_greeted(
+    message: &[u8],
+    date: &[u8],
+    log: &mut [u8],
+    waiting: &mut [u8],
+    reply: &mut [u8],
+) -> Answer
+    requires { ⌜ (4 ≤ length (now message)) × (replyRoom ≤ length (now reply)) × (length (now date) ≡ 8) ⌝ }
+    ensures { λ r. ⌜ outcomeOf r (now (log .exit)) (now (waiting .exit)) (now (reply .exit)) ≡ greeted (now (date .entry)) (requestOf (now (message .entry))) (tagOf (now (message .entry))) (now (message .entry)) (beside (now (log .entry)) (now (waiting .entry))) (now (reply .entry)) ⌝ }
 {
     let tag = message::tag_of(message);
     let request = message::parse(message);
@@ -212,19 +225,20 @@ fn serve_greeted(message: &[u8], log: &mut [u8], waiting: &mut [u8], reply: &mut
         Request::Ping => acknowledge(message::PING_REPLY, tag, reply),
         Request::Sync => serve_sync(log, waiting, tag, reply),
         Request::Read { kind, count } => serve_read(message, log, waiting, reply, kind, count),
-        Request::Write { kind } => serve_write(message, log, waiting, reply, kind),
+        Request::Write { kind } => serve_write(message, date, log, waiting, reply, kind),
     }
 }
 
-// Answers a request: tests 1 to 4, then what the session allows.
+// Answers a request: tests 1 to 4, and 24, then what the session allows.
 pub fn serve(
     session: Session,
     message: &[u8],
+    date: &[u8],
     log: &mut [u8],
     waiting: &mut [u8],
     reply: &mut [u8],
 ) -> Answer
-    ensures { λ r. ⌜ outcomeOf r (now (log .exit)) (now (waiting .exit)) (now (reply .exit)) ≡ step session (now (message .entry)) (beside (now (log .entry)) (now (waiting .entry))) (now (reply .entry)) ⌝ }
+    ensures { λ r. ⌜ outcomeOf r (now (log .exit)) (now (waiting .exit)) (now (reply .exit)) ≡ step session (now (message .entry)) (some (now (date .entry))) (beside (now (log .entry)) (now (waiting .entry))) (now (reply .entry)) ⌝ }
 {
     if !message::is_framed(message) {
         return refuse_silently(Refusal::Frame, session);
@@ -237,7 +251,17 @@ pub fn serve(
     }
     match session {
         Session::Closed => refuse_silently(Refusal::Closed, session),
-        Session::Fresh => serve_fresh(message, reply),
-        Session::Greeted => serve_greeted(message, log, waiting, reply),
+        Session::Fresh => {
+            if !sector::is_date(date) {
+                return refuse_silently(Refusal::Date, session);
+            }
+            serve_fresh(message, reply)
+        }
+        Session::Greeted => {
+            if !sector::is_date(date) {
+                return refuse_silently(Refusal::Date, session);
+            }
+            serve_greeted(message, date, log, waiting, reply)
+        }
     }
 }

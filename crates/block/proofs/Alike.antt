@@ -7,8 +7,10 @@ use native.Mathlib.Nat.{le-antisymm}
 use native.Mathlib.Omega.{arith}
 use lib.ListN.{take, drop}
 use Rattle.buffer.specs.Bytes.{Bytes, zeros}
-use Rattle.block.specs.Block.{Row, parts}
-use Rattle.block.specs.Log.{at, Alike, used, payloads, sound}
+use Rattle.sector.specs.Sector.{payloadOf}
+use Rattle.block.specs.Block.{Row, parts, partsIn}
+use Rattle.block.specs.declared.Block.{Block}
+use Rattle.block.specs.Log.{at, Alike, used, payloads, bytesOf, sound}
 use Rattle.block.proofs.Used.{used-le, used-le-sectors, blank-past}
 use Rattle.block.proofs.Sound.{sound-reads, sound-finds}
 use Rattle.block.proofs.Apart.{sound-used}
@@ -19,10 +21,13 @@ used-one a b f = used-le a (used b) (λ n h. ap zeros (f n) ∙ blank-past b n h
 pub used-alike : (a b : Bytes) → Alike a b → used a ≡ used b
 used-alike a b f = le-antisymm (used-one a b f) (used-one b a (λ n. sym (f n)))
 
-pub payloads-alike : (a b : Bytes) → Alike a b → (k n : ℕ) → payloads a k n ≡ payloads b k n
+pub payloads-alike : (label : ℕ) (a b : Bytes) → Alike a b → (k n : ℕ) → payloads label a k n ≡ payloads label b k n
 unfolding payloads
-payloads-alike a b f zero n = refl
-payloads-alike a b f (suc k) n = ap₂ (λ (x y : Bytes). take 403 (drop 96 x) ++ y) (f n) (payloads-alike a b f k (suc n))
+payloads-alike label a b f zero n = refl
+payloads-alike label a b f (suc k) n = ap₂ (λ (x y : Bytes). take (payloadOf label) (drop label x) ++ y) (f n) (payloads-alike label a b f k (suc n))
+
+pub bytes-alike : (a b : Bytes) → Alike a b → (x : Block) → bytesOf a x ≡ bytesOf b x
+bytes-alike a b f x = ap (take (x .size)) (payloads-alike (x .label) a b f (partsIn x) (x .first .0))
 
 sound-one : (a b : Bytes) → Alike a b → (n : ℕ) (r : Row) → sound a n ≡ some r → sound b n ≡ some r
 sound-one a b f n r e =

@@ -1,6 +1,6 @@
 -- The table of sector counts is what the definitions say.
 use mathlib.Core.Path.{_≡_, refl}
-use Prim.Native.Nat.{_-_, _*_}
+use Prim.Native.Nat.{ℕ, _-_, _*_}
 use lib.ListN.{length, drop, length-drop}
 use Rattle.buffer.specs.Bytes.{Bytes}
 use Rattle.word.specs.Hex.{digitChar, hex}
@@ -12,5 +12,5 @@ unfolding partsOf hex digitChar
 counts = refl
 
 -- the bytes that the last sector's payload holds
-pub last-payload : (b : Bytes) → length (drop (403 * (partsOf (length b) - 1)) b) ≡ (countOf (length b)) .last
-last-payload b = length-drop (403 * (partsOf (length b) - 1)) b
+pub last-payload : (p : ℕ) (b : Bytes) → length (drop (p * (partsOf p (length b) - 1)) b) ≡ (countOf p (length b)) .last
+last-payload p b = length-drop (p * (partsOf p (length b) - 1)) b

@@ -12,9 +12,9 @@ use Rattle.ground.proofs.Cases.{and-true}
 use Rattle.buffer.specs.Bytes.{Bytes, same}
 use Rattle.buffer.proofs.Bytes.{same-true, same-refl}
 use Rattle.word.specs.Hex.{hex, hexBytes}
-use Rattle.sector.specs.Sector.{kindField, sizeField, scoreField, scoreDigits}
-use Rattle.block.specs.Block.{Row, parts, image}
-use Rattle.block.specs.Log.{at, payloads, soundAs, sound}
+use Rattle.sector.specs.Sector.{labelLength, dateField, behind, kindField, sizeField, scoreField, scoreDigits}
+use Rattle.block.specs.Block.{Row, parts, placeOf, image}
+use Rattle.block.specs.Log.{at, payloads, bytesOf, soundAs, sound}
 use Rattle.block.proofs.Image.{image-kind, image-score}
 use Rattle.block.proofs.Payloads.{take-payloads}
 use Rattle.block.proofs.Passed.{as-passed}
@@ -25,11 +25,11 @@ pub as-stands : (log : Bytes) (n kind : ℕ) (score : Bytes) (r : Row) → sound
 as-stands log n kind score r e =
     let p = as-passed log n kind score r e in
     subst (λ (s : Row). Stands log n s × (s .kind ≡ kind) × (s .score ≡ score)) (p .1)
-    (passed-stands log n kind score (sizeField (at log n)) (p .0), refl, refl)
+    (passed-stands log n kind score (dateField (at log n)) (sizeField (behind (at log n))) (p .0), refl, refl)
 
 pub sound-reads : SoundReads
 unfolding sound
-sound-reads log n r e = (as-stands log n (kindField (at log n)) (scoreField (at log n)) r e) .0
+sound-reads log n r e = (as-stands log n (kindField (behind (at log n))) (scoreField (behind (at log n))) r e) .0
 
 pub sound-finds : SoundFinds
 sound-finds log r v h f = stands-sound log (r .first) r (v, refl, h, f)
@@ -41,8 +41,10 @@ pub as-finds : (log : Bytes) (n : ℕ) (r : Row) → sound log n ≡ some r → 
 as-finds log n r e = stands-as log n r (sound-reads log n r e)
 
 -- its bytes are the payloads, up to the size
-pub sound-bytes : (log : Bytes) (n : ℕ) (r : Row) → sound log n ≡ some r → r .bytes ≡ take (length (r .bytes)) (payloads log (parts r) n)
-sound-bytes log n r e = let p = sound-reads log n r e in sym (take-payloads log n r (p .0) (p .3))
+pub sound-bytes : (log : Bytes) (n : ℕ) (r : Row) → sound log n ≡ some r → r .bytes ≡ bytesOf log (placeOf r)
+sound-bytes log n r e =
+    let p = sound-reads log n r e in
+    sym (ap (λ (m : ℕ). take (length (r .bytes)) (payloads (labelLength (r .date)) log (parts r) m)) (p .1) ∙ take-payloads log n r (p .0) (p .3))
 
 -- no sound block, none of any type and score
 pub as-none : (log : Bytes) (n kind : ℕ) (score : Bytes) → sound log n ≡ none → soundAs log n kind score ≡ none
@@ -75,10 +77,10 @@ module _ (log : Bytes) (n kind : ℕ) (score : Bytes) (r : Row) (e : soundAs log
   here : at log n ≡ image r 0
   here = first-sector log n r S
 
-  pub as-digits : same (scoreDigits (at log n)) (hexBytes score) ≡ true
+  pub as-digits : same (scoreDigits (behind (at log n))) (hexBytes score) ≡ true
   as-digits =
-      let d : scoreDigits (at log n) ≡ hexBytes score = ap scoreDigits here ∙ image-score r 0 (S .0) ∙ ap hexBytes ((as-stands log n kind score r e) .2) in
+      let d : scoreDigits (behind (at log n)) ≡ hexBytes score = ap (λ (x : Bytes). scoreDigits (behind x)) here ∙ image-score r 0 (S .0) ∙ ap hexBytes ((as-stands log n kind score r e) .2) in
       ap (λ (x : Bytes). same x (hexBytes score)) d ∙ same-refl (hexBytes score)
 
-  pub kind-digits : take 2 (drop 36 (at log n)) ≡ hex 2 kind
-  kind-digits = ap (λ (x : Bytes). take 2 (drop 36 x)) here ∙ image-kind r 0 (S .0) ∙ ap (hex 2) ((as-stands log n kind score r e) .1)
+  pub kind-digits : take 2 (drop 36 (behind (at log n))) ≡ hex 2 kind
+  kind-digits = ap (λ (x : Bytes). take 2 (drop 36 (behind x))) here ∙ image-kind r 0 (S .0) ∙ ap (hex 2) ((as-stands log n kind score r e) .1)

@@ -9,9 +9,10 @@ use lib.ListN.{length, take, drop}
 use Rattle.buffer.specs.Bytes.{Bytes, same, zeros}
 use Rattle.word.specs.Number.{small}
 use Rattle.sha1.specs.Sha1.{sha1Of}
-use Rattle.sector.specs.Sector.{labelOf, fits, blank, recField, kindField, sizeField, scoreField}
+use Rattle.sector.specs.Sector.{datedLabel, labelLength, payloadOf, dateField, behind, fits, blank, kindField, sizeField, scoreField}
 use Rattle.kind.specs.Kind.{lawful, longest}
-use Rattle.block.specs.Block.{Row, partsOf, labelAt}
+use Rattle.block.specs.Block.{Row, partsOf, partsIn, labelAt}
+use Rattle.block.specs.declared.Block.{Block}
 
 -- "The log is sectors of 512 bytes": how many whole ones a log of m bytes has
 abbrev pub sectors : ℕ → ℕ
@@ -37,33 +38,43 @@ usedOf log (suc n) = cond (zeros (at log n)) (usedOf log n) (suc n)
 unfoldable pub used : Bytes → ℕ
 used log = usedOf log (sectors (length log))
 
--- the payloads of k sectors from n on, laid end to end
-unfoldable pub payloads : Bytes → ℕ → ℕ → Bytes
-payloads log zero n = []
-payloads log (suc k) n = take 403 (drop 96 (at log n)) ++ payloads log k (suc n)
+-- the payloads of k sectors from n on, behind labels of one length, laid end to end
+unfoldable pub payloads : ℕ → Bytes → ℕ → ℕ → Bytes
+payloads label log zero n = []
+payloads label log (suc k) n = take (payloadOf label) (drop label (at log n)) ++ payloads label log k (suc n)
+
+-- the bytes of the block at a place
+abbrev pub bytesOf : Bytes → Block → Bytes
+bytesOf log b = take (b .size) (payloads (b .label) log (partsIn b) (b .first .0))
 
 -- "every check fits", of k sectors from n on
 unfoldable pub checked : Bytes → ℕ → ℕ → Bool
 checked log zero n = true
 checked log (suc k) n = fits (at log n) && checked log k (suc n)
 
--- "parts count 0, 1, 2 up to of less 1, labels otherwise agree": k sectors have the labels of the parts from i on of the block that starts at first
-unfoldable pub labelled : Bytes → ℕ → ℕ → ℕ → Bytes → ℕ → ℕ → Bool
-labelled log first kind size score zero i = true
-labelled log first kind size score (suc k) i =
-    same (take 96 (at log (first + i))) (labelOf (labelAt first i kind size) score) && labelled log first kind size score k (suc i)
+-- "parts count 0, 1, 2 up to of less 1, labels otherwise agree", the date too: k sectors have the labels of the parts from i on of the block of `of` parts
+-- that starts at first
+unfoldable pub labelled : Bytes → Bytes → ℕ → ℕ → ℕ → ℕ → Bytes → ℕ → ℕ → Bool
+labelled log date of first kind size score zero i = true
+labelled log date of first kind size score (suc k) i =
+    same (take (labelLength date) (at log (first + i))) (datedLabel date (labelAt of first i kind size) score)
+    && labelled log date of first kind size score k (suc i)
 
 -- every test passes
 abbrev pub all : List Bool → Bool
 all [] = true
 all (t ∷ ts) = t && all ts
 
--- the block that starts at sector n, if it is sound and has this type and score. The label of sector n gives the size, of which "of" follows
+-- the block that starts at sector n, if it is sound and has this type and score. The label of sector n gives the date, or none, and the size, of which "of"
+-- follows: "told apart by the first line, never within one block"
 unfoldable pub soundAs : Bytes → ℕ → ℕ → Bytes → Option Row
 soundAs log n kind score =
-    let size = sizeField (at log n) in
-    let k = partsOf size in
-    let bytes = take size (payloads log k n) in
+    let s = at log n in
+    let date = dateField s in
+    let size = sizeField (behind s) in
+    let p = payloadOf (labelLength date) in
+    let k = partsOf p size in
+    let whole = payloads (labelLength date) log k n in
     cond
     (all
     (leb 1 size
@@ -71,15 +82,15 @@ soundAs log n kind score =
     ∷ lawful kind
     ∷ leb (n + k) (sectors (length log))
     ∷ leb (n + k) (16 ^ 8)
-    ∷ labelled log n kind size score k 0
+    ∷ labelled log date k n kind size score k 0
     ∷ checked log k n
-    ∷ zeros (drop size (payloads log k n))
-    ∷ small bytes
-    ∷ same (sha1Of bytes) score
+    ∷ zeros (drop size whole)
+    ∷ small (take size whole)
+    ∷ same (sha1Of (take size whole)) score
     ∷ []))
-    (some (record { kind = kind; score = score; bytes = bytes; first = n }))
+    (some (record { kind = kind; score = score; bytes = take size whole; first = n; date = date }))
     none
 
 -- "A sound block is a run of sectors at its rec place": the type and score are those that the label of sector n gives
 unfoldable pub sound : Bytes → ℕ → Option Row
-sound log n = soundAs log n (kindField (at log n)) (scoreField (at log n))
+sound log n = soundAs log n (kindField (behind (at log n))) (scoreField (behind (at log n)))

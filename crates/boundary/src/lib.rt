@@ -8,6 +8,7 @@ pub mod tree;
 
 use request::Session;
 ghost use mathlib.Core.Path.{_≡_};
+ghost use mathlib.Core.Option.{some};
 ghost use Rattle.crc32_rule.specs.Crc32.{crc32Of};
 ghost use Rattle.log.specs.Parts.{beside};
 ghost use Rattle.request.specs.Step.{step};
@@ -59,18 +60,19 @@ fn session_number(s: Session) -> u32
     }
 }
 
-// One request, with the log and its waiting part. The result is the number of the refusal, 0 for none, and 256 times the session afterwards.
+// One request, with a date, the log and its waiting part. The result is the number of the refusal, 0 for none, and 256 times the session afterwards.
 #[no_mangle]
 pub extern "C" fn skywimple_serve(
     session: u8,
     message: &[u8],
+    date: &[u8],
     log: &mut [u8],
     waiting: &mut [u8],
     reply: &mut [u8],
 ) -> u32
-    ensures { λ r. ⌜ served r (now (log .exit)) (now (waiting .exit)) (now (reply .exit)) ≡ servedOf (step (sessionOf session) (now (message .entry)) (beside (now (log .entry)) (now (waiting .entry))) (now (reply .entry))) ⌝ }
+    ensures { λ r. ⌜ served r (now (log .exit)) (now (waiting .exit)) (now (reply .exit)) ≡ servedOf (step (sessionOf session) (now (message .entry)) (some (now (date .entry))) (beside (now (log .entry)) (now (waiting .entry))) (now (reply .entry))) ⌝ }
 {
-    let answer = archive::serve(session_of(session), message, log, waiting, reply);
+    let answer = archive::serve(session_of(session), message, date, log, waiting, reply);
     let after = answer.session;
     (answer.number as u32) + 256 * session_number(after)
 }

@@ -1,4 +1,5 @@
 // What a log holds: its report, and the sound block at a sector.
+use reader::Place;
 use refusal::Refusal;
 use report::Reported;
 use sector::SECTOR;
@@ -40,5 +41,9 @@ pub extern "C" fn skywimple_sound_at(log: &[u8], n: usize) -> u32
         return 0;
     }
     let none = [0u8; 0];
-    256 * (reader::sound_at(log, SectorNumber(count), &none, SectorNumber(n)) as u32)
+    let place = reader::sound_at(log, SectorNumber(count), &none, SectorNumber(n));
+    match place {
+        Place::At(b) => 256 * (b.size as u32),
+        Place::Nowhere => 0,
+    }
 }

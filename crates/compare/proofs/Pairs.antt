@@ -8,10 +8,9 @@ use borrow.Author.Tests.{lt-ltb, le-ltb, eq-eqb, ne-eqb}
 use Rattle.buffer.specs.Bytes.{Bytes, same}
 use Rattle.refusal.specs.declared.Refusal.{Refusal}
 use Rattle.refusal.specs.declared.Refusal.the-variants.{Nest, Spent}
-use Rattle.sector_number.specs.declared.SectorNumber.{SectorNumber}
-use Rattle.block.specs.Log.{sectors, joined}
+use Rattle.block.specs.declared.Block.{Block}
+use Rattle.block.specs.Log.{sectors, joined, bytesOf}
 use Rattle.log.specs.declared.Look.the-variants as look
-use Rattle.reader.specs.Reader.{bytesAt}
 use Rattle.reader.proofs.Pieces.{length-bytes}
 use Rattle.entry.specs.declared.Entry.{Entry}
 use Rattle.visit.specs.declared.End.the-variants.{Refused}
@@ -70,30 +69,31 @@ module _ (log : Bytes) (e : Entry) (level nest : ℕ) (s t : Bytes) (left : ℕ)
         pub first-not-read : (w : Refusal) → placeAt log e level s ≡ look.Refused w → OfBlocks log e level nest s t left (compared 0 1 (Refused w))
         first-not-read w d = spends (refused w) (λ g h. refused-at log e level s w d refused _)
 
-        module _ {f : SectorNumber} {m : ℕ} (O : OpenedAt log e level s f m) where
+        module _ {x : Block} (O : OpenedAt log e level s x) where
           pub second-not-read : (w : Refusal) → placeAt log e level t ≡ look.Refused w → OfBlocks log e level nest s t left (compared 0 1 (Refused w))
           second-not-read w d = spends (refused w) (λ g h. refused-at log e level t w d refused _ ∙ goes-on O refused (λ b. opened log e level t refused (λ c. compareBelow g log e level nest b c (left - 1))))
 
-          pub both-read : {f′ : SectorNumber} {m′ : ℕ} → OpenedAt log e level t f′ m′ → (v : Compared)
-              → ((g : ℕ) → left - 1 < g → v ≡ compareBelow g log e level nest (bytesAt log (f .0) m) (bytesAt log (f′ .0) m′) (left - 1))
+          pub both-read : {y : Block} → OpenedAt log e level t y → (v : Compared)
+              → ((g : ℕ) → left - 1 < g → v ≡ compareBelow g log e level nest (bytesOf log x) (bytesOf log y) (left - 1))
               → OfBlocks log e level nest s t left (oneUnit v)
-          both-read {f′} {m′} O′ v k =
+          both-read O′ v k =
               spends v
               (λ g h. k g (omega arith)
-              ∙ goes-on O′ refused (λ c. compareBelow g log e level nest (bytesAt log (f .0) m) c (left - 1))
+              ∙ goes-on O′ refused (λ c. compareBelow g log e level nest (bytesOf log x) c (left - 1))
               ∙ goes-on O refused (λ b. opened log e level t refused (λ c. compareBelow g log e level nest b c (left - 1))))
 
 -- ---- where blocks lie
 
-pub lies : (u : ℕ) (log waiting : Bytes) → u ≤ sectors (length log) → {e : Entry} {level : ℕ} {score : Bytes} {f : SectorNumber} {n : ℕ}
-    → OpenedAt (joined u log waiting) e level score f n → Lies level (record { first = f; size = n }) (u + sectors (length waiting))
-lies u log waiting h O = record { before = in-both u log waiting h _ (in-log O); not-many = not-many O; whole = whole-scores O }
+pub lies : (u : ℕ) (log waiting : Bytes) → u ≤ sectors (length log) → {e : Entry} {level : ℕ} {score : Bytes} {b : Block}
+    → OpenedAt (joined u log waiting) e level score b → Lies level b (u + sectors (length waiting))
+lies u log waiting h {b = b} O = record { before = in-both u log waiting h b (in-log O); not-many = not-many O; whole = whole-scores O }
 
--- all positions of two blocks of a size in the log
-pub of-below : (log : Bytes) (e : Entry) (level nest : ℕ) (first m first′ n left : ℕ) {most : ℕ} → most ≡ max (positions level m) (positions level n) → (v : Compared)
-    → OfAll (λ f i a. comparePosition f log e level nest (bytesAt log first m) (bytesAt log first′ n) i a) left most v
-    → (f : ℕ) → left < f → v ≡ compareBelow f log e level nest (bytesAt log first m) (bytesAt log first′ n) left
-of-below log e level nest first m first′ n left {most} em v k f h =
+-- all positions of two blocks in the log
+pub of-below : (log : Bytes) (e : Entry) (level nest : ℕ) (b c : Block) (end : ℕ) → Lies level b end → Lies level c end → (left : ℕ) {most : ℕ}
+    → most ≡ max (positions level (b .size)) (positions level (c .size)) → (v : Compared)
+    → OfAll (λ f i a. comparePosition f log e level nest (bytesOf log b) (bytesOf log c) i a) left most v
+    → (f : ℕ) → left < f → v ≡ compareBelow f log e level nest (bytesOf log b) (bytesOf log c) left
+of-below log e level nest b c end B C left {most} em v k f h =
     k f h
-    ∙ ap (λ (x : ℕ). inOrder (λ i a. comparePosition f log e level nest (bytesAt log first m) (bytesAt log first′ n) i a) left x 0 0 0)
-    (em ∙ ap₂ (λ (x y : ℕ). max (positions level x) (positions level y)) (sym (length-bytes log first m)) (sym (length-bytes log first′ n)))
+    ∙ ap (λ (x : ℕ). inOrder (λ i a. comparePosition f log e level nest (bytesOf log b) (bytesOf log c) i a) left x 0 0 0)
+    (em ∙ ap₂ (λ (x y : ℕ). max (positions level x) (positions level y)) (sym (length-bytes log b (B .before .1))) (sym (length-bytes log c (C .before .1))))

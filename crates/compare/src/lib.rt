@@ -1,5 +1,6 @@
 // Two directory trees compared, pair by pair, while the allowance lasts. The blocks lie in two runs of sectors that are read as one, as in
 // `reader`.
+use block::Block;
 use comparison::Compared;
 use entry::Entry;
 use log::Look;
@@ -12,18 +13,12 @@ ghost use mathlib.Core.Path.{_≡_};
 ghost use Prim.Native.Nat.{ℕ, _+_, _≤_, _<_, max};
 ghost use lib.ListN.{length};
 ghost use Rattle.kind.specs.Kind.{longest};
-ghost use Rattle.block.specs.Log.{sectors, joined};
+ghost use Rattle.block.specs.Log.{sectors, joined, bytesOf};
 ghost use Rattle.walk.specs.Walk.{mostAllowance};
 ghost use Rattle.comparison.specs.Compared.{oneUnit, refused as refusedBy};
 ghost use Rattle.comparison.specs.Compare.{mostLeaf, positions, compareBlocks, compareEntries, comparePosition, compareBelow};
-ghost use Rattle.compare.specs.Parts.{notRead, Lies, bytesOf};
+ghost use Rattle.compare.specs.Parts.{notRead, Lies};
 ghost use Rattle.comparison.specs.Differences.{directoryAllowed, differencesOf};
-
-// Where a block starts, and its size.
-pub struct Place {
-    pub first: SectorNumber,
-    pub size: usize,
-}
 
 // How many positions a block of a size has at a level.
 fn positions_of(level: usize, size: usize) -> usize
@@ -54,7 +49,7 @@ fn not_read(look: Look) -> Compared
     ensures { λ r. ⌜ r ≡ notRead look ⌝ }
 {
     match look {
-        Look::Found { first: _, size: _ } => Compared {
+        Look::Found(b) => Compared {
             count: 0,
             units: 1,
             end: End::Done,
@@ -165,20 +160,12 @@ fn compare_blocks<'a>(
         };
     }
     let one = pair::read_block(log, end, waiting, e, s, level);
-    let Look::Found { first, size } = one else {
+    let Look::Found(b) = one else {
         return not_read(one);
     };
-    let b = Place {
-        first: first,
-        size: size,
-    };
     let other = pair::read_block(log, end, waiting, e, t, level);
-    let Look::Found { first, size } = other else {
+    let Look::Found(c) = other else {
         return not_read(other);
-    };
-    let c = Place {
-        first: first,
-        size: size,
     };
     one_unit(compare_below(log, end, waiting, e, level, nest, b, c, left - 1))
 }
@@ -191,8 +178,8 @@ fn compare_below<'a>(
     e: Entry,
     level: usize,
     nest: usize,
-    b: Place,
-    c: Place,
+    b: Block,
+    c: Block,
     left: usize,
 ) -> Compared
     requires { ⌜ (end .0 ≤ sectors (length (now log))) × Lies level b (end .0 + sectors (length (now waiting))) × Lies level c (end .0 + sectors (length (now waiting))) × (level ≤ 7) × (nest ≤ 16) × (e .dsize ≤ mostLeaf) × (left < mostAllowance) ⌝ }
@@ -231,8 +218,8 @@ fn compare_position<'a>(
     e: Entry,
     level: usize,
     nest: usize,
-    b: Place,
-    c: Place,
+    b: Block,
+    c: Block,
     i: usize,
     left: usize,
 ) -> Compared
@@ -240,12 +227,12 @@ fn compare_position<'a>(
     ensures { λ r. ⌜ ((f : ℕ) → left < f → r ≡ comparePosition f (joined (end .0) (now (log .entry)) (now (waiting .entry))) e level nest (bytesOf (joined (end .0) (now (log .entry)) (now (waiting .entry))) b) (bytesOf (joined (end .0) (now (log .entry)) (now (waiting .entry))) c) i left) ⌝ }
 {
     if level == 0 {
-        let x = visit::entry_bytes(log, end, waiting, b.first, b.size, i);
-        let y = visit::entry_bytes(log, end, waiting, c.first, c.size, i);
+        let x = visit::entry_bytes(log, end, waiting, b, i);
+        let y = visit::entry_bytes(log, end, waiting, c, i);
         return compare_entries(log, end, waiting, nest, &x, &y, left);
     }
-    let s = tree::score_at(log, end, waiting, b.first, b.size, i);
-    let t = tree::score_at(log, end, waiting, c.first, c.size, i);
+    let s = tree::score_at(log, end, waiting, b, i);
+    let t = tree::score_at(log, end, waiting, c, i);
     compare_blocks(log, end, waiting, e, level - 1, nest, &s, &t, left)
 }
 

@@ -47,7 +47,7 @@ pub after-a-stop : claims.AfterAStop
 after-a-stop = stop-answers archive lawful
 
 pub never-written-over : claims.NeverWrittenOver
-never-written-over s m log buffer k sm D = nothing-stored-changes s m log buffer sm .1 k (D .0)
+never-written-over s m date log buffer k sm D = nothing-stored-changes s m date log buffer sm .1 k (D .0)
 
 pub stands : (h : Past) → Stands archive (log-then archive h) (books-then archive h)
 stands h = stands-then archive lawful h
@@ -92,24 +92,24 @@ module _ (h : Past) (t : ℕ) (s : Bytes) (x : Row) (u : Unchanged h t s x) wher
       rw same-row (g .2)
 
 pub unchanged-is-answered : claims.UnchangedIsAnswered
-unchanged-is-answered h t count s m buffer x z u Q =
-    let o = read-row (logThen h) (ledgerThen h) (mirrors h) t count s m buffer (copy h t s x u) z Q (copy-first h t s x u) in
+unchanged-is-answered h t count s m date buffer x z u Q =
+    let o = read-row (logThen h) (ledgerThen h) (mirrors h) t count s m date buffer (copy h t s x u) z Q (copy-first h t s x u) in
     (copy h t s x u, copy-unchanged h t s x u, copy-least h t s x u, o .0, o .1)
 
 pub unchanged-is-met : claims.UnchangedIsMet
-unchanged-is-met h t d m buffer x z u W =
+unchanged-is-met h t d m date buffer x z u W =
     let s = sha1Of d in
-    let o = write-row (logThen h) (ledgerThen h) (mirrors h) t d m buffer (copy h t s x u) z W (copy-first h t s x u) in
+    let o = write-row (logThen h) (ledgerThen h) (mirrors h) t d m date buffer (copy h t s x u) z W (copy-first h t s x u) in
     (copy h t s x u, copy-unchanged h t s x u, copy-least h t s x u, o .0, o .1)
 
 pub others-not-known : claims.OthersNotKnown
-others-not-known h t count s m buffer k z e n Q =
-    read-unknown (logThen h) (ledgerThen h) (mirrors h) t count s m buffer z Q (none-first h t s n) (changed-uncovered (ledgerThen h) k e)
+others-not-known h t count s m date buffer k z e n Q =
+    read-unknown (logThen h) (ledgerThen h) (mirrors h) t count s m date buffer z Q (none-first h t s n) (changed-uncovered (ledgerThen h) k e)
 
 pub gap-not-known : claims.GapNotKnown
-gap-not-known h t count s m buffer k z e l c n Q = (
+gap-not-known h t count s m date buffer k z e l c n Q = (
   ap zeros (mirrors h .plain k e ∙ cell-none (ledgerThen h .rows) k c) ∙ blank-is,
-  read-unknown (logThen h) (ledgerThen h) (mirrors h) t count s m buffer z Q (none-first h t s n)
+  read-unknown (logThen h) (ledgerThen h) (mirrors h) t count s m date buffer z Q (none-first h t s n)
       (uncovered-at (intact archive (ledgerThen h)) (end archive (ledgerThen h)) k l (uncovered-intact (ledgerThen h .changed) (ledgerThen h .rows) k c)),
 )
 
@@ -120,15 +120,15 @@ healed-is-intact h cs hurt r ok m f =
     row-sound archive lawful hurt (told archive cs L) (reflects-told archive lawful (logThen h) L cs hurt (mirrors h) D) r m (hit-not archive cs r f)
 
 pub answers-are-unchanged : claims.AnswersAreUnchanged
-answers-are-unchanged h t count s m buffer Q z n =
-    let a = answers-stored (logThen h) (ledgerThen h) (mirrors h) t count s m buffer Q z n in
+answers-are-unchanged h t count s m date buffer Q z n =
+    let a = answers-stored (logThen h) (ledgerThen h) (mirrors h) t count s m date buffer Q z n in
     (a .0, from-intact h t s (a .0) (a .1) (a .2) (a .3), a .4)
 
 pub stored-then-reads-back : claims.StoredThenReadsBack
-stored-then-reads-back h t d m buffer sm W answered past qs b = then-reads (logThen h) (ledgerThen h) (mirrors h) (stands h .waiting) t d m buffer sm W answered past qs b
+stored-then-reads-back h t d m date buffer sm W answered past qs b = then-reads (logThen h) (ledgerThen h) (mirrors h) (stands h .waiting) t d m date buffer sm W answered past qs b
 
 pub duplicate-then-adds-nothing : claims.DuplicateThenAddsNothing
-duplicate-then-adds-nothing h t d m buffer sm W answered past qs b = then-writes (logThen h) (ledgerThen h) (mirrors h) (stands h .waiting) t d m buffer sm W answered past qs b
+duplicate-then-adds-nothing h t d m date buffer sm W answered past qs b = then-writes (logThen h) (ledgerThen h) (mirrors h) (stands h .waiting) t d m date buffer sm W answered past qs b
 
 pub twelve-then-tells : claims.TwelveThenTells
 twelve-then-tells h = twelve-first (logThen h) (ledgerThen h) (mirrors h)

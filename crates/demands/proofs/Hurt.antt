@@ -40,12 +40,14 @@ allowed-with a b e q = by-lengths (b .log) (b .waiting) ∙ ap allowed e ∙ sym
     by-lengths log none = refl
     by-lengths log (some w) = refl
 
-pub reads-with : (a b : Lent) (m buffer : Bytes) (t count : ℕ) (s : Bytes) → extentOf b ≡ extentOf a → Reads m buffer a t count s → Reads m buffer b t count s
-reads-with a b m buffer t count s e Q = record {
+pub reads-with : (a b : Lent) (m : Bytes) (date : Option Bytes) (buffer : Bytes) (t count : ℕ) (s : Bytes)
+    → extentOf b ≡ extentOf a → Reads m date buffer a t count s → Reads m date buffer b t count s
+reads-with a b m date buffer t count s e Q = record {
   asks = record {
     frame = Q .asks .frame;
     buffer-room = Q .asks .buffer-room;
     lent-allowed = allowed-with a b e (Q .asks .lent-allowed);
+    date-allowed = Q .asks .date-allowed;
     request = Q .asks .request;
   };
   score = Q .score;

@@ -2,6 +2,7 @@
 use mathlib.Core.Path.{_≡_, refl, sym, ap, _∙_}
 use mathlib.Core.Bool.{true}
 use mathlib.Core.List.{List}
+use mathlib.Core.Option.{Option}
 use Prim.Native.Nat.{ℕ, _+_, _≤_}
 use native.Mathlib.Omega.{arith}
 use lib.ListN.{length}
@@ -25,8 +26,8 @@ use Rattle.demands.specs.Corollaries.{AtMostOne, alike, adds, settles}
 use Rattle.demands.proofs.LentLaws.{room-one, room-same, start-before, extent-written, one-appended, settle-fits, extent-settled, at-settled}
 use Rattle.demands.proofs.Outcomes.{appends-at-most-one}
 
-pub step-keeps : (s : Session) (m : Bytes) (L : Lent) (buffer : Bytes) → small m ≡ true → Keeps L (step s m L buffer .lent)
-step-keeps s m L buffer sm = go (step s m L buffer) (appends-at-most-one s m L buffer sm)
+pub step-keeps : (s : Session) (m : Bytes) (date : Option Bytes) (L : Lent) (buffer : Bytes) → small m ≡ true → Keeps L (step s m date L buffer .lent)
+step-keeps s m date L buffer sm = go (step s m date L buffer) (appends-at-most-one s m date L buffer sm)
   where
     go : (o : Outcome) → AtMostOne L o → Keeps L (o .lent)
     go o (alike e n) = (ap extentOf e, λ t x r h. ap (λ (l : Lent). held (oneLog l) t x) e ∙ h)
@@ -46,5 +47,5 @@ step-keeps s m L buffer sm = go (step s m L buffer) (appends-at-most-one s m L b
 pub list-keeps : (s : Standing archive) (qs : List (Item archive)) → AllOfBytes archive qs → Keeps (s .log) (trace (answer archive) s qs .left .log)
 list-keeps s qs b =
     trace-keeps (answer archive) (λ x. Keeps (s .log) (x .log)) (λ q. archive .OfBytes (q .request))
-    (λ x q ok k. let here = step-keeps (given archive (x .past) q) (q .request .message) (x .log) (q .request .buffer) ok in
+    (λ x q ok k. let here = step-keeps (given archive (x .past) q) (q .request .message) (q .request .date) (x .log) (q .request .buffer) ok in
     (here .0 ∙ k .0, λ t y r e. here .1 t y r (k .1 t y r e))) s qs b (refl, λ t y r e. e)

@@ -15,10 +15,11 @@ use Rattle.buffer.proofs.Bytes.{same-refl, same-true}
 use Rattle.sha1.specs.Sha1.{sha1Of}
 use Rattle.message.specs.Message.{tagOf}
 use Rattle.kind.specs.Kind.{longest, zeroScore}
-use Rattle.block.specs.Block.{Row, partsOf}
+use Rattle.block.specs.Block.{Row}
 use Rattle.log.specs.Parts.{Lent}
+use Rattle.log.specs.Store.{partsFor}
 use Rattle.request.specs.Step as steps
-use Rattle.request.specs.Step.{replyRoom}
+use Rattle.request.specs.Step.{replyRoom, dateOf}
 use Rattle.request.specs.declared.Session.{Session}
 use Rattle.request.specs.declared.Session.the-variants.{Greeted}
 use Rattle.ledger.specs.Archive.{Effect, stays, adds, settles, Ruling}
@@ -73,38 +74,49 @@ module _ (t : ℕ) (d : Bytes) where
       trace-keeps (recount archive) (λ b. Known (b .ledger)) (λ q. archive .OfBytes (q .request))
       (λ b q _. known-next (extentOf (b .begin)) (b .ledger) (ruling archive b q))
 
-  known-new : (L : Ledger archive) → firstRow t (sha1Of d) (intact archive L) ≡ none → Known (enter archive (rowOf t d (end archive L)) L)
+  known-new : (date : Bytes) (L : Ledger archive) → firstRow t (sha1Of d) (intact archive L) ≡ none → Known (enter archive (rowOf date t d (end archive L)) L)
   unfolding firstRow
-  known-new L e =
-      let r = rowOf t d (end archive L) in
+  known-new date L e =
+      let r = rowOf date t d (end archive L) in
       let found : firstRow t (sha1Of d) (intactOf archive (L .changed) (r ∷ [])) ≡ some r = rw (hit-end L r refl, eq-eqb t t refl, same-refl (sha1Of d)) in
       inr (r, ap (firstRow t (sha1Of d)) (intact-append (L .changed) (L .rows) (r ∷ [])) ∙ first-behind t (sha1Of d) (intact archive L) (intactOf archive (L .changed) (r ∷ [])) e ∙ found, refl)
 
   -- a write that is answered leaves it so
-  module _ (L : Ledger archive) (x : Extent) (m buffer : Bytes) where
+  module _ (L : Ledger archive) (x : Extent) (m : Bytes) (date : Option Bytes) (buffer : Bytes) where
     -- if a decision is answered, the ledger has the data afterwards
     abbrev Kept : Decision → Type 0
     Kept w = (rulingOf Greeted m buffer w) .answer .number ≡ 0 → Known (next archive x L (rulingOf Greeted m buffer w))
 
-    write-kept : Kept (writeRow (intact archive L) (end archive L) (L .start) x t d (tagOf m))
+    write-kept : Kept (writeRow (intact archive L) (end archive L) (L .start) x (dateOf date) t d (tagOf m))
     write-kept =
         cond-ind Kept (eqb (length d) 0) _ _ (λ q _. inl (none-of d (eqb-true (length d) 0 q))) (λ _.
         on-ind Kept (firstRow t (sha1Of d) (intact archive L)) _ _
         (λ e. cond-ind Kept (same (sha1Of d) zeroScore) _ _ (λ _ n. absurd (omega arith)) (λ _.
-        cond-ind Kept (roomFrom x (L .start) (end archive L) (partsOf (length d))) _ _ (λ _ n. cond-ind Known (waiting x) _ _ (λ _. known-new L e) (λ _. known-new L e)) (λ _ n. absurd (omega arith))))
+        cond-ind Kept (roomFrom x (L .start) (end archive L) (partsFor (dateOf date) d)) _ _
+        (λ _ n. cond-ind Known (waiting x) _ _ (λ _. known-new (dateOf date) L e) (λ _. known-new (dateOf date) L e)) (λ _ n. absurd (omega arith))))
         (λ r e. cond-ind Kept (same (r .bytes) d) _ _ (λ q n. inr (r, e, same-true (r .bytes) d q)) (λ _ n. absurd (omega arith))))
       where
         none-of : (b : Bytes) → length b ≡ 0 → b ≡ []
         none-of [] e = refl
         none-of (a ∷ b) e = absurd (omega arith)
 
-  pub write-decision : (rows : List Row) (e st : ℕ) (m buffer : Bytes) (log : Lent) → Writes m buffer log t d
-      → decision rows e st (extentOf log) Greeted (record { message = m; buffer = buffer }) ≡ writeRow rows e st (extentOf log) t d (tagOf m)
+  pub write-decision : (rows : List Row) (e st : ℕ) (m : Bytes) (date : Option Bytes) (buffer : Bytes) (log : Lent) → Writes m date buffer log t d
+      → decision rows e st (extentOf log) Greeted (record { message = m; buffer = buffer; date = date }) ≡ writeRow rows e st (extentOf log) (dateOf date) t d (tagOf m)
   unfolding decision
-  write-decision rows e st m buffer log W =
-      rw (W .asks .frame, le-leb replyRoom (length buffer) (W .asks .buffer-room), same-allowed (log .log) (log .waiting) (W .asks .lent-allowed), W .asks .request, W .content, W .lawful-type, le-leb (length d) longest (W .not-long))
+  write-decision rows e st m date buffer log W =
+      let A = W .asks in
+      rw (
+        A .frame,
+        le-leb replyRoom (length buffer) (A .buffer-room),
+        same-allowed (log .log) (log .waiting) (A .lent-allowed),
+        A .date-allowed,
+        A .request,
+        W .content,
+        W .lawful-type,
+        le-leb (length d) longest (W .not-long),
+      )
 
-  pub known-told : (L : Ledger archive) (m buffer : Bytes) (log : Lent) → Writes m buffer log t d
-      → (tell (L .rows) (L .changed) (L .start) (extentOf log) Greeted (record { message = m; buffer = buffer })) .answer .number ≡ 0
-      → Known (next archive (extentOf log) L (tell (L .rows) (L .changed) (L .start) (extentOf log) Greeted (record { message = m; buffer = buffer })))
-  known-told L m buffer log W = rw (write-decision (intact archive L) (end archive L) (L .start) m buffer log W) (write-kept L (extentOf log) m buffer)
+  pub known-told : (L : Ledger archive) (m : Bytes) (date : Option Bytes) (buffer : Bytes) (log : Lent) → Writes m date buffer log t d
+      → (tell (L .rows) (L .changed) (L .start) (extentOf log) Greeted (record { message = m; buffer = buffer; date = date })) .answer .number ≡ 0
+      → Known (next archive (extentOf log) L (tell (L .rows) (L .changed) (L .start) (extentOf log) Greeted (record { message = m; buffer = buffer; date = date })))
+  known-told L m date buffer log W = rw (write-decision (intact archive L) (end archive L) (L .start) m date buffer log W) (write-kept L (extentOf log) m date buffer)

@@ -13,12 +13,13 @@ pub mod Laws
 pub mod Theorem
 pub mod Greeted
 pub mod Outcomes
+pub mod Keeps
+pub mod Dates
 pub mod Uncovered
 pub mod Known
 pub mod Reflected
 pub mod Twelve
 pub mod Moment
-pub mod Keeps
 pub mod Lost
 pub mod Histories
 pub mod Hurt
@@ -31,4 +32,5 @@ pub mod Hurts
 pub mod MayBe
 pub mod Torn
 pub mod Stored
+pub mod Editions
 pub mod Witness

@@ -16,6 +16,7 @@ use Rattle.message.specs.Message.{dataOf, requestOf}
 use Rattle.message.specs.declared.Request.the-variants.{Write}
 use Rattle.block.specs.Block.{Row}
 use Rattle.log.specs.Parts.{Lent}
+use Rattle.request.specs.Step.{dateOf}
 use Rattle.request.specs.declared.Session.{Session}
 use Rattle.ledger.specs.Archive.{Effect, stays, adds, settles, Ruling, Seen}
 use Rattle.ledger.specs.Ledger.{Ledger, empty, hit, intactOf, intact, enter, end, note, next}
@@ -41,14 +42,16 @@ module _ (t : ℕ) (s : Bytes) where
       → NoneIntact t s L → NoneIntact t s (next archive size L (ruling L size u q))
   lost-next L size u q sm n l = go (ruling L size u q .effect) (λ r e. tell-fits L size u q r sm e) (λ r e. added-answered u (q .message) (q .buffer) (decision (intact archive L) (end archive L) (L .start) size u q) r e)
     where
-      last : (r x : Row) → Fits (intact archive L) (end archive L) (L .start) size (requestOf (q .message)) (q .message) r → ruling L size u q .answer .number ≡ 0
+      last : (r x : Row) → Fits (intact archive L) (end archive L) (L .start) size (dateOf (q .date)) (requestOf (q .message)) (q .message) r
+          → ruling L size u q .answer .number ≡ 0
           → List·Memᴰ x (L .rows) ⊎ List·Memᴰ x (r ∷ []) → x .kind ≡ t → x .score ≡ s → hit archive (L .changed) x ≡ true
       last r x f z (inl m) k e = l x m k e
       last r x f z (inr m) k e =
           let same-row : x ≡ r = List·Memᴰ·eq-of-singleton m in
           absurd (n (f .asked ∙ ap Write (ap (λ (y : Row). y .kind) (sym same-row) ∙ k)) (sym (f .scored) ∙ ap (λ (y : Row). y .score) (sym same-row) ∙ e) z)
 
-      go : (a : Effect Row) → ((r : Row) → a ≡ adds r → Fits (intact archive L) (end archive L) (L .start) size (requestOf (q .message)) (q .message) r)
+      go : (a : Effect Row)
+          → ((r : Row) → a ≡ adds r → Fits (intact archive L) (end archive L) (L .start) size (dateOf (q .date)) (requestOf (q .message)) (q .message) r)
           → ((r : Row) → a ≡ adds r → ruling L size u q .answer .number ≡ 0) → NoneIntact t s (note archive size a L)
       go stays f z = l
       go settles f z = l
@@ -77,7 +80,8 @@ single-next L size u q sm S = (changed-next archive size L (ruling L size u q) �
     all-intact : intact archive L ≡ L .rows
     all-intact = ap (λ (cs : List ℕ). intactOf archive cs (L .rows)) (S .0) ∙ intact-all (L .rows)
 
-    last : (r x : Row) → Fits (intact archive L) (end archive L) (L .start) size (requestOf (q .message)) (q .message) r → List·Memᴰ x (L .rows) ⊎ List·Memᴰ x (r ∷ [])
+    last : (r x : Row) → Fits (intact archive L) (end archive L) (L .start) size (dateOf (q .date)) (requestOf (q .message)) (q .message) r
+        → List·Memᴰ x (L .rows) ⊎ List·Memᴰ x (r ∷ [])
         → firstRow (x .kind) (x .score) (L .rows ++ (r ∷ [])) ≡ some x
     last r x f (inl m) = first-front (x .kind) (x .score) (L .rows) (r ∷ []) x (S .1 x m)
     last r x f (inr m) =
@@ -86,7 +90,8 @@ single-next L size u q sm S = (changed-next archive size L (ruling L size u q) �
         first-behind (r .kind) (r .score) (L .rows) (r ∷ []) (ap (firstRow (r .kind) (r .score)) (sym all-intact) ∙ f .alone) ∙ rw (eq-eqb (r .kind) (r .kind) refl, same-refl (r .score)) in
         subst (λ (y : Row). firstRow (y .kind) (y .score) (L .rows ++ (r ∷ [])) ≡ some y) (sym same-row) new
 
-    go : (a : Effect Row) → ((r : Row) → a ≡ adds r → Fits (intact archive L) (end archive L) (L .start) size (requestOf (q .message)) (q .message) r)
+    go : (a : Effect Row)
+        → ((r : Row) → a ≡ adds r → Fits (intact archive L) (end archive L) (L .start) size (dateOf (q .date)) (requestOf (q .message)) (q .message) r)
         → (x : Row) → List·Memᴰ x ((note archive size a L) .rows) → firstRow (x .kind) (x .score) ((note archive size a L) .rows) ≡ some x
     go stays f = S .1
     go settles f = S .1

@@ -20,7 +20,7 @@ use Rattle.message.specs.Message.{framed, tagOf, versionOf, scoreOf, dataOf, re
 use Rattle.message.specs.declared.Request.{Request}
 use Rattle.message.specs.declared.Request.the-variants.{Ping, Hello, Goodbye, Read, Write, Sync, Unknown, Ill}
 use Rattle.kind.specs.Kind.{lawful, longest}
-use Rattle.block.specs.Block.{Row, partsOf}
+use Rattle.block.specs.Block.{Row}
 use Rattle.block.specs.Log.{used}
 use Rattle.log.specs.LookUp as look
 use Rattle.log.specs.Store as stores
@@ -31,7 +31,7 @@ use Rattle.request.specs.declared.Session.{Session}
 use Rattle.request.specs.declared.Session.the-variants.{Fresh, Greeted, Closed as Shut}
 use Rattle.demands.specs.Corollaries.{AtMostOne, alike, adds, settles, AppendsAtMostOne}
 use Rattle.demands.proofs.LentLaws.{room-one}
-use Rattle.demands.proofs.TellAdds.{rowOf, row-valid, log-allowed-of}
+use Rattle.demands.proofs.TellAdds.{rowOf, date-or-none, row-valid, log-allowed-of}
 use Rattle.demands.proofs.Seen.{storedAs, kept, held-zero, empty-score}
 
 module _ {L : Lent} where
@@ -46,7 +46,7 @@ module _ {L : Lent} where
   by-row none g h = g refl
   by-row (some r) g h = h r refl
 
-module _ (L : Lent) (m buffer : Bytes) where
+module _ (L : Lent) (m : Bytes) (date : Option Bytes) (buffer : Bytes) where
   absent : AtMostOne L (steps.refused (look.absence (oneLog L)) (tagOf m) Greeted L buffer)
   unfolding look.absence
   absent = alike refl (go (eqb (look.doubtful (oneLog L)) 0) refl)
@@ -63,37 +63,41 @@ module _ (L : Lent) (m buffer : Bytes) where
       (λ r _. by-test (ltb count (length (r .bytes))) (λ _. plain refl (λ e. omega arith)) (λ _. plain refl (λ e. omega arith))))
 
   -- data that is not found
-  new-ways : (t : ℕ) (d : Bytes) → steps.allowed L ≡ true → lawful t ≡ true → length d ≤ longest → small d ≡ true → (length d ≡ 0 → ⊥) → AtMostOne L (kept m buffer (storedAs L t d none))
-  new-ways t d a l le sm n = go (roomFor L (partsOf (length d))) refl
+  new-ways : (t : ℕ) (d : Bytes) → steps.dateAllowed date ≡ true → steps.allowed L ≡ true → lawful t ≡ true → length d ≤ longest → small d ≡ true
+      → (length d ≡ 0 → ⊥) → AtMostOne L (kept m buffer (storedAs L (steps.dateOf date) t d none))
+  new-ways t d w a l le sm n = go (roomFor L (stores.partsFor (steps.dateOf date) d)) refl
     where
-      go : (b : Bool) → roomFor L (partsOf (length d)) ≡ b → AtMostOne L (kept m buffer (storedAs L t d none))
+      go : (b : Bool) → roomFor L (stores.partsFor (steps.dateOf date) d) ≡ b → AtMostOne L (kept m buffer (storedAs L (steps.dateOf date) t d none))
       go true q =
-          let room = room-one (L .log) (L .waiting) (partsOf (length d)) q in
-          rw q (adds (rowOf t d (used (oneLog L))) refl refl (row-valid t d (used (oneLog L)) (length (L .log)) (log-allowed-of (L .log) (L .waiting) a) l le n sm (room .1)) refl q)
+          let room = room-one (L .log) (L .waiting) (stores.partsFor (steps.dateOf date) d) q in
+          rw q (adds (rowOf (steps.dateOf date) t d (used (oneLog L))) refl refl
+          (row-valid (steps.dateOf date) t d (used (oneLog L)) (length (L .log)) (date-or-none date w) (log-allowed-of (L .log) (L .waiting) a) l le n sm (room .1)) refl q)
       go false q = rw q (plain refl (λ e. omega arith))
 
-  held-ways : (t : ℕ) (d : Bytes) (r : Row) → AtMostOne L (kept m buffer (storedAs L t d (some r)))
+  held-ways : (t : ℕ) (d : Bytes) (r : Row) → AtMostOne L (kept m buffer (storedAs L (steps.dateOf date) t d (some r)))
   held-ways t d r = go (same (r .bytes) d)
     where
       go : (b : Bool) → AtMostOne L (kept m buffer (cond b (stores.afterStore (stores.receipt (sha1Of d) (Duplicate (record { 0 = r .first }))) L) (stores.afterStore (stores.receipt (sha1Of d) (Refused Clash)) L)))
       go true = plain refl (λ e. omega arith)
       go false = plain refl (λ e. omega arith)
 
-  store-ways : (t : ℕ) (d : Bytes) → steps.allowed L ≡ true → lawful t ≡ true → length d ≤ longest → small d ≡ true → AtMostOne L (kept m buffer (stores.store L t d))
+  store-ways : (t : ℕ) (d : Bytes) → steps.dateAllowed date ≡ true → steps.allowed L ≡ true → lawful t ≡ true → length d ≤ longest
+      → small d ≡ true → AtMostOne L (kept m buffer (stores.store L (steps.dateOf date) t d))
   unfolding stores.store
-  store-ways t [] a l le sm = rw (held-zero (oneLog L) t (sha1Of []) l empty-score) (held-ways t [] (look.emptyRow t))
-  store-ways t (c ∷ x) a l le sm = go (look.held (oneLog L) t (sha1Of (c ∷ x)))
+  store-ways t [] w a l le sm = rw (held-zero (oneLog L) t (sha1Of []) l empty-score) (held-ways t [] (look.emptyRow t))
+  store-ways t (c ∷ x) w a l le sm = go (look.held (oneLog L) t (sha1Of (c ∷ x)))
     where
-      go : (o : Option Row) → AtMostOne L (kept m buffer (storedAs L t (c ∷ x) o))
-      go none = new-ways t (c ∷ x) a l le sm (λ e. omega arith)
+      go : (o : Option Row) → AtMostOne L (kept m buffer (storedAs L (steps.dateOf date) t (c ∷ x) o))
+      go none = new-ways t (c ∷ x) w a l le sm (λ e. omega arith)
       go (some r) = held-ways t (c ∷ x) r
 
-  write-ways : (t : ℕ) → steps.allowed L ≡ true → small m ≡ true → AtMostOne L (steps.write t (tagOf m) (dataOf m) L buffer)
+  write-ways : (t : ℕ) → steps.dateAllowed date ≡ true → steps.allowed L ≡ true → small m ≡ true
+      → AtMostOne L (steps.write (steps.dateOf date) t (tagOf m) (dataOf m) L buffer)
   unfolding steps.write
-  write-ways t a sm =
+  write-ways t w a sm =
       by-test (not (lawful t)) (λ _. plain refl (λ e. omega arith)) (λ l.
       by-test (ltb longest (length (dataOf m))) (λ _. plain refl (λ e. omega arith)) (λ le.
-      store-ways t (dataOf m) a (not-false (lawful t) l) (ltb-false longest (length (dataOf m)) le) (small-drop 8 m sm)))
+      store-ways t (dataOf m) w a (not-false (lawful t) l) (ltb-false longest (length (dataOf m)) le) (small-drop 8 m sm)))
 
   sync-ways : AtMostOne L (steps.sync (tagOf m) L buffer)
   unfolding steps.sync
@@ -110,24 +114,25 @@ module _ (L : Lent) (m buffer : Bytes) where
   fresh-ways (Read t c) = plain refl (λ e. omega arith)
   fresh-ways (Write t) = plain refl (λ e. omega arith)
 
-  greeted-ways : (q : Request) → steps.allowed L ≡ true → small m ≡ true → AtMostOne L (steps.greeted q (tagOf m) m L buffer)
+  greeted-ways : (q : Request) → steps.dateAllowed date ≡ true → steps.allowed L ≡ true → small m ≡ true
+      → AtMostOne L (steps.greeted (steps.dateOf date) q (tagOf m) m L buffer)
   unfolding steps.greeted
-  greeted-ways Unknown a sm = plain refl (λ e. omega arith)
-  greeted-ways Ill a sm = plain refl (λ e. omega arith)
-  greeted-ways Goodbye a sm = plain refl (λ e. omega arith)
-  greeted-ways Hello a sm = plain refl (λ e. omega arith)
-  greeted-ways Ping a sm = plain refl (λ e. omega arith)
-  greeted-ways Sync a sm = sync-ways
-  greeted-ways (Read t c) a sm = read-ways t c
-  greeted-ways (Write t) a sm = write-ways t a sm
+  greeted-ways Unknown w a sm = plain refl (λ e. omega arith)
+  greeted-ways Ill w a sm = plain refl (λ e. omega arith)
+  greeted-ways Goodbye w a sm = plain refl (λ e. omega arith)
+  greeted-ways Hello w a sm = plain refl (λ e. omega arith)
+  greeted-ways Ping w a sm = plain refl (λ e. omega arith)
+  greeted-ways Sync w a sm = sync-ways
+  greeted-ways (Read t c) w a sm = read-ways t c
+  greeted-ways (Write t) w a sm = write-ways t w a sm
 
-  session-ways : (s : Session) → steps.allowed L ≡ true → small m ≡ true → AtMostOne L (steps.inSession s m L buffer)
+  session-ways : (s : Session) → steps.allowed L ≡ true → small m ≡ true → AtMostOne L (steps.inSession s m date L buffer)
   unfolding steps.inSession
   session-ways Shut a sm = plain refl (λ e. omega arith)
-  session-ways Fresh a sm = fresh-ways (requestOf m)
-  session-ways Greeted a sm = greeted-ways (requestOf m) a sm
+  session-ways Fresh a sm = by-test (steps.dateAllowed date) (λ _. fresh-ways (requestOf m)) (λ _. plain refl (λ e. omega arith))
+  session-ways Greeted a sm = by-test (steps.dateAllowed date) (λ w. greeted-ways (requestOf m) w a sm) (λ _. plain refl (λ e. omega arith))
 
-  step-ways : (s : Session) → small m ≡ true → AtMostOne L (steps.step s m L buffer)
+  step-ways : (s : Session) → small m ≡ true → AtMostOne L (steps.step s m date L buffer)
   unfolding steps.step
   step-ways s sm =
       by-test (not (framed m)) (λ _. plain refl (λ e. omega arith)) (λ _.
@@ -136,4 +141,4 @@ module _ (L : Lent) (m buffer : Bytes) where
       session-ways s (not-false (steps.allowed L) a) sm)))
 
 pub appends-at-most-one : AppendsAtMostOne
-appends-at-most-one s m L buffer sm = step-ways L m buffer s sm
+appends-at-most-one s m date L buffer sm = step-ways L m date buffer s sm

@@ -25,7 +25,7 @@ use Rattle.demands.specs.Instance.{extentOf}
 use Rattle.demands.proofs.Tests.{contrary, ltb-not}
 use Rattle.demands.proofs.Seen.{given, seen, view, Mirrors, held-zero, held-other, absence-is}
 
-module _ (L : Lent) (rows : List Row) (end start : ℕ) (M : Mirrors (oneLog L) rows end) (m buffer : Bytes) (t count : ℕ) (score : Bytes) where
+module _ (L : Lent) (rows : List Row) (end start : ℕ) (M : Mirrors (oneLog L) rows end) (date m buffer : Bytes) (t count : ℕ) (score : Bytes) where
   -- what the ledger decides, by its first row
   abbrev decided : Option Row → Decision
   decided o =
@@ -37,13 +37,16 @@ module _ (L : Lent) (rows : List Row) (end start : ℕ) (M : Mirrors (oneLog L) 
   by-row (some r) =
       contrary seen (view L Greeted m buffer) (ltb count (length (r .bytes))) (leb (length (r .bytes)) count) (ltb-not count (length (r .bytes))) (λ _. refl) (λ _. refl)
 
-  found : lawful t ≡ true → seen (given L m buffer count (look.held (oneLog L) t score)) ≡ view L Greeted m buffer (readRow rows end start (extentOf L) t count score (tagOf m))
+  found : lawful t ≡ true
+      → seen (given L m buffer count (look.held (oneLog L) t score)) ≡ view L Greeted m buffer (readRow rows end start (extentOf L) date t count score (tagOf m))
   found l = go (same score zeroScore) refl
     where
-      go : (b : Bool) → same score zeroScore ≡ b → seen (given L m buffer count (look.held (oneLog L) t score)) ≡ view L Greeted m buffer (readRow rows end start (extentOf L) t count score (tagOf m))
+      go : (b : Bool) → same score zeroScore ≡ b
+          → seen (given L m buffer count (look.held (oneLog L) t score)) ≡ view L Greeted m buffer (readRow rows end start (extentOf L) date t count score (tagOf m))
       go true q = rw (held-zero (oneLog L) t score l q, q, le-ltb count 0 (omega arith))
       go false q = rw (held-other (oneLog L) rows end M t score q, q) (by-row (firstRow t score rows))
 
-  pub read-agrees : seen (steps.read t count (tagOf m) score L buffer) ≡ view L Greeted m buffer (cond (lawful t) (readRow rows end start (extentOf L) t count score (tagOf m)) (refusal BlockType))
+  pub read-agrees : seen (steps.read t count (tagOf m) score L buffer)
+      ≡ view L Greeted m buffer (cond (lawful t) (readRow rows end start (extentOf L) date t count score (tagOf m)) (refusal BlockType))
   unfolding steps.read
   read-agrees = contrary seen (view L Greeted m buffer) (not (lawful t)) (lawful t) refl found (λ _. refl)

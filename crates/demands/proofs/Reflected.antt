@@ -2,13 +2,13 @@
 use mathlib.Core.Path.{_≡_, refl, sym, ap, _∙_}
 use mathlib.Core.Bool.{Bool, true, false}
 use mathlib.Core.Logic.{inl, inr}
-use mathlib.Core.Option.{none, some}
+use mathlib.Core.Option.{Option, none, some}
 use Prim.Native.Nat.{ℕ, _≤_}
 use native.Mathlib.Omega.{arith}
 use lib.ListN.{length}
 use borrow.Author.Tests.{le-ltb}
 use Rattle.buffer.specs.Bytes.{Bytes, same}
-use Rattle.buffer.proofs.Bytes.{same-refl, same-true}
+use Rattle.buffer.proofs.Bytes.{same-true}
 use Rattle.sha1.specs.Sha1.{sha1Of}
 use Rattle.message.specs.Message.{tagOf}
 use Rattle.message.specs.Reply.{readReply, writeReply}
@@ -16,7 +16,6 @@ use Rattle.kind.specs.Kind.{lawful, zeroScore}
 use Rattle.block.specs.Block.{Row}
 use Rattle.log.specs.LookUp as look
 use Rattle.log.specs.Parts.{Lent, oneLog}
-use Rattle.log.specs.Store as stores
 use Rattle.request.specs.Step as steps
 use Rattle.request.specs.declared.Session.the-variants.{Greeted}
 use Rattle.ledger.specs.Ledger.{Ledger, intact, end}
@@ -25,10 +24,11 @@ use Rattle.ledger.proofs.Reflects.{used-end, blocks-intact}
 use Rattle.demands.specs.Ledger.{firstRow}
 use Rattle.demands.specs.Instance.{archive}
 use Rattle.demands.specs.Requests.{Writes, Reads}
-use Rattle.demands.proofs.Seen.{given, storedAs, kept, Mirrors, held-zero, empty-score, held-other}
+use Rattle.demands.proofs.Seen.{given, Mirrors, held-zero, empty-score, held-other}
 use Rattle.demands.proofs.Step.{mirrors}
 use Rattle.demands.proofs.Laws.{lawful as laws}
-use Rattle.demands.proofs.Greeted.{write-step, read-step}
+use Rattle.demands.proofs.Greeted.{read-step}
+use Rattle.demands.proofs.Dates.{date-is-no-identity}
 use Rattle.demands.proofs.Known.{Known}
 
 module _ (log : Lent) (L : Ledger archive) (R : Reflects archive log L) where
@@ -47,15 +47,12 @@ module _ (log : Lent) (L : Ledger archive) (R : Reflects archive log L) where
           let z : _≡_ {A = ℕ} 0 1 = cc in absurd (omega arith)
       other false q = q
 
-  pub known-reads : (t count : ℕ) (d m buffer : Bytes) → Known t d L → Reads m buffer log t count (sha1Of d) → length d ≤ count
-      → steps.step Greeted m log buffer ≡ steps.granted (readReply (tagOf m) d) Greeted log buffer
-  known-reads t count d m buffer k Q h =
+  pub known-reads : (t count : ℕ) (d m : Bytes) (date : Option Bytes) (buffer : Bytes) → Known t d L → Reads m date buffer log t count (sha1Of d) → length d ≤ count
+      → steps.step Greeted m date log buffer ≡ steps.granted (readReply (tagOf m) d) Greeted log buffer
+  known-reads t count d m date buffer k Q h =
       let f = known-held t d (Q .lawful-type) k in
-      read-step m buffer log t count (sha1Of d) Q ∙ ap (given log m buffer count) (f .1) ∙ rw (f .2, le-ltb count (length d) h)
+      read-step m date buffer log t count (sha1Of d) Q ∙ ap (given log m buffer count) (f .1) ∙ rw (f .2, le-ltb count (length d) h)
 
-  pub known-writes : (t : ℕ) (d m buffer : Bytes) → Known t d L → Writes m buffer log t d
-      → steps.step Greeted m log buffer ≡ steps.granted (writeReply (tagOf m) (sha1Of d)) Greeted log buffer
-  unfolding stores.store
-  known-writes t d m buffer k W =
-      let f = known-held t d (W .lawful-type) k in
-      write-step m buffer log t d W ∙ ap (λ o. kept m buffer (storedAs log t d o)) (f .1) ∙ rw (f .2, same-refl d)
+  pub known-writes : (t : ℕ) (d m : Bytes) (date : Option Bytes) (buffer : Bytes) → Known t d L → Writes m date buffer log t d
+      → steps.step Greeted m date log buffer ≡ steps.granted (writeReply (tagOf m) (sha1Of d)) Greeted log buffer
+  known-writes t d m date buffer k W = let f = known-held t d (W .lawful-type) k in date-is-no-identity t d m date log buffer (f .0) (f .1) (f .2) W

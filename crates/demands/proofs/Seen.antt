@@ -10,16 +10,15 @@ use Rattle.ground.specs.Choice.{on}
 use Rattle.buffer.specs.Bytes.{Bytes, same}
 use Rattle.buffer.proofs.Bytes.{same-refl}
 use Rattle.sha1.specs.Sha1.{sha1Of}
-use Rattle.refusal.specs.declared.Refusal.the-variants.{OverCount, NoRoom, Clash}
+use Rattle.refusal.specs.declared.Refusal.the-variants.{OverCount}
 use Rattle.message.specs.Message.{tagOf}
 use Rattle.message.specs.Reply.{readReply}
 use Rattle.kind.specs.Kind.{lawful, zeroScore}
-use Rattle.block.specs.Block.{Row, partsOf}
+use Rattle.block.specs.Block.{Row}
 use Rattle.block.specs.Log.{used}
 use Rattle.log.specs.LookUp as look
-use Rattle.log.specs.Parts.{Lent, oneLog, roomFor, appendRow}
+use Rattle.log.specs.Parts.{Lent, oneLog}
 use Rattle.log.specs.Store as stores
-use Rattle.log.specs.declared.Stored.the-variants.{New, Duplicate, Refused}
 use Rattle.request.specs.Step as steps
 use Rattle.request.specs.declared.Session.{Session}
 use Rattle.request.specs.declared.Session.the-variants.{Greeted}
@@ -36,15 +35,8 @@ given L m buffer count o =
     (λ r. cond (ltb count (length (r .bytes))) (steps.refused OverCount (tagOf m) Greeted L buffer) (steps.granted (readReply (tagOf m) (r .bytes)) Greeted L buffer))
 
 -- what a store gives, by what is held
-abbrev pub storedAs : Lent → ℕ → Bytes → Option Row → stores.AfterStore
-storedAs L t d o =
-    on o
-    (cond (roomFor L (partsOf (length d)))
-    (stores.afterStore (stores.receipt (sha1Of d) (New (record { 0 = used (oneLog L) }))) (appendRow L (stores.newRow L t d)))
-    (stores.afterStore (stores.receipt (sha1Of d) (Refused NoRoom)) L))
-    (λ r. cond (same (r .bytes) d)
-    (stores.afterStore (stores.receipt (sha1Of d) (Duplicate (record { 0 = r .first }))) L)
-    (stores.afterStore (stores.receipt (sha1Of d) (Refused Clash)) L))
+abbrev pub storedAs : Lent → Bytes → ℕ → Bytes → Option Row → stores.AfterStore
+storedAs L date t d o = on o (stores.appended L date t d) (λ r. stores.compared L (r .bytes) (r .first) d)
 
 -- what the archive answers of a store
 abbrev pub kept : Bytes → Bytes → stores.AfterStore → steps.Outcome

@@ -1,6 +1,6 @@
 -- Any request: the archive answers it from the log's bytes as the ledger does from its rows.
 use mathlib.Core.Path.{_≡_, refl, sym, _∙_}
-use mathlib.Core.Bool.{true, false, not, true≢false}
+use mathlib.Core.Bool.{true, false, cond, not, true≢false}
 use mathlib.Core.List.{List, List·Memᴰ}
 use mathlib.Core.Option.{Option, none, some}
 use Prim.Native.Nat.{ℕ, _≤_}
@@ -10,7 +10,7 @@ use lib.ListN.{length}
 use borrow.Author.Tests.{not-true}
 use Rattle.buffer.specs.Bytes.{Bytes, same}
 use Rattle.buffer.proofs.Bytes.{same-refl}
-use Rattle.refusal.specs.declared.Refusal.the-variants.{Closed}
+use Rattle.refusal.specs.declared.Refusal.the-variants.{Closed, Date}
 use Rattle.message.specs.Message.{framed, tagOf, versionOf, scoreOf, dataOf, requestOf}
 use Rattle.message.specs.declared.Request.{Request}
 use Rattle.message.specs.declared.Request.the-variants.{Ping, Hello, Goodbye, Read, Write, Sync, Unknown, Ill}
@@ -39,14 +39,16 @@ same-test : (log : Bytes) (o : Option Bytes) → let L : Lent = record { log = l
 same-test log none = refl
 same-test log (some w) = refl
 
-module _ (L : Lent) (rows : List Row) (last start : ℕ) (M : Mirrors (oneLog L) rows last) (from : used (L .log) ≡ start) (fits : last ≤ sectors (length (L .log))) (m buffer : Bytes) where
+module _ (L : Lent) (rows : List Row) (last start : ℕ) (M : Mirrors (oneLog L) rows last) (from : used (L .log) ≡ start)
+    (fits : last ≤ sectors (length (L .log))) (m : Bytes) (date : Option Bytes) (buffer : Bytes) where
   -- what waits has room: a row was added only where it had
   sync-agrees : (log : Bytes) (o : Option Bytes) → used (oneLog (record { log = log; waiting = o })) ≤ sectors (length log) → canSettle (record { log = log; waiting = o }) ≡ true
   unfolding canSettle
   sync-agrees log none h = refl
   sync-agrees log (some w) h = can-settle log w (omega (arith, h, used-joined log w))
 
-  fresh-agrees : (r : Request) → seen (steps.fresh r (tagOf m) m L buffer) ≡ view L Fresh m buffer (decide rows last start (extentOf L) false r m)
+  fresh-agrees : (r : Request)
+      → seen (steps.fresh r (tagOf m) m L buffer) ≡ view L Fresh m buffer (decide rows last start (extentOf L) (steps.dateOf date) false r m)
   unfolding steps.fresh
   fresh-agrees Unknown = refl
   fresh-agrees Ill = refl
@@ -57,7 +59,8 @@ module _ (L : Lent) (rows : List Row) (last start : ℕ) (M : Mirrors (oneLog L)
   fresh-agrees (Read t c) = refl
   fresh-agrees (Write t) = refl
 
-  greeted-agrees : (r : Request) → seen (steps.greeted r (tagOf m) m L buffer) ≡ view L Greeted m buffer (decide rows last start (extentOf L) true r m)
+  greeted-agrees : (r : Request)
+      → seen (steps.greeted (steps.dateOf date) r (tagOf m) m L buffer) ≡ view L Greeted m buffer (decide rows last start (extentOf L) (steps.dateOf date) true r m)
   unfolding steps.greeted steps.sync
   greeted-agrees Unknown = refl
   greeted-agrees Ill = refl
@@ -65,17 +68,18 @@ module _ (L : Lent) (rows : List Row) (last start : ℕ) (M : Mirrors (oneLog L)
   greeted-agrees Hello = refl
   greeted-agrees Ping = refl
   greeted-agrees Sync = rw (sync-agrees (L .log) (L .waiting) (omega (arith, M .ends, fits)))
-  greeted-agrees (Read t c) = read-agrees L rows last start M m buffer t c (scoreOf m)
-  greeted-agrees (Write t) = write-agrees L rows last start M from m buffer t (dataOf m)
+  greeted-agrees (Read t c) = read-agrees L rows last start M (steps.dateOf date) m buffer t c (scoreOf m)
+  greeted-agrees (Write t) = write-agrees L rows last start M from (steps.dateOf date) m buffer t (dataOf m)
 
-  session-agrees : (s : Session) → seen (steps.inSession s m L buffer)
-      ≡ view L s m buffer (bySession s (silence Closed) (λ g. decide rows last start (extentOf L) g (requestOf m) m))
+  session-agrees : (s : Session) → seen (steps.inSession s m date L buffer)
+      ≡ view L s m buffer (bySession s (silence Closed) (λ g. cond (steps.dateAllowed date) (decide rows last start (extentOf L) (steps.dateOf date) g (requestOf m) m) (silence Date)))
   unfolding steps.inSession
-  session-agrees Fresh = fresh-agrees (requestOf m)
-  session-agrees Greeted = greeted-agrees (requestOf m)
+  session-agrees Fresh = alike seen (view L Fresh m buffer) (steps.dateAllowed date) (λ _. fresh-agrees (requestOf m)) (λ _. refl)
+  session-agrees Greeted = alike seen (view L Greeted m buffer) (steps.dateAllowed date) (λ _. greeted-agrees (requestOf m)) (λ _. refl)
   session-agrees Shut = refl
 
-  step-agrees : (s : Session) → seen (steps.step s m L buffer) ≡ view L s m buffer (decision rows last start (extentOf L) s (record { message = m; buffer = buffer }))
+  step-agrees : (s : Session)
+      → seen (steps.step s m date L buffer) ≡ view L s m buffer (decision rows last start (extentOf L) s (record { message = m; buffer = buffer; date = date }))
   unfolding steps.step decision
   step-agrees s =
       contrary seen (view L s m buffer) (not (framed m)) (framed m) refl
@@ -97,4 +101,4 @@ module _ (log : Lent) (L : Ledger archive) (owned : (r : Row) → List·Memᴰ r
 
   pub agrees : used (log .log) ≡ L .start → end archive L ≤ sectors (length (log .log)) → (s : Session) (q : Asked)
       → served log s q ≡ shown archive log (tell (L .rows) (L .changed) (L .start) (extentOf log) s q)
-  agrees from fits s q = step-agrees log (intact archive L) (end archive L) (L .start) mirrors from fits (q .message) (q .buffer) s
+  agrees from fits s q = step-agrees log (intact archive L) (end archive L) (L .start) mirrors from fits (q .message) (q .date) (q .buffer) s

@@ -2,7 +2,7 @@
 -- a sector can be zeroed, an append that can be torn, and a sync that can be.
 use mathlib.Core.Path.{_≡_, refl, ap, _∙_}
 use mathlib.Core.Bool.{Bool, true, false, cond}
-use mathlib.Core.List.{[], _∷_, _++_, List·Memᴰ, List·Memᴰ·head}
+use mathlib.Core.List.{List, [], _∷_, _++_, List·Memᴰ, List·Memᴰ·head}
 use mathlib.Core.Option.{Option, none, some}
 use Prim.Native.Nat.{ℕ, _≤_, _<_}
 use native.Mathlib.Omega.{arith}
@@ -18,8 +18,9 @@ use Rattle.message.specs.Message.{framed, textEnd, countedEnd, bytesEnd, exactl
 use Rattle.message.specs.Reply.{helloReply, writeReply}
 use Rattle.kind.specs.Kind.{lawful, zeroScore}
 use Rattle.block.specs.Block.{Row, partsOf}
+use Rattle.log.specs.Store.{partsFor}
 use Rattle.log.specs.LookUp.{logAllowed, waitingAllowed, lentAllowed}
-use Rattle.request.specs.Step.{replyRoom, allowed}
+use Rattle.request.specs.Step.{replyRoom, allowed, dateAllowed, dateOf}
 use Rattle.request.specs.declared.Session.{Session}
 use Rattle.request.specs.declared.Session.the-variants.{Fresh, Greeted}
 use Rattle.ledger.specs.Archive.{Effect, stays, adds, Ruling}
@@ -43,50 +44,50 @@ use Rattle.demands.proofs.Hurts.{only}
 use Rattle.demands.proofs.MayBe.{any-sector-may-be-zeroed, any-write-may-be-torn}
 use Rattle.demands.proofs.Torn.{added-is-on-its-way}
 
--- "hello 00 0b 04 00 00 02 30 32 00 00 00 00 00"; a write of 404 times `a` as a data block, tag 1
-hello : Bytes
+-- "hello 00 0b 04 00 00 02 30 32 00 00 00 00 00"; a write of 404 times `a` as a block of type t, tag 1
+pub hello : Bytes
 hello = 0x00 ∷ 0x0b ∷ 0x04 ∷ 0x00 ∷ 0x00 ∷ 0x02 ∷ 0x30 ∷ 0x32 ∷ 0x00 ∷ 0x00 ∷ 0x00 ∷ 0x00 ∷ 0x00 ∷ []
 
-letters : Bytes
+unfoldable pub letters : Bytes
 letters = replicate 404 0x61
 
-put : Bytes
-put = 0x01 ∷ 0x9a ∷ 0x0e ∷ 0x01 ∷ 0x0d ∷ 0x00 ∷ 0x00 ∷ 0x00 ∷ replicate 404 0x61
+unfoldable pub put : ℕ → Bytes
+put t = 0x01 ∷ 0x9a ∷ 0x0e ∷ 0x01 ∷ t ∷ 0x00 ∷ 0x00 ∷ 0x00 ∷ replicate 404 0x61
 
-room : Bytes
+pub room : Bytes
 room = replicate replyRoom 0
 
 enough : replyRoom ≤ length room
 unfolding room
 enough = omega (arith, length-replicate {A = ℕ} replyRoom 0)
 
-other-score : same (sha1Of letters) zeroScore ≡ false
+pub other-score : same (sha1Of letters) zeroScore ≡ false
 unfolding letters digits valueFrom wordsOf snocWord scheduleOf roundOf roundsOf addHash compressOf hashOf padOf paddedMessage digestOf sha1Of zeroScore
 other-score = refl
 
 -- the row that the write adds to an empty ledger
-abbrev stored : Row
-stored = rowOf 13 letters 0
+abbrev pub stored : Row
+stored = rowOf [] 13 letters 0
 
 long : length letters ≡ 404
 unfolding letters
 long = length-replicate {A = ℕ} 404 0x61
 
-two-parts : partsOf (length letters) ≡ 2
+pub two-parts : partsFor [] letters ≡ 2
 unfolding letters partsOf
 two-parts = refl
 
-asked-hello : Item archive
-asked-hello = record { request = record { message = hello; buffer = room }; left-by = none }
+unfoldable pub asked-hello : Item archive
+asked-hello = record { request = record { message = hello; buffer = room; date = none }; left-by = none }
 
-asked-put : Item archive
-asked-put = record { request = record { message = put; buffer = room }; left-by = some 0 }
+unfoldable pub asked-put : ℕ → Option Bytes → Item archive
+asked-put t date = record { request = record { message = put t; buffer = room; date = date }; left-by = some 0 }
 
-hello-small : small hello ≡ true
+pub hello-small : small hello ≡ true
 unfolding hello
 hello-small = refl
 
-put-small : small put ≡ true
+pub put-small : small (put 13) ≡ true
 unfolding put
 put-small = refl
 
@@ -101,37 +102,45 @@ note-rows x L r = go (archive .waits x)
     go true = refl
     go false = refl
 
--- a blank log of two sectors, with a waiting part or none, in which there is room for both
-abbrev lengths : Option ℕ → Extent
-lengths o = record { size = 1024; waiting = o }
+-- a blank log of four sectors, with a waiting part or none, in which there is room for both
+abbrev pub lengths : Option ℕ → Extent
+lengths o = record { size = 2048; waiting = o }
 
 module _ (o : Option ℕ) (ok : allowed (void (lengths o)) ≡ true) (fit : roomFrom (extentOf (void (lengths o))) 0 0 2 ≡ true) where
-  abbrev start : Books archive
+  abbrev pub start : Books archive
   start = blank-books archive (lengths o)
 
-  abbrev size : Extent
+  abbrev pub size : Extent
   size = extentOf (start .begin)
 
-  hello-decides : decision [] 0 0 size Fresh (record { message = hello; buffer = room }) ≡ reply (helloReply 0) Greeted stays
+  hello-decides : decision [] 0 0 size Fresh (record { message = hello; buffer = room; date = none }) ≡ reply (helloReply 0) Greeted stays
   unfolding hello decision framed digits valueFrom follows textEnd countedEnd bytesEnd exactly requestOf
   hello-decides = rw (le-leb replyRoom (length room) enough, same-allowed (start .begin .log) (start .begin .waiting) ok)
 
-  well-formed : Writes put room (start .begin) 13 letters
-  unfolding put letters framed digits valueFrom writeOf requestOf lawful
-  well-formed = record {
-    asks = record { frame = refl; buffer-room = enough; lent-allowed = ok; request = refl };
+  pub well-formed : (t : ℕ) (date : Option Bytes) → lawful t ≡ true → dateAllowed date ≡ true → Writes (put t) date room (start .begin) t letters
+  unfolding put letters framed digits valueFrom writeOf requestOf
+  well-formed t date l w = record {
+    asks = record { frame = refl; buffer-room = enough; lent-allowed = ok; date-allowed = w; request = refl };
     content = refl;
-    lawful-type = refl;
+    lawful-type = l;
     not-long = omega arith;
   }
 
-  put-decides : decision [] 0 0 size Greeted (record { message = put; buffer = room }) ≡ reply (writeReply (tagOf put) (sha1Of letters)) Greeted (adds stored)
-  unfolding firstRow
-  put-decides =
-      write-decision 13 letters [] 0 0 put room (start .begin) well-formed
-      ∙ rw (ne-eqb (length letters) 0 (λ z. omega (arith, z, long)), other-score, two-parts, fit)
+  -- where no row has its type and score, and there is room
+  pub put-decides : (t : ℕ) (date : Option Bytes) (rows : List Row) (e st : ℕ) → lawful t ≡ true → dateAllowed date ≡ true
+      → firstRow t (sha1Of letters) rows ≡ none → partsFor (dateOf date) letters ≡ 2 → roomFrom size st e 2 ≡ true
+      → decision rows e st size Greeted (asked-put t date .request)
+      ≡ reply (writeReply (tagOf (put t)) (sha1Of letters)) Greeted (adds (rowOf (dateOf date) t letters e))
+  unfolding asked-put
+  put-decides t date rows e st l w f k room-so =
+      write-decision t letters rows e st (put t) date room (start .begin) (well-formed t date l w)
+      ∙ rw (ne-eqb (length letters) 0 (λ z. omega (arith, z, long)), f, other-score, k, room-so)
 
-  greeted-ruling : ruling archive start asked-hello ≡ rulingOf Fresh hello room (reply (helloReply 0) Greeted stays)
+  pub thirteen : lawful 13 ≡ true
+  unfolding lawful
+  thirteen = refl
+
+  pub greeted-ruling : ruling archive start asked-hello ≡ rulingOf Fresh hello room (reply (helloReply 0) Greeted stays)
   unfolding asked-hello
   greeted-ruling = ap (rulingOf Fresh hello room) hello-decides
 
@@ -140,21 +149,21 @@ module _ (o : Option ℕ) (ok : allowed (void (lengths o)) ≡ true) (fit : room
   unfolding asked-hello
   one = record { size = lengths o; events = ask asked-hello ∷ []; possible = (hello-small, tt) }
 
-  two : Past
+  unfoldable pub two : Past
   unfolding asked-hello asked-put
-  two = record { size = lengths o; events = ask asked-hello ∷ ask asked-put ∷ []; possible = (hello-small, (put-small, tt)) }
+  two = record { size = lengths o; events = ask asked-hello ∷ ask (asked-put 13 none) ∷ []; possible = (hello-small, (put-small, tt)) }
 
-  put-effect : ruling archive (books-then archive one) asked-put .effect ≡ adds stored
-  unfolding one asked-put
+  put-effect : ruling archive (books-then archive one) (asked-put 13 none) .effect ≡ adds stored
+  unfolding one asked-put firstRow
   put-effect =
-      ap (λ (u : Ruling Answer Session Row). ruling archive (after u) asked-put .effect) greeted-ruling
-      ∙ ap (λ (d : Decision). rulingOf Greeted put room d .effect) put-decides
+      ap (λ (u : Ruling Answer Session Row). ruling archive (after u) (asked-put 13 none) .effect) greeted-ruling
+      ∙ ap (λ (d : Decision). rulingOf Greeted (put 13) room d .effect) (put-decides 13 none [] 0 0 thirteen refl refl two-parts fit)
     where
       after : Ruling Answer Session Row → Books archive
       after u = record { begin = start .begin; done = plus archive [] u; ledger = next archive size (empty archive) u; past = u .session ∷ [] }
 
   -- a property of the ledger after the write is one of the row added to an empty ledger
-  ledger-two : ledgerThen two ≡ note archive size (adds stored) (empty archive)
+  pub ledger-two : ledgerThen two ≡ note archive size (adds stored) (empty archive)
   unfolding one two
   ledger-two =
       ap (λ (a : Effect Row). note archive size a (ledgerThen one)) put-effect
@@ -168,11 +177,11 @@ module _ (o : Option ℕ) (ok : allowed (void (lengths o)) ≡ true) (fit : room
   size-two = stands two .size ∙ extent-void (lengths o)
 
 -- without a waiting part, and with one of two sectors
-alone-allowed : allowed (void (lengths none)) ≡ true
+pub alone-allowed : allowed (void (lengths none)) ≡ true
 unfolding logAllowed
 alone-allowed = refl
 
-alone-fit : roomFrom (extentOf (void (lengths none))) 0 0 2 ≡ true
+pub alone-fit : roomFrom (extentOf (void (lengths none))) 0 0 2 ≡ true
 unfolding roomFrom
 alone-fit = refl
 
@@ -202,10 +211,10 @@ unfolding asked-put
 torn-can-be =
     let h = one none alone-allowed alone-fit in
     let e = put-effect none alone-allowed alone-fit in
-    let way = added-is-on-its-way h asked-put stored put-small e in
-    let t = any-write-may-be-torn h (some asked-put) (1 ∷ []) (0 ∷ []) none put-small
+    let way = added-is-on-its-way h (asked-put 13 none) stored put-small e in
+    let t = any-write-may-be-torn h (some (asked-put 13 none)) (1 ∷ []) (0 ∷ []) none put-small
     (λ n i. (stored, way, covered n (omega (arith, only 1 n i)))) (λ n i. (stored, way, covered n (omega (arith, only 0 n i)))) apart in
-    (h, asked-put, stored, t .0, e, two-parts, t .1)
+    (h, asked-put 13 none, stored, t .0, e, two-parts, t .1)
 
 pub torn-sync-can-be : claims.TornSyncCanBe
 torn-sync-can-be =

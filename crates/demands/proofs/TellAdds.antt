@@ -1,7 +1,7 @@
 -- A row that the ledger adds can be written, stands at the end, has room, is not of the zero score, and is what a write asked for.
 use mathlib.Core.Path.{_≡_, refl, ap, _∙_, sym, subst}
 use mathlib.Core.Bool.{Bool, true, false, cond, not, false≢true}
-use mathlib.Core.List.{List}
+use mathlib.Core.List.{List, [], _∷_}
 use mathlib.Core.Option.{Option, none, some}
 use Prim.Native.Nat.{ℕ, _+_, _%_, _/_, _≤_}
 use native.Mathlib.Omega.{arith}
@@ -19,12 +19,14 @@ use Rattle.message.specs.Message.{framed, tagOf, versionOf, scoreOf, dataOf, re
 use Rattle.message.specs.declared.Request.{Request}
 use Rattle.message.specs.declared.Request.the-variants.{Ping, Hello, Goodbye, Read, Write, Sync, Unknown, Ill}
 use Rattle.kind.specs.Kind.{lawful, longest, zeroScore}
-use Rattle.block.specs.Block.{Row, parts, partsOf, valid}
+use Rattle.sector.specs.Sector.{isDateOrNone}
+use Rattle.block.specs.Block.{Row, parts, valid}
 use Rattle.block.specs.Log.{sectors}
 use Rattle.block.proofs.Facts.{facts-valid}
 use Rattle.log.specs.LookUp.{logAllowed, waitingAllowed, lentAllowed, mostSectors}
+use Rattle.log.specs.Store.{partsFor}
 use Rattle.request.specs.Step as steps
-use Rattle.request.specs.Step.{replyRoom, version}
+use Rattle.request.specs.Step.{replyRoom, version, dateAllowed, dateOf}
 use Rattle.request.specs.declared.Session.{Session}
 use Rattle.request.specs.declared.Session.the-variants.{Fresh, Greeted, Closed as Shut}
 use Rattle.ledger.specs.Archive.{Effect, stays, adds, settles}
@@ -55,30 +57,39 @@ unfolding lentAllowed
 log-allowed-of log none q = q
 log-allowed-of log (some w) q = and-true (logAllowed (length log)) (waitingAllowed (length w)) q .0
 
--- the row that a write of type t and data d makes, where the end is e
-abbrev pub rowOf : ℕ → Bytes → ℕ → Row
-rowOf t d e = record { kind = t; score = sha1Of d; bytes = d; first = e }
+-- the row that a write with a date, of type t and data d makes, where the end is e
+abbrev pub rowOf : Bytes → ℕ → Bytes → ℕ → Row
+rowOf date t d e = record { kind = t; score = sha1Of d; bytes = d; first = e; date = date }
+
+-- a date that passes test 24 is one of eight digits, or none
+pub date-or-none : (date : Option Bytes) → dateAllowed date ≡ true → isDateOrNone (dateOf date) ≡ true
+date-or-none none a = refl
+date-or-none (some []) a = refl
+date-or-none (some (b ∷ d)) a = a
 
 -- it can be written in a log of m bytes that has room
-pub row-valid : (t : ℕ) (d : Bytes) (e m : ℕ) → logAllowed m ≡ true → lawful t ≡ true → length d ≤ longest → (length d ≡ 0 → ⊥) → small d ≡ true → e + partsOf (length d) ≤ sectors m
-    → valid (rowOf t d e) ≡ true
-row-valid t d e m a l le n sm room = facts-valid (rowOf t d e) (record {
+pub row-valid : (date : Bytes) (t : ℕ) (d : Bytes) (e m : ℕ) → isDateOrNone date ≡ true → logAllowed m ≡ true → lawful t ≡ true
+    → length d ≤ longest → (length d ≡ 0 → ⊥) → small d ≡ true → e + partsFor date d ≤ sectors m
+    → valid (rowOf date t d e) ≡ true
+row-valid date t d e m w a l le n sm room = facts-valid (rowOf date t d e) (record {
   lawful-kind = l;
   some-bytes = omega arith;
   not-many = le;
   of-bytes = sm;
   scored = refl;
   place = omega (arith, log-allowed m a);
+  dated = w;
 })
 
 -- what holds of a row that is added: rows are the intact ones, e is the end, the rows wait from st on, x is what is lent, q and m the request
-pub record Fits (rows : List Row) (e st : ℕ) (x : Extent) (q : Request) (m : Bytes) (r : Row) : Type 0 where
+pub record Fits (rows : List Row) (e st : ℕ) (x : Extent) (date : Bytes) (q : Request) (m : Bytes) (r : Row) : Type 0 where
   pub ok : valid r ≡ true
   pub here : r .first ≡ e
   pub room : roomFrom x st (r .first) (parts r) ≡ true
   pub owned : not (same (r .score) zeroScore) ≡ true
   pub asked : q ≡ Write (r .kind)
   pub scored : r .score ≡ sha1Of (dataOf m)
+  pub dated : r .date ≡ date
   pub alone : firstRow (r .kind) (r .score) rows ≡ none
 
 -- what a decision does
@@ -101,82 +112,91 @@ outcome-added s m buffer (reply b s′ a) = refl
 outcome-added s m buffer close = refl
 
 -- if a decision adds a row, it fits
-record Good (rows : List Row) (e st : ℕ) (x : Extent) (q : Request) (m : Bytes) (d : Decision) : Type 0 where
-  fits : (r : Row) → added d ≡ adds r → Fits rows e st x q m r
+record Good (rows : List Row) (e st : ℕ) (x : Extent) (date : Bytes) (q : Request) (m : Bytes) (d : Decision) : Type 0 where
+  fits : (r : Row) → added d ≡ adds r → Fits rows e st x date q m r
 
-module _ {rows : List Row} {e st : ℕ} {x : Extent} {q : Request} {m : Bytes} where
-  nothing : {d : Decision} → Quiet (added d) → Good rows e st x q m d
+module _ {rows : List Row} {e st : ℕ} {x : Extent} {date : Bytes} {q : Request} {m : Bytes} where
+  nothing : {d : Decision} → Quiet (added d) → Good rows e st x date q m d
   nothing n = record { fits = λ r g. absurd (subst Quiet g n) }
 
-  by-test : (b : Bool) {c d : Decision} → (b ≡ true → Good rows e st x q m c) → (b ≡ false → Good rows e st x q m d) → Good rows e st x q m (cond b c d)
+  by-test : (b : Bool) {c d : Decision} → (b ≡ true → Good rows e st x date q m c)
+      → (b ≡ false → Good rows e st x date q m d) → Good rows e st x date q m (cond b c d)
   by-test true f g = f refl
   by-test false f g = g refl
 
-module _ (rows : List Row) (e st : ℕ) (x : Extent) where
-  write-good : (t : ℕ) (m : Bytes) → allowed x ≡ true → lawful t ≡ true → leb (length (dataOf m)) longest ≡ true → small (dataOf m) ≡ true
-      → Good rows e st x (Write t) m (writeRow rows e st x t (dataOf m) (tagOf m))
-  write-good t m a l le sm =
+module _ (rows : List Row) (e st : ℕ) (x : Extent) (date : Bytes) where
+  write-good : (t : ℕ) (m : Bytes) → isDateOrNone date ≡ true → allowed x ≡ true → lawful t ≡ true → leb (length (dataOf m)) longest ≡ true → small (dataOf m) ≡ true
+      → Good rows e st x date (Write t) m (writeRow rows e st x date t (dataOf m) (tagOf m))
+  write-good t m w a l le sm =
       by-test (eqb (length (dataOf m)) 0) (λ _. nothing tt) (λ n.
-      on-ind (λ d. Good rows e st x (Write t) m d) (firstRow t (sha1Of (dataOf m)) rows) _ _
+      on-ind (λ d. Good rows e st x date (Write t) m d) (firstRow t (sha1Of (dataOf m)) rows) _ _
       (λ f. by-test (same (sha1Of (dataOf m)) zeroScore) (λ _. nothing tt) (λ z.
-      by-test (roomFrom x st e (partsOf (length (dataOf m))))
-      (λ room. record { fits = λ r q. let eq : rowOf t (dataOf m) e ≡ r = cc in rw (← eq) (new f n z room) })
+      by-test (roomFrom x st e (partsFor date (dataOf m)))
+      (λ room. record { fits = λ r q. let eq : rowOf date t (dataOf m) e ≡ r = cc in rw (← eq) (new f n z room) })
       (λ _. nothing tt)))
       (λ r _. by-test (same (r .bytes) (dataOf m)) (λ _. nothing tt) (λ _. nothing tt)))
     where
-      new : firstRow t (sha1Of (dataOf m)) rows ≡ none → eqb (length (dataOf m)) 0 ≡ false → same (sha1Of (dataOf m)) zeroScore ≡ false → roomFrom x st e (partsOf (length (dataOf m))) ≡ true → Fits rows e st x (Write t) m (rowOf t (dataOf m) e)
+      new : firstRow t (sha1Of (dataOf m)) rows ≡ none → eqb (length (dataOf m)) 0 ≡ false → same (sha1Of (dataOf m)) zeroScore ≡ false
+          → roomFrom x st e (partsFor date (dataOf m)) ≡ true → Fits rows e st x date (Write t) m (rowOf date t (dataOf m) e)
       new f n z room = record {
-        ok = row-valid t (dataOf m) e (x .size) (allowed-log x a) l (leb-true (length (dataOf m)) longest le) (eqb-false (length (dataOf m)) 0 n) sm
-            (room-inside x st e (partsOf (length (dataOf m))) room);
+        ok = row-valid date t (dataOf m) e (x .size) w (allowed-log x a) l (leb-true (length (dataOf m)) longest le) (eqb-false (length (dataOf m)) 0 n) sm
+            (room-inside x st e (partsFor date (dataOf m)) room);
         here = refl;
         room = room;
         owned = ap not z;
         asked = refl;
         scored = refl;
+        dated = refl;
         alone = f;
       }
 
-  read-good : (q : Request) (m : Bytes) (t count : ℕ) (s : Bytes) (tag : ℕ) → Good rows e st x q m (readRow rows e st x t count s tag)
+  read-good : (q : Request) (m : Bytes) (t count : ℕ) (s : Bytes) (tag : ℕ) → Good rows e st x date q m (readRow rows e st x date t count s tag)
   read-good q m t count s tag =
       by-test (same s zeroScore) (λ _. nothing tt) (λ _.
-      on-ind (λ d. Good rows e st x q m d) (firstRow t s rows) _ _
+      on-ind (λ d. Good rows e st x date q m d) (firstRow t s rows) _ _
       (λ _. nothing tt)
       (λ r _. by-test (leb (length (r .bytes)) count) (λ _. nothing tt) (λ _. nothing tt)))
 
-  decide-good : (g : Bool) (q : Request) (m : Bytes) → allowed x ≡ true → small m ≡ true → Good rows e st x q m (decide rows e st x g q m)
-  decide-good g Unknown m a sm = nothing tt
-  decide-good g Ill m a sm = nothing tt
-  decide-good g Goodbye m a sm = nothing tt
-  decide-good false Hello m a sm = by-test (same (versionOf m) version) (λ _. nothing tt) (λ _. nothing tt)
-  decide-good false Ping m a sm = nothing tt
-  decide-good false Sync m a sm = nothing tt
-  decide-good false (Read t c) m a sm = nothing tt
-  decide-good false (Write t) m a sm = nothing tt
-  decide-good true Hello m a sm = nothing tt
-  decide-good true Ping m a sm = nothing tt
-  decide-good true Sync m a sm = nothing tt
-  decide-good true (Read t c) m a sm = by-test (lawful t) (λ _. read-good (Read t c) m t c (scoreOf m) (tagOf m)) (λ _. nothing tt)
-  decide-good true (Write t) m a sm =
+  decide-good : (g : Bool) (q : Request) (m : Bytes) → isDateOrNone date ≡ true → allowed x ≡ true
+      → small m ≡ true → Good rows e st x date q m (decide rows e st x date g q m)
+  decide-good g Unknown m w a sm = nothing tt
+  decide-good g Ill m w a sm = nothing tt
+  decide-good g Goodbye m w a sm = nothing tt
+  decide-good false Hello m w a sm = by-test (same (versionOf m) version) (λ _. nothing tt) (λ _. nothing tt)
+  decide-good false Ping m w a sm = nothing tt
+  decide-good false Sync m w a sm = nothing tt
+  decide-good false (Read t c) m w a sm = nothing tt
+  decide-good false (Write t) m w a sm = nothing tt
+  decide-good true Hello m w a sm = nothing tt
+  decide-good true Ping m w a sm = nothing tt
+  decide-good true Sync m w a sm = nothing tt
+  decide-good true (Read t c) m w a sm = by-test (lawful t) (λ _. read-good (Read t c) m t c (scoreOf m) (tagOf m)) (λ _. nothing tt)
+  decide-good true (Write t) m w a sm =
       by-test (lawful t) (λ l.
-      by-test (leb (length (dataOf m)) longest) (λ le. write-good t m a l le (small-drop 8 m sm)) (λ _. nothing tt))
+      by-test (leb (length (dataOf m)) longest) (λ le. write-good t m w a l le (small-drop 8 m sm)) (λ _. nothing tt))
       (λ _. nothing tt)
 
-  by-session : {q : Request} {m : Bytes} (s : Session) {f : Bool → Decision} → ((g : Bool) → Good rows e st x q m (f g)) → Good rows e st x q m (bySession s (silence Closed) f)
+  by-session : {q : Request} {m : Bytes} (s : Session) {f : Bool → Decision} → ((g : Bool) → Good rows e st x date q m (f g))
+      → Good rows e st x date q m (bySession s (silence Closed) f)
   by-session Fresh h = h false
   by-session Greeted h = h true
   by-session Shut h = nothing tt
 
-  decision-good : (s : Session) (q : Asked) → small (q .message) ≡ true → Good rows e st x (requestOf (q .message)) (q .message) (decision rows e st x s q)
-  unfolding decision
-  decision-good s q sm =
-      by-test (framed (q .message)) (λ _.
-      by-test (leb replyRoom (length (q .buffer))) (λ _.
-      by-test (allowed x) (λ a.
-      by-session s (λ g. decide-good g (requestOf (q .message)) (q .message) a sm))
-      (λ _. nothing tt)) (λ _. nothing tt)) (λ _. nothing tt)
+decision-good : (rows : List Row) (e st : ℕ) (x : Extent) (s : Session) (q : Asked) → small (q .message) ≡ true
+    → Good rows e st x (dateOf (q .date)) (requestOf (q .message)) (q .message) (decision rows e st x s q)
+unfolding decision
+decision-good rows e st x s q sm =
+    by-test (framed (q .message)) (λ _.
+    by-test (leb replyRoom (length (q .buffer))) (λ _.
+    by-test (allowed x) (λ a.
+    by-session rows e st x (dateOf (q .date)) s (λ g.
+    by-test (dateAllowed (q .date)) (λ w.
+    decide-good rows e st x (dateOf (q .date)) g (requestOf (q .message)) (q .message) (date-or-none (q .date) w) a sm)
+    (λ _. nothing tt)))
+    (λ _. nothing tt)) (λ _. nothing tt)) (λ _. nothing tt)
 
 pub tell-fits : (L : Ledger archive) (x : Extent) (s : Session) (q : Asked) (r : Row) → small (q .message) ≡ true → (tell (L .rows) (L .changed) (L .start) x s q) .effect ≡ adds r
-    → Fits (intact archive L) (end archive L) (L .start) x (requestOf (q .message)) (q .message) r
+    → Fits (intact archive L) (end archive L) (L .start) x (dateOf (q .date)) (requestOf (q .message)) (q .message) r
 tell-fits L x s q r sm g =
     let d = decision (intact archive L) (end archive L) (L .start) x s q in
     decision-good (intact archive L) (end archive L) (L .start) x s q sm .fits r (sym (outcome-added s (q .message) (q .buffer) d) ∙ g)

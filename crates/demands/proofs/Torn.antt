@@ -148,9 +148,9 @@ waiting-is-only h r m late =
     )
 
 pub torn-not-known : claims.TornNotKnown
-torn-not-known h q arrived torn lend hurt r count m buffer ok way out u Q =
+torn-not-known h q arrived torn lend hurt r count m date buffer ok way out u Q =
     let L = tornLedger h q arrived torn in
     let R = reflects-after h q arrived torn lend hurt ok in
-    read-unknown hurt L R (r .kind) count (r .score) m buffer (not-zero h q arrived torn lend hurt ok r way) Q
+    read-unknown hurt L R (r .kind) count (r .score) m date buffer (not-zero h q arrived torn lend hurt ok r way) Q
     (first-none (r .kind) (r .score) (intact archive L) (λ x i k s. torn-is-gone archive lawful nameOf adds-new-names h q arrived torn lend hurt ok r way out x i (λ j. (k j, s j))))
     (uncovered-at (intact archive L) (end archive L) (r .first) (omega (arith, u, used-end archive lawful hurt L R)) (bare h q arrived torn lend hurt ok r way out u))

@@ -13,7 +13,7 @@ use Rattle.message.specs.Message.{framed, tagOf, versionOf, scoreOf, dataOf, re
 use Rattle.message.specs.declared.Request.{Request}
 use Rattle.message.specs.declared.Request.the-variants.{Ping, Hello, Goodbye, Read, Write, Sync, Unknown, Ill}
 use Rattle.kind.specs.Kind.{lawful, longest}
-use Rattle.block.specs.Block.{Row, partsOf}
+use Rattle.block.specs.Block.{Row}
 use Rattle.log.specs.LookUp as look
 use Rattle.log.specs.Parts.{Lent, oneLog, roomFor, canSettle}
 use Rattle.log.specs.Store as stores
@@ -22,7 +22,7 @@ use Rattle.request.specs.declared.Session.{Session}
 use Rattle.request.specs.declared.Session.the-variants.{Fresh, Greeted, Closed as Shut}
 use Rattle.demands.proofs.Seen.{storedAs, kept}
 
-module _ (log : Lent) (m buffer : Bytes) where
+module _ (log : Lent) (m : Bytes) (date : Option Bytes) (buffer : Bytes) where
   -- 12 is the refusal of a block that is not found
   abbrev Told : Session → steps.Outcome → Type 0
   Told s o = o .number ≡ 12 → o ≡ steps.refused (look.absence (oneLog log)) (tagOf m) s log buffer
@@ -34,11 +34,11 @@ module _ (log : Lent) (m buffer : Bytes) where
       on-ind (Told Greeted) (look.held (oneLog log) t (scoreOf m)) _ _ (λ _ e. refl)
       (λ r _. cond-ind (Told Greeted) (ltb count (length (r .bytes))) _ _ (λ _ e. absurd (omega arith)) (λ _ e. absurd (omega arith))))
 
-  held-told : (t : ℕ) (d : Bytes) (o : Option Row) → Told Greeted (kept m buffer (storedAs log t d o))
-  held-told t d none = cond-ind (λ a. Told Greeted (kept m buffer a)) (roomFor log (partsOf (length d))) _ _ (λ _ e. absurd (omega arith)) (λ _ e. absurd (omega arith))
+  held-told : (t : ℕ) (d : Bytes) (o : Option Row) → Told Greeted (kept m buffer (storedAs log (steps.dateOf date) t d o))
+  held-told t d none = cond-ind (λ a. Told Greeted (kept m buffer a)) (roomFor log (stores.partsFor (steps.dateOf date) d)) _ _ (λ _ e. absurd (omega arith)) (λ _ e. absurd (omega arith))
   held-told t d (some r) = cond-ind (λ a. Told Greeted (kept m buffer a)) (same (r .bytes) d) _ _ (λ _ e. absurd (omega arith)) (λ _ e. absurd (omega arith))
 
-  write-told : (t : ℕ) → Told Greeted (steps.write t (tagOf m) (dataOf m) log buffer)
+  write-told : (t : ℕ) → Told Greeted (steps.write (steps.dateOf date) t (tagOf m) (dataOf m) log buffer)
   unfolding steps.write stores.store
   write-told t =
       cond-ind (Told Greeted) (not (lawful t)) _ _ (λ _ e. absurd (omega arith)) (λ _.
@@ -60,7 +60,7 @@ module _ (log : Lent) (m buffer : Bytes) where
   fresh-told (Read t c) e = absurd (omega arith)
   fresh-told (Write t) e = absurd (omega arith)
 
-  greeted-told : (q : Request) → Told Greeted (steps.greeted q (tagOf m) m log buffer)
+  greeted-told : (q : Request) → Told Greeted (steps.greeted (steps.dateOf date) q (tagOf m) m log buffer)
   unfolding steps.greeted
   greeted-told Unknown e = absurd (omega arith)
   greeted-told Ill e = absurd (omega arith)
@@ -71,13 +71,13 @@ module _ (log : Lent) (m buffer : Bytes) where
   greeted-told (Read t c) e = read-told t c e
   greeted-told (Write t) e = write-told t e
 
-  session-told : (s : Session) → Told s (steps.inSession s m log buffer)
+  session-told : (s : Session) → Told s (steps.inSession s m date log buffer)
   unfolding steps.inSession
-  session-told Shut e = absurd (omega arith)
-  session-told Fresh e = fresh-told (requestOf m) e
-  session-told Greeted e = greeted-told (requestOf m) e
+  session-told Shut = λ e. absurd (omega arith)
+  session-told Fresh = cond-ind (Told Fresh) (steps.dateAllowed date) _ _ (λ _. fresh-told (requestOf m)) (λ _ e. absurd (omega arith))
+  session-told Greeted = cond-ind (Told Greeted) (steps.dateAllowed date) _ _ (λ _. greeted-told (requestOf m)) (λ _ e. absurd (omega arith))
 
-  pub step-told : (s : Session) → Told s (steps.step s m log buffer)
+  pub step-told : (s : Session) → Told s (steps.step s m date log buffer)
   unfolding steps.step
   step-told s =
       cond-ind (Told s) (not (framed m)) _ _ (λ _ e. absurd (omega arith)) (λ _.

@@ -1,5 +1,7 @@
 -- Demands 2 and 3 of our archive: the claims of ledger/specs/History.antt, over the archive of Instance.antt. There a log is any bytes, blank is
 -- all zeros, "of any length" is in bytes, whole sectors or not, over the limit or not; an answer is the number and the reply buffer to its last byte.
+-- Each request of a list has its own date, or none, in any order. So "a history of demand 2 may write the first edition, undated, up to some request and this
+-- one from there on": that is among the lists, and "demand 3 covers logs with both editions".
 use Rattle.ledger.specs.History.{Demand2, Demand3}
 use Rattle.demands.specs.Instance.{archive}
 

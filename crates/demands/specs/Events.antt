@@ -84,33 +84,36 @@ pub record Unchanged (h : Past) (t : ℕ) (s : Bytes) (r : Row) : Type 0 where
 
 -- "a block with a wholly unchanged copy is answered (the first such copy, should two of one score and type differ)"
 abbrev pub UnchangedIsAnswered : Type 0
-UnchangedIsAnswered = (h : Past) (t count : ℕ) (s m buffer : Bytes) (x : Row) → s ≢ zeroScore → Unchanged h t s x → Reads m buffer (logThen h) t count s
+UnchangedIsAnswered = (h : Past) (t count : ℕ) (s m : Bytes) (date : Option Bytes) (buffer : Bytes) (x : Row)
+    → s ≢ zeroScore → Unchanged h t s x → Reads m date buffer (logThen h) t count s
     → (r : Row) × Unchanged h t s r × ((y : Row) → Unchanged h t s y → r .first ≤ y .first)
-    × (length (r .bytes) ≤ count → step Greeted m (logThen h) buffer ≡ granted (readReply (tagOf m) (r .bytes)) Greeted (logThen h) buffer)
-    × (count < length (r .bytes) → step Greeted m (logThen h) buffer ≡ refused OverCount (tagOf m) Greeted (logThen h) buffer)
+    × (length (r .bytes) ≤ count → step Greeted m date (logThen h) buffer ≡ granted (readReply (tagOf m) (r .bytes)) Greeted (logThen h) buffer)
+    × (count < length (r .bytes) → step Greeted m date (logThen h) buffer ≡ refused OverCount (tagOf m) Greeted (logThen h) buffer)
 
 -- so does a write meet it: the same bytes are a duplicate, which adds nothing, and others are 15
 abbrev pub UnchangedIsMet : Type 0
-UnchangedIsMet = (h : Past) (t : ℕ) (d m buffer : Bytes) (x : Row) → sha1Of d ≢ zeroScore → Unchanged h t (sha1Of d) x → Writes m buffer (logThen h) t d
+UnchangedIsMet = (h : Past) (t : ℕ) (d m : Bytes) (date : Option Bytes) (buffer : Bytes) (x : Row)
+    → sha1Of d ≢ zeroScore → Unchanged h t (sha1Of d) x → Writes m date buffer (logThen h) t d
     → (r : Row) × Unchanged h t (sha1Of d) r × ((y : Row) → Unchanged h t (sha1Of d) y → r .first ≤ y .first)
-    × (r .bytes ≡ d → step Greeted m (logThen h) buffer ≡ granted (writeReply (tagOf m) (sha1Of d)) Greeted (logThen h) buffer)
-    × (r .bytes ≢ d → step Greeted m (logThen h) buffer ≡ refused Clash (tagOf m) Greeted (logThen h) buffer)
+    × (r .bytes ≡ d → step Greeted m date (logThen h) buffer ≡ granted (writeReply (tagOf m) (sha1Of d)) Greeted (logThen h) buffer)
+    × (r .bytes ≢ d → step Greeted m date (logThen h) buffer ≡ refused Clash (tagOf m) Greeted (logThen h) buffer)
 
 -- "and all others but the empty block are "not known" while any sector is changed"
 abbrev pub OthersNotKnown : Type 0
-OthersNotKnown = (h : Past) (t count : ℕ) (s m buffer : Bytes) (k : ℕ) → s ≢ zeroScore → has k (ledgerThen h .changed) ≡ true
-    → ((r : Row) → Unchanged h t s r → ⊥) → Reads m buffer (logThen h) t count s
-    → step Greeted m (logThen h) buffer ≡ refused (notKnownThen h) (tagOf m) Greeted (logThen h) buffer
+OthersNotKnown = (h : Past) (t count : ℕ) (s m : Bytes) (date : Option Bytes) (buffer : Bytes) (k : ℕ) → s ≢ zeroScore → has k (ledgerThen h .changed) ≡ true
+    → ((r : Row) → Unchanged h t s r → ⊥) → Reads m date buffer (logThen h) t count s
+    → step Greeted m date (logThen h) buffer ≡ refused (notKnownThen h) (tagOf m) Greeted (logThen h) buffer
 
 -- where no sector is changed but a blank one stays between rows, as when a sector was damaged, written behind and healed, it is "not known" too
 abbrev pub GapNotKnown : Type 0
-GapNotKnown = (h : Past) (t count : ℕ) (s m buffer : Bytes) (k : ℕ) → s ≢ zeroScore → has k (ledgerThen h .changed) ≡ false
-    → k < end archive (ledgerThen h) → coveredBy (ledgerThen h .rows) k ≡ false → ((r : Row) → Unchanged h t s r → ⊥) → Reads m buffer (logThen h) t count s
-    → (zeros (at (oneLog (logThen h)) k) ≡ true) × (step Greeted m (logThen h) buffer ≡ refused (notKnownThen h) (tagOf m) Greeted (logThen h) buffer)
+GapNotKnown = (h : Past) (t count : ℕ) (s m : Bytes) (date : Option Bytes) (buffer : Bytes) (k : ℕ) → s ≢ zeroScore → has k (ledgerThen h .changed) ≡ false
+    → k < end archive (ledgerThen h) → coveredBy (ledgerThen h .rows) k ≡ false → ((r : Row) → Unchanged h t s r → ⊥) → Reads m date buffer (logThen h) t count s
+    → (zeros (at (oneLog (logThen h)) k) ≡ true) × (step Greeted m date (logThen h) buffer ≡ refused (notKnownThen h) (tagOf m) Greeted (logThen h) buffer)
 
 -- "A doubtful sector is never written over": in any log, by any request
 abbrev pub NeverWrittenOver : Type 0
-NeverWrittenOver = (s : Session) (m : Bytes) (L : Lent) (buffer : Bytes) (k : ℕ) → small m ≡ true → Doubtful archive L k → at (oneLog (step s m L buffer .lent)) k ≡ at (oneLog L) k
+NeverWrittenOver = (s : Session) (m : Bytes) (date : Option Bytes) (L : Lent) (buffer : Bytes) (k : ℕ)
+    → small m ≡ true → Doubtful archive L k → at (oneLog (step s m date L buffer .lent)) k ≡ at (oneLog L) k
 
 -- a healed sector's rows are intact again: whatever was changed before, the rows of which damage told anew leaves every sector are sound blocks
 abbrev pub HealedIsIntact : Type 0
@@ -119,29 +122,33 @@ HealedIsIntact = (h : Past) (cs : List ℕ) (hurt : Lent) (r : Row) → Possible
 
 -- what is read is what a row holds none of whose sectors is changed
 abbrev pub AnswersAreUnchanged : Type 0
-AnswersAreUnchanged = (h : Past) (t count : ℕ) (s m buffer : Bytes) → Reads m buffer (logThen h) t count s → s ≢ zeroScore → step Greeted m (logThen h) buffer .number ≡ 0
-    → (r : Row) × Unchanged h t s r × (step Greeted m (logThen h) buffer ≡ granted (readReply (tagOf m) (r .bytes)) Greeted (logThen h) buffer)
+AnswersAreUnchanged = (h : Past) (t count : ℕ) (s m : Bytes) (date : Option Bytes) (buffer : Bytes)
+    → Reads m date buffer (logThen h) t count s → s ≢ zeroScore → step Greeted m date (logThen h) buffer .number ≡ 0
+    → (r : Row) × Unchanged h t s r × (step Greeted m date (logThen h) buffer ≡ granted (readReply (tagOf m) (r .bytes)) Greeted (logThen h) buffer)
 
 -- what a write is answered for reads back after any further requests, and is not stored again: "as if nothing had happened"
 abbrev pub StoredThenReadsBack : Type 0
-StoredThenReadsBack = (h : Past) (t : ℕ) (d m buffer : Bytes) → small m ≡ true → Writes m buffer (logThen h) t d → step Greeted m (logThen h) buffer .number ≡ 0
-    → (past : List Session) (qs : List (Item archive)) → AllOfBytes archive qs → let log = afterwards (step Greeted m (logThen h) buffer .lent) past qs in
-    (count : ℕ) (m′ buffer′ : Bytes) → length d ≤ count → Reads m′ buffer′ log t count (sha1Of d)
-    → step Greeted m′ log buffer′ ≡ granted (readReply (tagOf m′) d) Greeted log buffer′
+StoredThenReadsBack = (h : Past) (t : ℕ) (d m : Bytes) (date : Option Bytes) (buffer : Bytes)
+    → small m ≡ true → Writes m date buffer (logThen h) t d → step Greeted m date (logThen h) buffer .number ≡ 0
+    → (past : List Session) (qs : List (Item archive)) → AllOfBytes archive qs → let log = afterwards (step Greeted m date (logThen h) buffer .lent) past qs in
+    (count : ℕ) (m′ : Bytes) (date′ : Option Bytes) (buffer′ : Bytes) → length d ≤ count → Reads m′ date′ buffer′ log t count (sha1Of d)
+    → step Greeted m′ date′ log buffer′ ≡ granted (readReply (tagOf m′) d) Greeted log buffer′
 
 abbrev pub DuplicateThenAddsNothing : Type 0
-DuplicateThenAddsNothing = (h : Past) (t : ℕ) (d m buffer : Bytes) → small m ≡ true → Writes m buffer (logThen h) t d → step Greeted m (logThen h) buffer .number ≡ 0
-    → (past : List Session) (qs : List (Item archive)) → AllOfBytes archive qs → let log = afterwards (step Greeted m (logThen h) buffer .lent) past qs in
-    (m′ buffer′ : Bytes) → Writes m′ buffer′ log t d → step Greeted m′ log buffer′ ≡ granted (writeReply (tagOf m′) (sha1Of d)) Greeted log buffer′
+DuplicateThenAddsNothing = (h : Past) (t : ℕ) (d m : Bytes) (date : Option Bytes) (buffer : Bytes)
+    → small m ≡ true → Writes m date buffer (logThen h) t d → step Greeted m date (logThen h) buffer .number ≡ 0
+    → (past : List Session) (qs : List (Item archive)) → AllOfBytes archive qs → let log = afterwards (step Greeted m date (logThen h) buffer .lent) past qs in
+    (m′ : Bytes) (date′ : Option Bytes) (buffer′ : Bytes) → Writes m′ date′ buffer′ log t d
+    → step Greeted m′ date′ log buffer′ ≡ granted (writeReply (tagOf m′) (sha1Of d)) Greeted log buffer′
 
 -- 12 is answered only while a sector is uncovered, and tells the first of them; 11 only while none is
 abbrev pub TwelveThenTells : Type 0
-TwelveThenTells = (h : Past) (s : Session) (m buffer : Bytes) → step s m (logThen h) buffer .number ≡ 12
+TwelveThenTells = (h : Past) (s : Session) (m : Bytes) (date : Option Bytes) (buffer : Bytes) → step s m date (logThen h) buffer .number ≡ 12
     → (anyUncovered (intact archive (ledgerThen h)) (end archive (ledgerThen h)) ≡ true)
-    × (step s m (logThen h) buffer ≡ refused (notKnownThen h) (tagOf m) s (logThen h) buffer)
+    × (step s m date (logThen h) buffer ≡ refused (notKnownThen h) (tagOf m) s (logThen h) buffer)
 
 abbrev pub ElevenThenCovered : Type 0
-ElevenThenCovered = (h : Past) (s : Session) (m buffer : Bytes) → small m ≡ true → step s m (logThen h) buffer .number ≡ 11
+ElevenThenCovered = (h : Past) (s : Session) (m : Bytes) (date : Option Bytes) (buffer : Bytes) → small m ≡ true → step s m date (logThen h) buffer .number ≡ 11
     → anyUncovered (intact archive (ledgerThen h)) (end archive (ledgerThen h)) ≡ false
 
 -- ---- a stop inside a write: the request that was never answered, if one was, the sectors that arrived, the torn ones, what is lent anew, and what the disk holds
@@ -179,11 +186,12 @@ AddedIsOnItsWay = (h : Past) (q : Item archive) (r : Row) → SomeOfBytes archiv
 
 -- one that did not is "not known" while any of its sectors is in the used part
 abbrev pub TornNotKnown : Type 0
-TornNotKnown = (h : Past) (q : Option (Item archive)) (arrived torn : List ℕ) (lend : Option ℕ) (hurt : Lent) (r : Row) (count : ℕ) (m buffer : Bytes)
+TornNotKnown = (h : Past) (q : Option (Item archive)) (arrived torn : List ℕ) (lend : Option ℕ) (hurt : Lent) (r : Row) (count : ℕ)
+    (m : Bytes) (date : Option Bytes) (buffer : Bytes)
     → Torn h q arrived torn lend hurt → OnItsWay h q r
-    → hasAll arrived (r .first) (parts r) ≡ false → r .first < used (oneLog hurt) → Reads m buffer hurt (r .kind) count (r .score)
+    → hasAll arrived (r .first) (parts r) ≡ false → r .first < used (oneLog hurt) → Reads m date buffer hurt (r .kind) count (r .score)
     → let L = tornLedger h q arrived torn in
-    step Greeted m hurt buffer ≡ refused (NotKnown (record { 0 = firstUncovered (intact archive L) (end archive L) 0 })) (tagOf m) Greeted hurt buffer
+    step Greeted m date hurt buffer ≡ refused (NotKnown (record { 0 = firstUncovered (intact archive L) (end archive L) 0 })) (tagOf m) Greeted hurt buffer
 
 -- and as if never written if none is: each sector is as it was in the log alone
 abbrev pub TornLeavesNothing : Type 0

@@ -24,7 +24,7 @@ use Rattle.demands.specs.Ledger.{Asked, Answer, Extent, roomFrom, tell}
 -- the step of the archive, which the contract of the request call equals, as it is seen: the answer, the session, the log and its waiting part
 abbrev pub served : Lent → Session → Asked → Seen Answer Session Lent
 served L s q =
-    let o = step s (q .message) L (q .buffer) in
+    let o = step s (q .message) (q .date) L (q .buffer) in
     record { answer = record { number = o .number; buffer = o .reply }; session = o .session; log = o .lent }
 
 -- how much of it there is, if there is any

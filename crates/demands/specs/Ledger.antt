@@ -1,6 +1,6 @@
 -- "The ledger of demands 2 and 3": how it answers a request from its rows, the changed sectors, and the lengths of the log and of its
 -- waiting part. It decides nothing from log bytes. With the archive's step it shares how a message is taken apart and a reply put together, SHA-1, the
--- sectors of a row, the tests of what is lent and of a block type, and constants; each other decision is written here anew.
+-- sectors of a row, the tests of what is lent, of a date and of a block type, and constants; each other decision is written here anew.
 use mathlib.Core.Bool.{Bool, true, false, cond, not, _&&_, _||_}
 use mathlib.Core.List.{List, [], _∷_}
 use mathlib.Core.Option.{Option, none, some}
@@ -13,25 +13,27 @@ use Rattle.buffer.specs.Bytes.{Bytes, same}
 use Rattle.sha1.specs.Sha1.{sha1Of}
 use Rattle.refusal.specs.Number.{numberOf}
 use Rattle.refusal.specs.declared.Refusal.{Refusal}
-use Rattle.refusal.specs.declared.Refusal.the-variants.{Frame, Buffer, LogLength, Closed, MessageType, Body, NoHello, Hello as BadHello, BlockType, DataLength, NotHeld, NotKnown, OverCount, NoRoom, Clash}
+use Rattle.refusal.specs.declared.Refusal.the-variants.{Frame, Buffer, LogLength, Closed, MessageType, Body, NoHello, Hello as BadHello, BlockType, DataLength, NotHeld, NotKnown, OverCount, NoRoom, Clash, Date}
 use Rattle.message.specs.Message.{framed, tagOf, versionOf, scoreOf, dataOf, requestOf}
 use Rattle.message.specs.Reply.{answered, errorReply, pingReply, helloReply, readReply, writeReply, syncReply}
 use Rattle.message.specs.declared.Request.{Request}
 use Rattle.message.specs.declared.Request.the-variants.{Ping, Hello, Goodbye, Read, Write, Sync, Unknown, Ill}
 use Rattle.kind.specs.Kind.{lawful, longest, zeroScore}
-use Rattle.block.specs.Block.{Row, partsOf, parts}
+use Rattle.block.specs.Block.{Row, parts}
+use Rattle.log.specs.Store.{partsFor}
 use Rattle.block.specs.Log.{sectors}
 use Rattle.log.specs.LookUp.{logAllowed, lentAllowed}
-use Rattle.request.specs.Step.{replyRoom, version}
+use Rattle.request.specs.Step.{replyRoom, version, dateAllowed, dateOf}
 use Rattle.request.specs.declared.Session.{Session}
 use Rattle.request.specs.declared.Session.the-variants.{Fresh, Greeted, Closed as Shut}
 use Rattle.ledger.specs.Archive.{Effect, stays, adds, settles, Ruling}
 use Rattle.ledger.specs.Ledger.{intactRows, rowsEnd, changedEnd}
 
--- "a message, the reply buffer" lent with it
+-- "a message, the reply buffer" lent with it; "The ledger is fed the date too": none with a request of the first edition
 pub record Asked : Type 0 where
   pub message : Bytes
   pub buffer : Bytes
+  pub date : Option Bytes
 
 -- what the ledger is told of what is lent: "the log's length", and "the waiting part's length too" where one is lent
 pub record Extent : Type 0 where
@@ -97,8 +99,9 @@ bySession Shut closed f = closed
 bySession Fresh closed f = f false
 bySession Greeted closed f = f true
 
--- intact: the intact rows; end: "one past the last sector covered or changed, else 0"; start: the rows wait that stand from there on; x: what is lent
-module _ (intact : List Row) (end start : ℕ) (x : Extent) where
+-- intact: the intact rows; end: "one past the last sector covered or changed, else 0"; start: the rows wait that stand from there on; x: what is lent;
+-- date: that of a block that is added, or none
+module _ (intact : List Row) (end start : ℕ) (x : Extent) (date : Bytes) where
   -- "A read of the zero score gives no bytes. Another takes the first intact row of its type and score: 13 if longer than count, else
   -- its bytes; with none, 12 if a sector is uncovered, else 11"
   abbrev pub readRow : ℕ → ℕ → Bytes → ℕ → Decision
@@ -107,12 +110,13 @@ module _ (intact : List Row) (end start : ℕ) (x : Extent) where
       (on (firstRow t s intact) (refusal (absent intact end))
       (λ r. cond (leb (length (r .bytes)) count) (reply (readReply tag (r .bytes)) Greeted stays) (refusal OverCount)))
 
-  -- "if that row has other bytes or data has the zero score, it is 15"; 14 for want of room. "Else its row is added, starting at the end"
+  -- "if that row has other bytes or data has the zero score, it is 15"; 14 for want of room. "Else its row is added, starting at the end"; "a row keeps it [the
+  -- date], and a dated row covers sectors by 389"
   abbrev pub newRow : ℕ → Bytes → ℕ → Decision
   newRow t d tag =
       cond (same (sha1Of d) zeroScore) (refusal Clash)
-      (cond (roomFrom x start end (partsOf (length d)))
-      (reply (writeReply tag (sha1Of d)) Greeted (adds (record { kind = t; score = sha1Of d; bytes = d; first = end })))
+      (cond (roomFrom x start end (partsFor date d))
+      (reply (writeReply tag (sha1Of d)) Greeted (adds (record { kind = t; score = sha1Of d; bytes = d; first = end; date = date })))
       (refusal NoRoom))
 
   -- "A write of no bytes, or of those in the first intact row of its type and SHA-1, adds no row"
@@ -139,16 +143,19 @@ module _ (intact : List Row) (end start : ℕ) (x : Extent) where
   decide true (Write t) m =
       cond (lawful t) (cond (leb (length (dataOf m)) longest) (writeRow t (dataOf m) (tagOf m)) (refusal DataLength)) (refusal BlockType)
 
-  -- "Tests 1 to 10 come first": 1 to 4
-  unfoldable pub decision : Session → Asked → Decision
-  decision s q =
-      cond (framed (q .message))
-      (cond (leb replyRoom (length (q .buffer)))
-      (cond (allowed x)
-      (bySession s (silence Closed) (λ greeted. decide greeted (requestOf (q .message)) (q .message)))
-      (silence LogLength))
-      (silence Buffer))
-      (silence Frame)
+-- "Tests 1 to 10 come first": 1 to 4, then 24
+unfoldable pub decision : List Row → ℕ → ℕ → Extent → Session → Asked → Decision
+decision intact end start x s q =
+    cond (framed (q .message))
+    (cond (leb replyRoom (length (q .buffer)))
+    (cond (allowed x)
+    (bySession s (silence Closed)
+    (λ greeted. cond (dateAllowed (q .date))
+    (decide intact end start x (dateOf (q .date)) greeted (requestOf (q .message)) (q .message))
+    (silence Date)))
+    (silence LogLength))
+    (silence Buffer))
+    (silence Frame)
 
 -- "It keeps ... the changed sectors ... and rows": one request by the ledger, told the rows, the changed sectors, from where
 -- on its rows wait, and the lengths of what is lent

@@ -5,3 +5,4 @@ pub mod Requests
 pub mod Histories
 pub mod Corollaries
 pub mod Events
+pub mod Dates

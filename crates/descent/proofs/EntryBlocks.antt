@@ -9,8 +9,8 @@ use lib.ListN.{length}
 use Rattle.buffer.specs.Bytes.{Bytes}
 use Rattle.refusal.specs.declared.Refusal.{Refusal}
 use Rattle.refusal.specs.declared.Refusal.the-variants.{Pointers}
-use Rattle.sector_number.specs.declared.SectorNumber.{SectorNumber}
-use Rattle.reader.specs.Reader.{bytesAt}
+use Rattle.block.specs.declared.Block.{Block}
+use Rattle.block.specs.Log.{bytesOf}
 use Rattle.reader.proofs.Pieces.{length-bytes}
 use Rattle.log.specs.declared.Look.the-variants.{Found, Refused}
 use Rattle.entry.specs.declared.Entry.{Entry}
@@ -56,12 +56,12 @@ module _ {log : Bytes} {e : Entry} {level nest : ℕ} {score : Bytes} {left : �
         (λ g h. er ∙ refused-known log nest left (typeAt e level) (countAt e level) score m (M .met) why d (belowBlock g log e level nest left)),
   )
 
-  module _ {first : SectorNumber} {size : ℕ} (d : m .look ≡ Found first size) where
-    pub block-known : Known log nest left (typeAt e level) (countAt e level) score (first .0) size (m .spent)
-    block-known = found-known log nest left (typeAt e level) (countAt e level) score m (M .met) first size d
+  module _ {b : Block} (d : m .look ≡ Found b) where
+    pub block-known : Known log nest left (typeAt e level) (countAt e level) score b (m .spent)
+    block-known = found-known log nest left (typeAt e level) (countAt e level) score m (M .met) b d
 
     -- one visit, and what goes on
-    goes-on-below : (w : Walked) → w .visits ≤ left - 1 → ((g : ℕ) → left + left ≤ g → w ≡ belowBlock g log e level nest left (bytesAt log (first .0) size))
+    goes-on-below : (w : Walked) → w .visits ≤ left - 1 → ((g : ℕ) → left + left ≤ g → w ≡ belowBlock g log e level nest left (bytesOf log b))
         → Visited log e level nest score left (more w)
     goes-on-below w h k = (
       omega (arith, block-known .some-left),
@@ -74,47 +74,47 @@ module _ {log : Bytes} {e : Entry} {level nest : ℕ} {score : Bytes} {left : �
         rw y (goes-on-below (walked 0 Done) (omega arith) (λ g l. rw (eq-eqb level 0 z, q)))
 
     pub directory-below : level ≡ 0 → e .directory ≡ true → (w : Walked)
-        → (w .visits ≤ left - 1) × ((g : ℕ) → (left - 1) + (left - 1) + 2 ≤ g → w ≡ visitDirectory g log nest (bytesAt log (first .0) size) (left - 1))
+        → (w .visits ≤ left - 1) × ((g : ℕ) → (left - 1) + (left - 1) + 2 ≤ g → w ≡ visitDirectory g log nest (bytesOf log b) (left - 1))
         → Visited log e level nest score left (more w)
     directory-below z q w k = goes-on-below w (k .0) (λ g l. rw (eq-eqb level 0 z, q) (k .1 g (omega (arith, block-known .some-left))))
 
-    whole-scores : (t : Bool) → eqb (size % 20) 0 ≡ t → eqb (length (bytesAt log (first .0) size) % 20) 0 ≡ t
-    whole-scores t q = ap (λ (x : ℕ). eqb (x % 20) 0) (length-bytes log (first .0) size) ∙ q
+    whole-scores : (t : Bool) → eqb (b .size % 20) 0 ≡ t → eqb (length (bytesOf log b) % 20) 0 ≡ t
+    whole-scores t q = ap (λ (x : ℕ). eqb (x % 20) 0) (length-bytes log b (block-known .in-log .1)) ∙ q
 
     module _ (n : level ≡ 0 → ⊥) where
-      pub ragged-is-refused : (size % 20 ≡ 0 → ⊥) → Visited log e level nest score left (walked 1 (Stopped Pointers))
+      pub ragged-is-refused : (b .size % 20 ≡ 0 → ⊥) → Visited log e level nest score left (walked 1 (Stopped Pointers))
       ragged-is-refused q =
-          let y = whole-scores false (ne-eqb (size % 20) 0 q) in
+          let y = whole-scores false (ne-eqb (b .size % 20) 0 q) in
           goes-on-below (walked 0 (Stopped Pointers)) (omega arith) (λ g l. rw (ne-eqb level 0 n, y))
 
-      pub scores-below : size % 20 ≡ 0 → (w : Walked)
+      pub scores-below : b .size % 20 ≡ 0 → (w : Walked)
           → (w .visits ≤ left - 1)
-          × ((g : ℕ) → (left - 1) + (left - 1) + 1 ≤ g → w ≡ visitScores g log e (level - 1) nest (bytesAt log (first .0) size) (left - 1))
+          × ((g : ℕ) → (left - 1) + (left - 1) + 1 ≤ g → w ≡ visitScores g log e (level - 1) nest (bytesOf log b) (left - 1))
           → Visited log e level nest score left (more w)
       scores-below q w k =
-          let y = whole-scores true (eq-eqb (size % 20) 0 q) in
+          let y = whole-scores true (eq-eqb (b .size % 20) 0 q) in
           goes-on-below w (k .0) (λ g l. rw (ne-eqb level 0 n, y) (k .1 g (omega (arith, block-known .some-left))))
 
--- ---- the scores of a pointer block
+-- ---- the scores of a pointer block, at its place in the log
 
--- one after the other, of a block of a size in the log
-pub scores-one-by-one : (log : Bytes) (e : Entry) (level nest first size left : ℕ) (v : Walked)
-    → OfAll (λ f x a. visitEntry f log e level nest x a) 20 (bytesAt log first size) left (size / 20) v
-    → (v .visits ≤ left) × ((f : ℕ) → left + left + 1 ≤ f → v ≡ visitScores f log e level nest (bytesAt log first size) left)
-scores-one-by-one log e level nest first size left v k = (
-  k .0,
-  λ f h. k .1 f h
-      ∙ ap (λ (n : ℕ). inOrder (λ x a. visitEntry f log e level nest x a) 20 (bytesAt log first size) left (n / 20) 0 0) (sym (length-bytes log first size)),
-)
+module _ (log : Bytes) (b : Block) (short : b .label < 499) where
+  -- one after the other
+  pub scores-one-by-one : (e : Entry) (level nest left : ℕ) (v : Walked)
+      → OfAll (λ f x a. visitEntry f log e level nest x a) 20 (bytesOf log b) left (b .size / 20) v
+      → (v .visits ≤ left) × ((f : ℕ) → left + left + 1 ≤ f → v ≡ visitScores f log e level nest (bytesOf log b) left)
+  scores-one-by-one e level nest left v k = (
+    k .0,
+    λ f h. k .1 f h
+        ∙ ap (λ (n : ℕ). inOrder (λ x a. visitEntry f log e level nest x a) 20 (bytesOf log b) left (n / 20) 0 0) (sym (length-bytes log b short)),
+  )
 
-pub score-of-20 : (log : Bytes) (first size i : ℕ) {x : Bytes} → x ≡ pointer (bytesAt log first size) i → size % 20 ≡ 0 → length x ≡ 20
-score-of-20 log first size i {x} e h = length-pointer (bytesAt log first size) i x e (ap (λ (n : ℕ). n % 20) (length-bytes log first size) ∙ h)
+  pub score-of-20 : (i : ℕ) {x : Bytes} → x ≡ pointer (bytesOf log b) i → b .size % 20 ≡ 0 → length x ≡ 20
+  score-of-20 i {x} e h = length-pointer (bytesOf log b) i x e (ap (λ (n : ℕ). n % 20) (length-bytes log b short) ∙ h)
 
--- score i as it is read is piece i, and what its visit gives is what the piece's gives
-pub score-visited : (log : Bytes) (e : Entry) (level nest first size a : ℕ) {i : ℕ} {x : Bytes} {r : Walked} → i < size / 20
-    → x ≡ pointer (bytesAt log first size) i → ((f : ℕ) → a + a + 1 ≤ f → r ≡ visitEntry f log e level nest x a)
-    → (f : ℕ) → a + a + 1 ≤ f → r ≡ visitEntry f log e level nest (piece 20 i (bytesAt log first size)) a
-score-visited log e level nest first size a {i} h ex v f l =
-    v f l
-    ∙ ap (λ (y : Bytes). visitEntry f log e level nest y a)
-    (ex ∙ sym (pointer-piece (bytesAt log first size) i (omega (arith, length-bytes log first size))))
+  -- score i as it is read is piece i, and what its visit gives is what the piece's gives
+  pub score-visited : (e : Entry) (level nest a : ℕ) {i : ℕ} {x : Bytes} {r : Walked} → i < b .size / 20
+      → x ≡ pointer (bytesOf log b) i → ((f : ℕ) → a + a + 1 ≤ f → r ≡ visitEntry f log e level nest x a)
+      → (f : ℕ) → a + a + 1 ≤ f → r ≡ visitEntry f log e level nest (piece 20 i (bytesOf log b)) a
+  score-visited e level nest a {i} h ex v f l =
+      v f l
+      ∙ ap (λ (y : Bytes). visitEntry f log e level nest y a) (ex ∙ sym (pointer-piece (bytesOf log b) i (omega (arith, length-bytes log b short))))

@@ -8,7 +8,8 @@ use lib.Seq.{take-all}
 use Rattle.buffer.specs.Bytes.{Bytes}
 use Rattle.refusal.specs.declared.Refusal.the-variants.{Entry as IllFormed}
 use Rattle.sector.specs.Sector.{filled}
-use Rattle.reader.specs.Reader.{bytesAt}
+use Rattle.block.specs.declared.Block.{Block}
+use Rattle.block.specs.Log.{bytesOf}
 use Rattle.reader.proofs.Pieces.{length-bytes}
 use Rattle.entry.specs.declared.Entry.{Entry}
 use Rattle.entry.specs.Entry.{entryOf, wellFormed, entryAllowed, scoreOf}
@@ -25,18 +26,18 @@ use Rattle.descent.proofs.InOrder.{OfAll}
 abbrev pub wholes : Bytes → Bytes
 wholes b = paddedTo (40 * entriesOf (length b)) b
 
--- the entries of a block of a size in the log, one after the other, are its directory
-pub entries-are-directory : (log : Bytes) (nest first size left : ℕ) (v : Walked)
-    → OfAll (λ f. visitListed f log nest) 40 (wholes (bytesAt log first size)) left (entriesOf size) v
-    → (v .visits ≤ left) × ((f : ℕ) → left + left + 2 ≤ f → v ≡ visitDirectory f log nest (bytesAt log first size) left)
+-- the entries of a block at its place in the log, one after the other, are its directory
+pub entries-are-directory : (log : Bytes) (nest : ℕ) (b : Block) → b .label < 499 → (left : ℕ) (v : Walked)
+    → OfAll (λ f. visitListed f log nest) 40 (wholes (bytesOf log b)) left (entriesOf (b .size)) v
+    → (v .visits ≤ left) × ((f : ℕ) → left + left + 2 ≤ f → v ≡ visitDirectory f log nest (bytesOf log b) left)
 unfolding visitDirectory
-entries-are-directory log nest first size left v k = (k .0, go)
+entries-are-directory log nest b short left v k = (k .0, go)
   where
-    go : (f : ℕ) → left + left + 2 ≤ f → v ≡ visitDirectory f log nest (bytesAt log first size) left
+    go : (f : ℕ) → left + left + 2 ≤ f → v ≡ visitDirectory f log nest (bytesOf log b) left
     go zero h = absurd (omega arith)
     go (suc f) h =
         k .1 f (omega arith)
-        ∙ ap (λ (n : ℕ). inOrder (visitListed f log nest) 40 (wholes (bytesAt log first size)) left (entriesOf n) 0 0) (sym (length-bytes log first size))
+        ∙ ap (λ (n : ℕ). inOrder (visitListed f log nest) 40 (wholes (bytesOf log b)) left (entriesOf n) 0 0) (sym (length-bytes log b short))
 
 -- entry i of a directory block's bytes b as it is read: its bytes x, and what they say
 pub record EntryRead (b : Bytes) (i : ℕ) (x : Bytes) (e : Entry) : Type 0 where
@@ -44,9 +45,9 @@ pub record EntryRead (b : Bytes) (i : ℕ) (x : Bytes) (e : Entry) : Type 0 wher
   pub bytes : x ≡ filled 40 (drop (40 * i) b)
   pub read : e ≡ entryOf (take 40 (drop 0 x))
 
-pub entry-read : (log : Bytes) (first size i : ℕ) {x : Bytes} {e : Entry} → i < entriesOf size → x ≡ filled 40 (drop (40 * i) (bytesAt log first size))
-    → e ≡ entryOf (take 40 (drop 0 x)) → EntryRead (bytesAt log first size) i x e
-entry-read log first size i h x e = record { within = omega (arith, length-bytes log first size); bytes = x; read = e }
+pub entry-read : (log : Bytes) (b : Block) → b .label < 499 → (i : ℕ) {x : Bytes} {e : Entry} → i < entriesOf (b .size)
+    → x ≡ filled 40 (drop (40 * i) (bytesOf log b)) → e ≡ entryOf (take 40 (drop 0 x)) → EntryRead (bytesOf log b) i x e
+entry-read log b short i h x e = record { within = omega (arith, length-bytes log b short); bytes = x; read = e }
 
 judged-by : (x : Bytes) (w : Walked) (a f : Bool) → entryOf x .active ≡ a → entryAllowed x ≡ f → judged x w ≡ cond a (cond f w (walked 0 (Stopped IllFormed))) (walked 0 Done)
 unfolding judged

@@ -1,5 +1,6 @@
 // What is below a block: the entries of a directory, and the scores of a pointer block, are visited in order while the allowance lasts.
 // The blocks lie in two runs of sectors that are read as one, as in `reader`.
+use block::Block;
 use entry::Entry;
 use log::Look;
 use refusal::Refusal;
@@ -10,9 +11,8 @@ ghost use mathlib.Core.Path.{_≡_};
 ghost use Prim.Native.Nat.{ℕ, _+_, _%_, _≤_, _<_};
 ghost use lib.ListN.{length};
 ghost use Rattle.kind.specs.Kind.{longest};
-ghost use Rattle.block.specs.Block.{partsOf};
-ghost use Rattle.block.specs.Log.{sectors, joined};
-ghost use Rattle.reader.specs.Reader.{bytesAt};
+ghost use Rattle.block.specs.Block.{Inside};
+ghost use Rattle.block.specs.Log.{sectors, joined, bytesOf};
 ghost use Rattle.descent.specs.Descent.{nestOf, entriesOf, visitDirectory, visitEntry};
 ghost use Rattle.descent.specs.Parts.{entryIn, visitListed, visitScores};
 
@@ -32,20 +32,19 @@ pub fn visit_directory<'a>(
     log: &'a [u8],
     end: SectorNumber,
     waiting: &'a [u8],
-    first: SectorNumber,
-    size: usize,
+    b: Block,
     nest: usize,
     left: usize,
 ) -> Walked
-    requires { ⌜ (end .0 ≤ sectors (length (now log))) × (first .0 + partsOf size ≤ end .0 + sectors (length (now waiting))) × (size ≤ longest) × (nest ≤ 16) ⌝ }
+    requires { ⌜ (end .0 ≤ sectors (length (now log))) × Inside (end .0 + sectors (length (now waiting))) b × (b .size ≤ longest) × (nest ≤ 16) ⌝ }
     ensures within { λ r. ⌜ r .visits ≤ left ⌝ }
-    ensures exact { λ r. ⌜ ((f : ℕ) → left + left + 2 ≤ f → r ≡ visitDirectory f (joined (end .0) (now (log .entry)) (now (waiting .entry))) nest (bytesAt (joined (end .0) (now (log .entry)) (now (waiting .entry))) (first .0) size) left) ⌝ }
+    ensures exact { λ r. ⌜ ((f : ℕ) → left + left + 2 ≤ f → r ≡ visitDirectory f (joined (end .0) (now (log .entry)) (now (waiting .entry))) nest (bytesOf (joined (end .0) (now (log .entry)) (now (waiting .entry))) b) left) ⌝ }
 {
-    let count = (size + 39) / 40;
+    let count = (b.size + 39) / 40;
     let mut visits: usize = 0;
     let mut i: usize = 0;
     while i < count {
-        let w = visit_listed(log, end, waiting, first, size, i, nest, left - visits);
+        let w = visit_listed(log, end, waiting, b, i, nest, left - visits);
         let ended = w.end;
         visits += w.visits;
         let End::Done = ended else {
@@ -67,17 +66,16 @@ fn visit_listed<'a>(
     log: &'a [u8],
     end: SectorNumber,
     waiting: &'a [u8],
-    first: SectorNumber,
-    size: usize,
+    b: Block,
     i: usize,
     nest: usize,
     left: usize,
 ) -> Walked
-    requires { ⌜ (end .0 ≤ sectors (length (now log))) × (first .0 + partsOf size ≤ end .0 + sectors (length (now waiting))) × (size ≤ longest) × (nest ≤ 16) × (i < entriesOf size) ⌝ }
+    requires { ⌜ (end .0 ≤ sectors (length (now log))) × Inside (end .0 + sectors (length (now waiting))) b × (b .size ≤ longest) × (nest ≤ 16) × (i < entriesOf (b .size)) ⌝ }
     ensures within { λ r. ⌜ r .visits ≤ left ⌝ }
-    ensures exact { λ r. ⌜ ((f : ℕ) → left + left + 1 ≤ f → r ≡ visitListed f (joined (end .0) (now (log .entry)) (now (waiting .entry))) nest (entryIn (bytesAt (joined (end .0) (now (log .entry)) (now (waiting .entry))) (first .0) size) i) left) ⌝ }
+    ensures exact { λ r. ⌜ ((f : ℕ) → left + left + 1 ≤ f → r ≡ visitListed f (joined (end .0) (now (log .entry)) (now (waiting .entry))) nest (entryIn (bytesOf (joined (end .0) (now (log .entry)) (now (waiting .entry))) b) i) left) ⌝ }
 {
-    let bytes = visit::entry_bytes(log, end, waiting, first, size, i);
+    let bytes = visit::entry_bytes(log, end, waiting, b, i);
     let e = entry::entry_at(&bytes, 0);
     if !e.active {
         return Walked {
@@ -120,22 +118,22 @@ fn visit_entry<'a>(
 {
     let m = visit::visit_level(log, end, waiting, e, score, level, nest, left);
     let look = m.look;
-    let Look::Found { first, size } = look else {
+    let Look::Found(b) = look else {
         return visit::answer(m);
     };
     if level == 0 {
         if !e.directory {
             return visit::answer(m);
         }
-        return visit::one_more(visit_directory(log, end, waiting, first, size, nest, left - 1));
+        return visit::one_more(visit_directory(log, end, waiting, b, nest, left - 1));
     }
-    if size % 20 != 0 {
+    if b.size % 20 != 0 {
         return Walked {
             visits: 1,
             end: End::Refused(Refusal::Pointers),
         };
     }
-    visit::one_more(visit_scores(log, end, waiting, e, first, size, level - 1, nest, left - 1))
+    visit::one_more(visit_scores(log, end, waiting, e, b, level - 1, nest, left - 1))
 }
 
 // Visits the scores of a pointer block, one after the other: blocks of an entry at a level.
@@ -144,21 +142,20 @@ fn visit_scores<'a>(
     end: SectorNumber,
     waiting: &'a [u8],
     e: Entry,
-    first: SectorNumber,
-    size: usize,
+    b: Block,
     level: usize,
     nest: usize,
     left: usize,
 ) -> Walked
-    requires { ⌜ (end .0 ≤ sectors (length (now log))) × (first .0 + partsOf size ≤ end .0 + sectors (length (now waiting))) × (size ≤ longest) × (size % 20 ≡ 0) × (level ≤ 7) ⌝ }
+    requires { ⌜ (end .0 ≤ sectors (length (now log))) × Inside (end .0 + sectors (length (now waiting))) b × (b .size ≤ longest) × (b .size % 20 ≡ 0) × (level ≤ 7) ⌝ }
     ensures within { λ r. ⌜ r .visits ≤ left ⌝ }
-    ensures exact { λ r. ⌜ ((f : ℕ) → left + left + 1 ≤ f → r ≡ visitScores f (joined (end .0) (now (log .entry)) (now (waiting .entry))) e level nest (bytesAt (joined (end .0) (now (log .entry)) (now (waiting .entry))) (first .0) size) left) ⌝ }
+    ensures exact { λ r. ⌜ ((f : ℕ) → left + left + 1 ≤ f → r ≡ visitScores f (joined (end .0) (now (log .entry)) (now (waiting .entry))) e level nest (bytesOf (joined (end .0) (now (log .entry)) (now (waiting .entry))) b) left) ⌝ }
 {
-    let count = size / 20;
+    let count = b.size / 20;
     let mut visits: usize = 0;
     let mut i: usize = 0;
     while i < count {
-        let s = tree::score_at(log, end, waiting, first, size, i);
+        let s = tree::score_at(log, end, waiting, b, i);
         let w = visit_entry(log, end, waiting, e, &s, level, nest, left - visits);
         let ended = w.end;
         visits += w.visits;

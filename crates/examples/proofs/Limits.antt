@@ -18,5 +18,5 @@ limits = record {
   last-waits = refl;
   beyond-waits = refl;
   half-waits = refl;
-  three = λ s m log waiting buffer l f h. rw (f, le-ltb (length buffer) replyRoom h, l) refl;
+  three = λ s m date log waiting buffer l f h. rw (f, le-ltb (length buffer) replyRoom h, l) refl;
 }

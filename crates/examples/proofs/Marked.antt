@@ -19,12 +19,12 @@ use Rattle.examples.specs.Marked.{Marked}
 pub marked : Marked
 unfolding digits valueFrom follows hex digitChar framed textEnd countedEnd bytesEnd exactly requestOf reply step inSession fresh greeted write entryOf wellFormed entryReadable extentAt located
 marked = record {
-  ping = λ log buffer a h. rw (le-ltb (length buffer) replyRoom h, a) refl;
-  greeting = λ log buffer a h. rw (le-ltb (length buffer) replyRoom h, a) refl;
+  ping = λ date log buffer d a h. rw (le-ltb (length buffer) replyRoom h, a, d) refl;
+  greeting = λ date log buffer d a h. rw (le-ltb (length buffer) replyRoom h, a, d) refl;
   not-held = refl;
   not-known = refl;
   counts = counts;
-  ten = λ t m log buffer f h a q l n. rw (f, le-ltb (length buffer) replyRoom h, a, q, l, lt-ltb longest (length (dataOf m)) (omega arith)) refl;
+  ten = λ t m date log buffer f h a d q l n. rw (f, le-ltb (length buffer) replyRoom h, a, d, q, l, lt-ltb longest (length (dataOf m)) (omega arith)) refl;
   hello-world = cut.hello-world;
   all-zeros = cut.all-zeros;
   three = refl;

@@ -49,9 +49,9 @@ write-ill m k t h n = rw (t, marked 3 5 k m h n, and-false (leb 8 (length m)))
 
 six : (m : Bytes) → requestOf m ≡ Ill → Six m
 unfolding step inSession fresh greeted
-six m q Closed log buffer n f h a = absurd (n refl)
-six m q Fresh log buffer n f h a = rw (f, le-ltb (length buffer) replyRoom h, a, q) refl
-six m q Greeted log buffer n f h a = rw (f, le-ltb (length buffer) replyRoom h, a, q) refl
+six m q Closed date log buffer n f h a d = absurd (n refl)
+six m q Fresh date log buffer n f h a d = rw (f, le-ltb (length buffer) replyRoom h, a, d, q) refl
+six m q Greeted date log buffer n f h a d = rw (f, le-ltb (length buffer) replyRoom h, a, d, q) refl
 
 -- ---- entries
 

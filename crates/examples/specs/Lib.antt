@@ -3,3 +3,4 @@ pub mod Messages
 pub mod Texts
 pub mod Pads
 pub mod Limits
+pub mod Dates

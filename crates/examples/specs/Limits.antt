@@ -1,6 +1,7 @@
 -- "The limit of 131,072 sectors becomes 1,048,576, with refusal 3 beyond it", at its borders; and of the waiting part "at most 256, or it is 3".
 use mathlib.Core.Path.{_≡_}
 use mathlib.Core.Bool.{true, false}
+use mathlib.Core.Option.{Option}
 use Prim.Native.Nat.{ℕ, _+_, _*_, _≤_}
 use lib.ListN.{length}
 use Rattle.buffer.specs.Bytes.{Bytes}
@@ -22,5 +23,5 @@ pub record Limits : Type 0 where
   pub beyond-waits : waitingAllowed (512 * 257) ≡ false
   pub half-waits : waitingAllowed (512 * 255 + 256) ≡ false
   -- a message to a log beyond it: no reply, and nothing changes, in any session
-  pub three : (s : Session) (m log waiting buffer : Bytes) → length log ≡ 512 * (mostSectors + 1) → framed m ≡ true → replyRoom ≤ length buffer
-      → step s m (beside log waiting) buffer ≡ silent LogLength s (beside log waiting) buffer
+  pub three : (s : Session) (m : Bytes) (date : Option Bytes) (log waiting buffer : Bytes) → length log ≡ 512 * (mostSectors + 1) → framed m ≡ true → replyRoom ≤ length buffer
+      → step s m date (beside log waiting) buffer ≡ silent LogLength s (beside log waiting) buffer

@@ -1,6 +1,7 @@
 -- "Pads must be zero": each byte of each pad, whatever stands beside it, and what stays free.
 use mathlib.Core.Path.{_≡_}
 use mathlib.Core.Bool.{true, false}
+use mathlib.Core.Option.{Option}
 use Prim.Native.Nat.{ℕ, _+_, _≤_, _<_}
 use lib.ListN.{length, getD, drop}
 use Rattle.buffer.specs.Bytes.{Bytes}
@@ -8,7 +9,7 @@ use Rattle.refusal.specs.declared.Refusal.the-variants.{Body, Entry as IllForme
 use Rattle.log.specs.LookUp.{logAllowed, lentAllowed}
 use Rattle.message.specs.Message.{framed, typeOf, tagOf}
 use Rattle.log.specs.Parts.{Lent}
-use Rattle.request.specs.Step.{replyRoom, refused, step, allowed}
+use Rattle.request.specs.Step.{replyRoom, refused, step, allowed, dateAllowed}
 use Rattle.request.specs.declared.Session.{Session}
 use Rattle.request.specs.declared.Session.the-variants.{Closed}
 use Rattle.entry.specs.Entry.{entryOf}
@@ -18,11 +19,11 @@ use Rattle.visit.specs.declared.End.the-variants.{Done, Refused}
 use Rattle.visit.specs.Visit.{walked}
 use Rattle.descent.specs.Descent.{judged}
 
--- a message that tests 1 to 4 pass is refused with 6
+-- a message that tests 1 to 4 and 24 pass is refused with 6
 abbrev pub Six : Bytes → Type 0
 Six m =
-    (s : Session) (L : Lent) (buffer : Bytes) → (s ≡ Closed → ⊥) → framed m ≡ true → replyRoom ≤ length buffer → allowed L ≡ true
-    → step s m L buffer ≡ refused Body (tagOf m) s L buffer
+    (s : Session) (date : Option Bytes) (L : Lent) (buffer : Bytes) → (s ≡ Closed → ⊥) → framed m ≡ true → replyRoom ≤ length buffer → allowed L ≡ true → dateAllowed date ≡ true
+    → step s m date L buffer ≡ refused Body (tagOf m) s L buffer
 
 pub record Pads : Type 0 where
   -- "read: score[20] type[1] pad[1] count[2]", in any open session and of any block type

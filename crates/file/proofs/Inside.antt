@@ -9,7 +9,9 @@ use borrow.Author.Tests.{ltb-true, ltb-false}
 use lib.ListN.{length}
 use Rattle.ground.proofs.Cases.{cond-ind}
 use Rattle.buffer.specs.Bytes.{Bytes}
-use Rattle.block.specs.Block.{Row, partsOf}
+use Rattle.block.specs.declared.Block.{Block}
+use Rattle.block.specs.Block.{Row, placeOf}
+use Rattle.block.specs.Block.{Inside as Among}
 use Rattle.block.specs.Log.{used}
 use Rattle.block.proofs.Used.{used-le-sectors}
 use Rattle.block.proofs.Joined.{used-joined}
@@ -21,10 +23,10 @@ use Rattle.file.specs.declared.Extent.{Extent}
 use Rattle.file.specs.declared.Extent.the-variants.{Stored, Zeros, Refused}
 use Rattle.file.specs.declared.Located.{Located}
 use Rattle.file.specs.declared.Located.the-variants as part
-use Rattle.file.specs.File.{zeroRun, placeIn, leafRun, under, extentAt, split, located}
+use Rattle.file.specs.File.{zeroRun, payloadIn, placeIn, leafRun, under, extentAt, split, located}
 use Rattle.lookup.proofs.Held.{Stands}
-use Rattle.tree.proofs.Pieces.{part-of}
 use Rattle.file.proofs.Tests.{extent-ind}
+use Rattle.file.proofs.Places.{place-end, place-rest, place-before}
 use Rattle.file.proofs.Under.{under-ind}
 
 -- in one of the first u sectors of a log, and within a page of p bytes
@@ -33,25 +35,21 @@ Inside u p (Stored at n) = (at + n ≤ 512 * u) × (at % 512 + n ≤ 512) × (at
 Inside u p (Zeros n) = n ≤ p
 Inside u p (Refused w) = Unit {0}
 
-stored-inside : (u n size k b c : ℕ) → n + partsOf size ≤ u → k < size → Inside u 0 (Stored (placeIn n k) (min (403 - k % 403) (min b c)))
-stored-inside u n size k b c h g =
-    let m = min-le-left (403 - k % 403) (min b c) in
-    let j = part-of size k g in
-    let i : k % 403 < 403 = omega arith in
-    let r : placeIn n k % 512 ≡ 96 + k % 403 = omega arith in
-    let w : placeIn n k + (403 - k % 403) ≤ 512 * (n + k / 403) + 512 = omega arith in
-    let v : 512 * (n + k / 403) + 512 ≤ 512 * u = omega arith in
-    (omega (arith, m, w, v), omega (arith, m, r), omega (arith, v, i))
+stored-inside : (u : ℕ) (b : Block) (k x y : ℕ) → Among u b → k < b .size → Inside u 0 (Stored (placeIn b k) (min (payloadIn b - k % payloadIn b) (min x y)))
+stored-inside u b k x y h g =
+    let p = payloadIn b in
+    let m = min-le-left (p - k % p) (min x y) in
+    (omega (arith, m, place-end u b h k g), omega (arith, m, place-rest u b h k g, h .1), place-before u b h k g)
 
 module _ (log : Bytes) (page : ℕ) (e : Entry) (offset : ℕ) where
   zero-in : Inside (used log) page (zeroRun page e offset)
   zero-in = min-le-left page _
 
-  leaf-in : (r : Row) → Stands log r → Inside (used log) page (leafRun page e offset (r .first) (length (r .bytes)))
+  leaf-in : (r : Row) → Stands log r → Inside (used log) page (leafRun page e offset (placeOf r))
   unfolding leafRun
   leaf-in r P =
       cond-ind (Inside (used log) page) (ltb (offset % e .dsize) (length (r .bytes))) _ _
-      (λ q. stored-inside (used log) (r .first) (length (r .bytes)) (offset % e .dsize) _ _ (P .in-used) (ltb-true (offset % e .dsize) (length (r .bytes)) q))
+      (λ q. stored-inside (used log) (placeOf r) (offset % e .dsize) _ _ (P .in-used, P .within .1) (ltb-true (offset % e .dsize) (length (r .bytes)) q))
       (λ q. zero-in)
 
   pub under-in : (level : ℕ) (s : Bytes) → Inside (used log) page (under log page e offset level s)

@@ -6,7 +6,7 @@ use Rattle.ground.proofs.Cases.{cond-ind, on-ind}
 use Rattle.buffer.specs.Bytes.{Bytes, same}
 use Rattle.kind.specs.Kind.{zeroScore}
 use Rattle.refusal.specs.declared.Refusal.the-variants.{OverCount, Pointers}
-use Rattle.block.specs.Block.{Row}
+use Rattle.block.specs.Block.{Row, placeOf}
 use Rattle.log.specs.LookUp.{held, absence}
 use Rattle.lookup.proofs.Held.{Stands, held-stands}
 use Rattle.entry.specs.declared.Entry.{Entry}
@@ -15,7 +15,7 @@ use Rattle.file.specs.declared.Extent.the-variants.{Refused}
 use Rattle.file.specs.File.{zeroRun, leafRun, fetched, under}
 
 module _ (log : Bytes) (page : ℕ) (e : Entry) (offset : ℕ) (P : Extent → Type 0) (missing : P (Refused (absence log))) (long : P (Refused OverCount)) (uneven : P (Refused Pointers)) (zeros : P (zeroRun page e offset))
-    (leaf : (r : Row) → Stands log r → P (leafRun page e offset (r .first) (length (r .bytes)))) where
+    (leaf : (r : Row) → Stands log r → P (leafRun page e offset (placeOf r))) where
   fetched-ind : (t : ℕ) (s : Bytes) (count : ℕ) (f : Row → Extent) → ((r : Row) → Stands log r → P (f r)) → P (fetched log t s count f)
   fetched-ind t s count f g =
       on-ind P (held log t s) _ _ (λ _. missing) (λ r q. cond-ind P (leb (length (r .bytes)) count) _ _ (λ _. g r (held-stands log t s r q)) (λ _. long))

@@ -1,7 +1,7 @@
 -- What the steps below the tests stand on: the run in the leaf that look-up finds, and what the tests have shown.
 use Prim.Native.Nat.{ℕ, _+_, _≤_, _<_}
 use Rattle.kind.specs.Kind.{longest}
-use Rattle.block.specs.Block.{partsOf}
+use Rattle.block.specs.Block.{Inside}
 use Rattle.entry.specs.declared.Entry.{Entry}
 use Rattle.log.specs.declared.Look.{Look}
 use Rattle.log.specs.declared.Look.the-variants as look
@@ -9,14 +9,14 @@ use Rattle.file.specs.File.{leafRun}
 use Rattle.file.specs.declared.Extent.{Extent}
 use Rattle.file.specs.declared.Extent.the-variants.{Refused}
 
--- where the leaf that was found ends
-abbrev pub endOf : Look → ℕ
-endOf (look.Found first size) = first .0 + partsOf size
-endOf (look.Refused w) = 0
+-- the leaf that was found lies among n sectors
+abbrev pub LiesIn : ℕ → Look → Type 0
+LiesIn n (look.Found b) = Inside n b
+LiesIn n (look.Refused w) = Unit {0}
 
 -- the run in the leaf that was found; "A missing block is refused, never zero"
 abbrev pub runIn : ℕ → Entry → ℕ → Look → Extent
-runIn page e offset (look.Found first size) = leafRun page e offset (first .0) size
+runIn page e offset (look.Found b) = leafRun page e offset b
 runIn page e offset (look.Refused w) = Refused w
 
 -- an entry and an offset that the tests let through

@@ -9,7 +9,9 @@ use Rattle.kind.specs.Kind.{zeroScore}
 use Rattle.refusal.specs.declared.Refusal.{Refusal}
 use Rattle.refusal.specs.declared.Refusal.the-variants as why
 use Rattle.refusal.specs.Number.{numberOf}
-use Rattle.block.specs.Block.{Row}
+use Rattle.sector.specs.Sector.{payloadOf}
+use Rattle.block.specs.Block.{Row, placeOf}
+use Rattle.block.specs.declared.Block.{Block}
 use Rattle.block.specs.Log.{used}
 use Rattle.log.specs.LookUp.{held, absence, lentAllowed}
 use Rattle.log.specs.Parts.{tape}
@@ -25,19 +27,23 @@ use Rattle.file.specs.declared.Located.the-variants as part
 abbrev pub zeroRun : ℕ → Entry → ℕ → Extent
 zeroRun page e offset = Zeros (min page (min (e .dsize - offset % e .dsize) (e .size - offset)))
 
--- where byte k of the block that starts at sector n lies in the log: in one sector, behind its 96 bytes of label
-abbrev pub placeIn : ℕ → ℕ → ℕ
-placeIn n k = 512 * (n + k / 403) + (96 + k % 403)
+-- how many bytes of the block at a place a sector holds
+abbrev pub payloadIn : Block → ℕ
+payloadIn b = payloadOf (b .label)
 
--- "from stored data, up to the end of payload, block or file"; the leaf is the block of `size` bytes that starts at sector n
-abbrev pub storedRun : Entry → ℕ → ℕ → ℕ → Extent
-storedRun e offset n size =
-    Stored (placeIn n (offset % e .dsize))
-    (min (403 - offset % e .dsize % 403) (min (size - offset % e .dsize) (e .size - offset)))
+-- where byte k of the block at a place lies in the log: in one sector, behind its label
+abbrev pub placeIn : Block → ℕ → ℕ
+placeIn b k = 512 * (b .first .0 + k / payloadIn b) + (b .label + k % payloadIn b)
+
+-- "from stored data, up to the end of payload, block or file", of the leaf at a place; "The file run ends at 389 where the block is dated"
+abbrev pub storedRun : Entry → ℕ → Block → Extent
+storedRun e offset b =
+    Stored (placeIn b (offset % e .dsize))
+    (min (payloadIn b - offset % e .dsize % payloadIn b) (min (b .size - offset % e .dsize) (e .size - offset)))
 
 -- what a leaf lacks up to dsize is zeros
-unfoldable pub leafRun : ℕ → Entry → ℕ → ℕ → ℕ → Extent
-leafRun page e offset n size = cond (ltb (offset % e .dsize) size) (storedRun e offset n size) (zeroRun page e offset)
+unfoldable pub leafRun : ℕ → Entry → ℕ → Block → Extent
+leafRun page e offset b = cond (ltb (offset % e .dsize) (b .size)) (storedRun e offset b) (zeroRun page e offset)
 
 -- "A missing block is refused, never zero"; 13 is "block longer than count"
 abbrev pub fetched : Bytes → ℕ → Bytes → ℕ → (Row → Extent) → Extent
@@ -53,7 +59,7 @@ pointerIndex e offset d = offset / e .dsize / pointers e ^ d % pointers e
 unfoldable pub under : Bytes → ℕ → Entry → ℕ → ℕ → Bytes → Extent
 under log page e offset zero s =
     cond (same s zeroScore) (zeroRun page e offset)
-    (fetched log (typeAt e 0) s (e .dsize) (λ r. leafRun page e offset (r .first) (length (r .bytes))))
+    (fetched log (typeAt e 0) s (e .dsize) (λ r. leafRun page e offset (placeOf r)))
 under log page e offset (suc d) s =
     cond (same s zeroScore) (zeroRun page e offset)
     (fetched log (2 + suc d) s (e .psize)

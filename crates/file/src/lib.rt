@@ -1,21 +1,21 @@
 // Reading a file through its hash tree: the run of bytes at an offset, where it lies in the log, in the sectors that wait behind its used
 // part, or in the lent page of zeros.
+use block::Block;
 use entry::Entry;
 use log::Look;
 use refusal::Refusal;
 use sector::LABEL;
-use sector::PAYLOAD;
 use sector::SECTOR;
 use sector_number::SectorNumber;
 ghost use mathlib.Core.Path.{_≡_};
 ghost use Prim.Native.Nat.{ℕ, _+_, _*_, _/_, _%_, _^_, _≤_, _<_, min};
 ghost use lib.ListN.{length};
-ghost use Rattle.block.specs.Block.{partsOf};
+ghost use Rattle.block.specs.Block.{Inside};
 ghost use Rattle.block.specs.Log.{sectors, joined};
 ghost use Rattle.file.specs.File.{zeroRun, placeIn, leafRun, under, pageAllowed, entryReadable, located, answerOf};
 ghost use Rattle.file.specs.File.{split as splitAt};
 ghost use Rattle.file.specs.Run.{runOf};
-ghost use Rattle.file.specs.Fetch.{endOf, runIn, Open};
+ghost use Rattle.file.specs.Fetch.{LiesIn, runIn, Open};
 
 // Where the run at an offset lies in one log of bytes: at a byte of it, or at the front of the page; or why there is none.
 pub enum Extent {
@@ -46,12 +46,13 @@ fn digit(n: u64, p: u64, d: usize) -> u64
     rest % p
 }
 
-// Where byte k of the block that starts at a sector lies in the log.
-fn place_in(first: SectorNumber, k: usize) -> usize
-    requires { ⌜ placeIn (first .0) k < 2 ^ 64 ⌝ }
-    ensures { λ r. ⌜ r ≡ placeIn (first .0) k ⌝ }
+// Where byte k of the block at a place lies in the log.
+fn place_in(b: Block, k: usize) -> usize
+    requires { ⌜ (placeIn b k < 2 ^ 64) × (b .label < 499) ⌝ }
+    ensures { λ r. ⌜ r ≡ placeIn b k ⌝ }
 {
-    SECTOR * (first.0 + k / PAYLOAD) + (LABEL + k % PAYLOAD)
+    let p = block::payload_of(b.label);
+    SECTOR * (b.first.0 + k / p) + (b.label + k % p)
 }
 
 // A run of zeros: the page's front, up to the end of page, leaf or file.
@@ -65,18 +66,19 @@ fn zero_run(page: usize, e: Entry, offset: u64) -> Extent
     }
 }
 
-// The run in the leaf of `size` bytes that starts at a sector: stored, up to the end of payload, block or file; past the block's end zeros.
-fn leaf_run(page: usize, e: Entry, offset: u64, first: SectorNumber, size: usize) -> Extent
-    requires { ⌜ (0 < e .dsize) × (offset < e .size) × (512 * (first .0 + partsOf size) < 2 ^ 64) ⌝ }
-    ensures { λ r. ⌜ r ≡ leafRun page e offset (first .0) size ⌝ }
+// The run in the leaf at a place: stored, up to the end of payload, block or file; past the block's end zeros.
+fn leaf_run(page: usize, e: Entry, offset: u64, b: Block) -> Extent
+    requires { ⌜ (0 < e .dsize) × (offset < e .size) × Inside (2 ^ 54) b ⌝ }
+    ensures { λ r. ⌜ r ≡ leafRun page e offset b ⌝ }
 {
     let k = (offset % e.dsize as u64) as usize;
-    if size <= k {
+    if b.size <= k {
         return zero_run(page, e, offset);
     }
+    let p = block::payload_of(b.label);
     Extent::Stored {
-        at: place_in(first, k),
-        length: tree::least(PAYLOAD - k % PAYLOAD, size - k, e.size - offset),
+        at: place_in(b, k),
+        length: tree::least(p - k % p, b.size - k, e.size - offset),
     }
 }
 
@@ -91,7 +93,7 @@ pub fn descend<'a>(
     top: &[u8],
 ) -> Look
     requires { ⌜ (end .0 ≤ sectors (length (now log))) × Open e offset × (length (now top) ≡ 20) ⌝ }
-    ensures room { λ r. ⌜ endOf r ≤ end .0 + sectors (length (now (waiting .entry))) ⌝ }
+    ensures room { λ r. ⌜ LiesIn (end .0 + sectors (length (now (waiting .entry)))) r ⌝ }
     ensures run { λ r. ⌜ ((page o : ℕ) → o / e .dsize ≡ offset / e .dsize → runIn page e o r ≡ under (joined (end .0) (now (log .entry)) (now (waiting .entry))) page e o (e .depth) (now (top .entry))) ⌝ }
 {
     let mut score = [0u8; 20];
@@ -101,32 +103,33 @@ pub fn descend<'a>(
     let mut level = e.depth;
     while 0 < level {
         if kind::is_zero_score(&score) {
-            return Look::Found {
+            return Look::Found(Block {
                 first: SectorNumber(0),
                 size: 0,
-            };
+                label: LABEL,
+            });
         }
         let look = lookup::fetch(log, end, waiting, (2 + level) as u8, &score, e.psize);
-        let Look::Found { first, size } = look else {
+        let Look::Found(b) = look else {
             return look;
         };
-        if size % 20 != 0 {
+        if b.size % 20 != 0 {
             return Look::Refused(Refusal::Pointers);
         }
         level -= 1;
         let index = digit(leaf, p, level);
-        score = tree::score_at(log, end, waiting, first, size, index as usize);
+        score = tree::score_at(log, end, waiting, b, index as usize);
     }
     lookup::fetch(log, end, waiting, tree::type_at(e, 0), &score, e.dsize)
 }
 
 // The run in the leaf that was found, or why there is none.
 fn run_in(look: Look, page: usize, e: Entry, offset: u64) -> Extent
-    requires { ⌜ (0 < e .dsize) × (offset < e .size) × (512 * endOf look < 2 ^ 64) ⌝ }
+    requires { ⌜ (0 < e .dsize) × (offset < e .size) × LiesIn (2 ^ 54) look ⌝ }
     ensures { λ r. ⌜ r ≡ runIn page e offset look ⌝ }
 {
     match look {
-        Look::Found { first, size } => leaf_run(page, e, offset, first, size),
+        Look::Found(b) => leaf_run(page, e, offset, b),
         Look::Refused(why) => Extent::Refused(why),
     }
 }

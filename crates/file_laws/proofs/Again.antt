@@ -12,7 +12,7 @@ use Rattle.buffer.specs.Bytes.{Bytes, same}
 use Rattle.kind.specs.Kind.{zeroScore}
 use Rattle.refusal.specs.declared.Refusal.{Refusal}
 use Rattle.refusal.specs.declared.Refusal.the-variants as why
-use Rattle.block.specs.Block.{Row}
+use Rattle.block.specs.Block.{Row, payload, placeOf}
 use Rattle.log.specs.LookUp.{held, lentAllowed}
 use Rattle.log.specs.Parts.{tape}
 use Rattle.log.proofs.Parts.{held-alone, used-alone}
@@ -28,7 +28,7 @@ use Rattle.file_laws.specs.Path.{Answers}
 use Rattle.file_laws.specs.Bytes.{runBytes, byteUnder}
 use Rattle.file_laws.proofs.Extents.{Reads, extentBytes, shown-bytes, shown-reads}
 use Rattle.file_laws.proofs.Missing.{held-if}
-use Rattle.file_laws.proofs.Stored.{stored-bytes}
+use Rattle.file_laws.proofs.Stored.{stored-bytes, room-left}
 use Rattle.file_laws.proofs.Runs.{least-pos, least-below, through, Run, under-run, nothing, block}
 
 -- ---- an answer that is the same wherever the answer below is
@@ -53,7 +53,7 @@ module _ (log log′ : Bytes) (more : (t : ℕ) (s : Bytes) (r : Row) → held l
   unfolding under
   under-again page e offset zero s =
       else-again (same s zeroScore) (zeroRun page e offset) _ _
-      (fetched-again (typeAt e 0) s (e .dsize) (λ (r : Row). leafRun page e offset (r .first) (length (r .bytes))) _ (λ r a. refl))
+      (fetched-again (typeAt e 0) s (e .dsize) (λ (r : Row). leafRun page e offset (placeOf r)) _ (λ r a. refl))
   under-again page e offset (suc d) s =
       else-again (same s zeroScore) (zeroRun page e offset) _ _
       (fetched-again (2 + suc d) s (e .psize) _ _
@@ -76,9 +76,9 @@ module _ (log log′ : Bytes) (more : (t : ℕ) (s : Bytes) (r : Row) → held l
   bytes-again page e offset byte x o (block t s r h k m a b) =
       let at = offset % e .dsize in
       let size = length (r .bytes) in
-      let n = min (403 - at % 403) (min (size - at) (e .size - offset)) in
-      let pos : 0 < n = least-pos (403 - at % 403) (size - at) (e .size - offset) (omega arith) (omega arith) (omega arith) in
-      let le = least-below (403 - at % 403) (size - at) (e .size - offset) in
+      let n = min (payload r - at % payload r) (min (size - at) (e .size - offset)) in
+      let pos : 0 < n = least-pos (payload r - at % payload r) (size - at) (e .size - offset) (room-left log t s r h at) (omega arith) (omega arith) in
+      let le = least-below (payload r - at % payload r) (size - at) (e .size - offset) in
       let fits : at + n ≤ size = omega (arith, le .1) in
       ap (extentBytes log′ page) a
       ∙ stored-bytes log′ t s r (more t s r h) at n pos (le .0) fits ∙ sym (stored-bytes log t s r h at n pos (le .0) fits)

@@ -8,7 +8,7 @@ use lib.ListN.{length}
 use Rattle.buffer.specs.Bytes.{Bytes, same}
 use Rattle.word.specs.Number.{digits, valueFrom}
 use Rattle.kind.specs.Kind.{zeroScore}
-use Rattle.block.specs.Block.{Row}
+use Rattle.block.specs.Block.{Row, placeOf}
 use Rattle.log.specs.LookUp.{held}
 use Rattle.entry.specs.declared.Entry.{Entry}
 use Rattle.entry.specs.Entry.{entryOf}
@@ -26,6 +26,6 @@ module _ (log : Bytes) (page : ℕ) (s : Bytes) (two one leaf : Row)
     (za : same s zeroScore ≡ false) (zb : same (pointer (two .bytes) 1) zeroScore ≡ false) (zc : same (pointer (one .bytes) 1) zeroScore ≡ false)
     (la : leb (length (two .bytes)) 60 ≡ true) (lb : leb (length (one .bytes)) 60 ≡ true) (lc : leb (length (leaf .bytes)) 1024 ≡ true)
     (ma : eqb (length (two .bytes) % 20) 0 ≡ true) (mb : eqb (length (one .bytes) % 20) 0 ≡ true) where
-  pub second-then-second : under log page entry 4096 2 s ≡ leafRun page entry 4096 (leaf .first) (length (leaf .bytes))
+  pub second-then-second : under log page entry 4096 2 s ≡ leafRun page entry 4096 (placeOf leaf)
   unfolding under digits valueFrom entryOf typeAt
   second-then-second = rw (za, a, la, ma, zb, b, lb, mb, zc, c, lc) refl

@@ -4,41 +4,28 @@ use mathlib.Core.Bool.{Bool, true, false, not}
 use mathlib.Core.List.{[], _++_}
 use mathlib.Core.Option.{Option, some}
 use Prim.Native.Nat.{ℕ, zero, suc, _+_, _-_, _*_, _/_, _%_, _≤_, _<_, min}
-use native.Mathlib.Nat.{div-add-mod, mul-add-div, mul-add-mod-self-left, mod-eq-of-lt, div-eq-of-lt, mod-lt}
+use native.Mathlib.Nat.{mod-lt}
 use native.Mathlib.Omega.{arith}
 use lib.Dec.{ltb, eqb}
 use borrow.Author.Tests.{ltb-true, ltb-false, eqb-false, not-true}
-use lib.ListN.{length, take, drop, getD, length-append, length-take, length-drop, List·getD-append}
+use lib.ListN.{length, take, drop, getD, length-append, length-drop, List·getD-append}
 use lib.Seq.{length-take-le, getD-take, getD-drop, getD-append-add}
 use Rattle.ground.proofs.Cases.{and-true}
 use Rattle.buffer.specs.Bytes.{Bytes, zeros}
 use Rattle.buffer.proofs.Bytes.{zeros-getD}
-use Rattle.block.specs.Block.{Row}
+use Rattle.block.specs.Block.{Row, payload, placeOf}
 use Rattle.log.specs.LookUp.{held, lentAllowed}
 use Rattle.log.specs.Parts.{tape}
 use Rattle.entry.specs.declared.Entry.{Entry}
 use Rattle.entry.specs.Entry.{entryOf, scoreOf}
 use Rattle.file.specs.declared.Extent.{Extent}
 use Rattle.file.specs.File.{zeroRun, storedRun, pageAllowed, extentAt, located}
+use Rattle.fill.proofs.Leaf.{same-leaf}
 use Rattle.file_laws.specs.Path.{Answers}
 use Rattle.file_laws.specs.Bytes.{runBytes, byteUnder, fileByte, laid, RunIsTheFiles, WholeFile}
 use Rattle.file_laws.proofs.Extents.{Reads, extentBytes, shown-bytes, shown-reads}
-use Rattle.file_laws.proofs.Stored.{stored-bytes}
+use Rattle.file_laws.proofs.Stored.{stored-bytes, room-left}
 use Rattle.file_laws.proofs.Runs.{least-pos, least-below, through, Onward, Run, under-run, nothing, block}
-
--- ---- the next bytes of a leaf
-
-sum-front : (x r j o : ℕ) → x + r ≡ o → o + j ≡ x + (r + j)
-sum-front x r j o e = omega arith
-
--- j bytes on, in the same leaf
-same-leaf : (w o j : ℕ) → 0 < w → o % w + j < w → ((o + j) / w ≡ o / w) × ((o + j) % w ≡ o % w + j)
-same-leaf w o j pos h =
-    let e : o + j ≡ w * (o / w) + (o % w + j) = sum-front (w * (o / w)) (o % w) j o (div-add-mod o w) in
-    let z : o / w + 0 ≡ o / w = omega arith in (
-      ap (λ (x : ℕ). x / w) e ∙ mul-add-div pos (o / w) (o % w + j) ∙ ap (λ (x : ℕ). o / w + x) (div-eq-of-lt h) ∙ z,
-      ap (λ (x : ℕ). x % w) e ∙ mul-add-mod-self-left w (o / w) (o % w + j) ∙ mod-eq-of-lt h,
-    )
 
 -- ---- one run
 
@@ -77,15 +64,15 @@ module _ (log page : Bytes) (e : Entry) (offset : ℕ) (byte : ℕ → Option �
 
   stored-next : (t : ℕ) (s : Bytes) (r : Row) → held log t s ≡ some r → offset % e .dsize < length (r .bytes) → length (r .bytes) ≤ e .dsize
       → ((o : ℕ) → Onward e offset o → byte o ≡ some (getD (r .bytes) (o % e .dsize) 0))
-      → Next e offset byte (extentBytes log page (storedRun e offset (r .first) (length (r .bytes))))
+      → Next e offset byte (extentBytes log page (storedRun e offset (placeOf r)))
   unfolding k
   stored-next t s r h lt short f =
       let size = length (r .bytes) in
-      let n = min (403 - k % 403) (min (size - k) (e .size - offset)) in
-      let pos : 0 < n = least-pos (403 - k % 403) (size - k) (e .size - offset) (omega arith) (omega arith) (omega arith) in
-      let le = least-below (403 - k % 403) (size - k) (e .size - offset) in
+      let n = min (payload r - k % payload r) (min (size - k) (e .size - offset)) in
+      let pos : 0 < n = least-pos (payload r - k % payload r) (size - k) (e .size - offset) (room-left log t s r h k) (omega arith) (omega arith) in
+      let le = least-below (payload r - k % payload r) (size - k) (e .size - offset) in
       let fits : k + n ≤ size = omega (arith, le .1) in
-      let l : length (take n (drop k (r .bytes))) ≡ n = simp (length-take, length-drop) (omega arith) in
+      let l : length (take n (drop k (r .bytes))) ≡ n = length-take-le n (drop k (r .bytes)) (rw (length-drop k (r .bytes)) (le .1)) in
       rw (stored-bytes log t s r h k n pos (le .0) fits) (
         omega arith,
         omega (arith, l, le .2),

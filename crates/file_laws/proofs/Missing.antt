@@ -10,7 +10,7 @@ use Rattle.buffer.specs.Bytes.{Bytes, same}
 use Rattle.kind.specs.Kind.{zeroScore}
 use Rattle.refusal.specs.declared.Refusal.{Refusal}
 use Rattle.refusal.specs.declared.Refusal.the-variants as why
-use Rattle.block.specs.Block.{Row}
+use Rattle.block.specs.Block.{Row, placeOf}
 use Rattle.log.specs.LookUp.{held, absence, lentAllowed}
 use Rattle.log.specs.Parts.{tape}
 use Rattle.entry.specs.declared.Entry.{Entry}
@@ -50,7 +50,7 @@ held-if log t s count f a = go (held log t s) refl a
 pub under-whole : (log : Bytes) (page : ℕ) (e : Entry) (offset level : ℕ) (s : Bytes) → Reads (under log page e offset level s) → Whole log e offset level s
 unfolding under Whole
 under-whole log page e offset zero s a =
-    λ z. let h = held-if log (typeAt e 0) s (e .dsize) (λ (r : Row). leafRun page e offset (r .first) (length (r .bytes))) (looked (same s zeroScore) (zeroRun page e offset) _ z a) in
+    λ z. let h = held-if log (typeAt e 0) s (e .dsize) (λ (r : Row). leafRun page e offset (placeOf r)) (looked (same s zeroScore) (zeroRun page e offset) _ z a) in
     (h .0, h .1)
 under-whole log page e offset (suc d) s a =
     λ z. let f : Row → Extent = λ r. cond (eqb (length (r .bytes) % 20) 0) (under log page e offset d (pointer (r .bytes) (pointerIndex e offset d))) (Refused why.Pointers) in

@@ -11,7 +11,8 @@ use Rattle.buffer.specs.Bytes.{Bytes, same}
 use Rattle.kind.specs.Kind.{zeroScore}
 use Rattle.refusal.specs.declared.Refusal.{Refusal}
 use Rattle.refusal.specs.declared.Refusal.the-variants as why
-use Rattle.block.specs.Block.{Row}
+use Rattle.block.specs.declared.Block.{Block}
+use Rattle.block.specs.Block.{Row, placeOf}
 use Rattle.log.specs.LookUp.{held, absence}
 use Rattle.entry.specs.declared.Entry.{Entry}
 use Rattle.entry.specs.Entry.{entryOf, scoreOf}
@@ -56,14 +57,14 @@ module _ (log : Bytes) (p q : ℕ) (e : Entry) (offset : ℕ) where
   fetched-alike t s count f f′ g =
       on-alike (held log t s) (Refused (absence log)) _ _ (λ r. cond-alike (leb (length (r .bytes)) count) (f r) (f′ r) (Refused why.OverCount) (Refused why.OverCount) (g r) refl)
 
-  leaf-alike : (n size : ℕ) → whyNot (leafRun p e offset n size) ≡ whyNot (leafRun q e offset n size)
+  leaf-alike : (b : Block) → whyNot (leafRun p e offset b) ≡ whyNot (leafRun q e offset b)
   unfolding leafRun
-  leaf-alike n size = cond-alike (ltb (offset % e .dsize) size) (storedRun e offset n size) (storedRun e offset n size) (zeroRun p e offset) (zeroRun q e offset) refl refl
+  leaf-alike b = cond-alike (ltb (offset % e .dsize) (b .size)) (storedRun e offset b) (storedRun e offset b) (zeroRun p e offset) (zeroRun q e offset) refl refl
 
   under-alike : (level : ℕ) (s : Bytes) → whyNot (under log p e offset level s) ≡ whyNot (under log q e offset level s)
   unfolding under
   under-alike zero s =
-      cond-alike (same s zeroScore) (zeroRun p e offset) (zeroRun q e offset) _ _ refl (fetched-alike _ s (e .dsize) _ _ (λ r. leaf-alike (r .first) (length (r .bytes))))
+      cond-alike (same s zeroScore) (zeroRun p e offset) (zeroRun q e offset) _ _ refl (fetched-alike _ s (e .dsize) _ _ (λ r. leaf-alike (placeOf r)))
   under-alike (suc d) s =
       cond-alike (same s zeroScore) (zeroRun p e offset) (zeroRun q e offset) _ _ refl
       (fetched-alike (2 + suc d) s (e .psize) _ _

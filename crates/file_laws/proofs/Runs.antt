@@ -10,7 +10,7 @@ use lib.ListN.{length, getD, List·getD-eq-default}
 use Rattle.buffer.specs.Bytes.{Bytes, same}
 use Rattle.kind.specs.Kind.{zeroScore}
 use Rattle.refusal.specs.declared.Refusal.the-variants as why
-use Rattle.block.specs.Block.{Row}
+use Rattle.block.specs.Block.{Row, placeOf}
 use Rattle.log.specs.LookUp.{held}
 use Rattle.entry.specs.declared.Entry.{Entry}
 use Rattle.entry.specs.Entry.{entryOf, scoreOf, pointers}
@@ -65,7 +65,7 @@ Onward e offset o = (o / e .dsize ≡ offset / e .dsize) × (offset % e .dsize �
 pub data Run (log : Bytes) (page : ℕ) (e : Entry) (offset : ℕ) (byte : ℕ → Option ℕ) (x : Extent) : Type 0 where
   nothing : x ≡ zeroRun page e offset → ((o : ℕ) → Onward e offset o → byte o ≡ some 0) → Run log page e offset byte x
   block : (t : ℕ) (s : Bytes) (r : Row) → held log t s ≡ some r → offset % e .dsize < length (r .bytes) → length (r .bytes) ≤ e .dsize
-      → x ≡ storedRun e offset (r .first) (length (r .bytes)) → ((o : ℕ) → Onward e offset o → byte o ≡ some (getD (r .bytes) (o % e .dsize) 0))
+      → x ≡ storedRun e offset (placeOf r) → ((o : ℕ) → Onward e offset o → byte o ≡ some (getD (r .bytes) (o % e .dsize) 0))
       → Run log page e offset byte x
 
 module _ (log : Bytes) (page : ℕ) (e : Entry) (offset : ℕ) where
@@ -83,22 +83,22 @@ module _ (log : Bytes) (page : ℕ) (e : Entry) (offset : ℕ) where
   zero-run level s q = nothing (sym (under-zero log page e offset level s true (sym q) refl)) (λ o h. below-zero level s o q)
 
   leaf-run : (t : ℕ) (s : Bytes) (r : Row) → held log t s ≡ some r → length (r .bytes) ≤ e .dsize
-      → Run log page e offset (λ o. some (getD (r .bytes) (o % e .dsize) 0)) (leafRun page e offset (r .first) (length (r .bytes)))
+      → Run log page e offset (λ o. some (getD (r .bytes) (o % e .dsize) 0)) (leafRun page e offset (placeOf r))
   leaf-run t s r h k = go (ltb (offset % e .dsize) (length (r .bytes))) refl
     where
       go : (b : Bool) → ltb (offset % e .dsize) (length (r .bytes)) ≡ b
-          → Run log page e offset (λ o. some (getD (r .bytes) (o % e .dsize) 0)) (leafRun page e offset (r .first) (length (r .bytes)))
+          → Run log page e offset (λ o. some (getD (r .bytes) (o % e .dsize) 0)) (leafRun page e offset (placeOf r))
       go true q =
           let lt = ltb-true (offset % e .dsize) (length (r .bytes)) q in
-          block t s r h lt k (sym (leaf-in page e offset (r .first) (length (r .bytes)) lt)) (λ o g. refl)
+          block t s r h lt k (sym (leaf-in page e offset (placeOf r) lt)) (λ o g. refl)
       go false q =
           let le = ltb-false (offset % e .dsize) (length (r .bytes)) q in
-          nothing (sym (leaf-past page e offset (r .first) (length (r .bytes)) le))
+          nothing (sym (leaf-past page e offset (placeOf r) le))
           (λ o g. let past : length (r .bytes) ≤ o % e .dsize = omega (arith, g .1) in ap (λ (x : ℕ). some x) (List·getD-eq-default (r .bytes) 0 past))
 
   -- one level, where the score is not zero and its block is held
   module _ (s : Bytes) (q : same s zeroScore ≡ false) (r : Row) where
-    leaf-is : held log (typeAt e 0) s ≡ some r → leb (length (r .bytes)) (e .dsize) ≡ true → under log page e offset 0 s ≡ leafRun page e offset (r .first) (length (r .bytes))
+    leaf-is : held log (typeAt e 0) s ≡ some r → leb (length (r .bytes)) (e .dsize) ≡ true → under log page e offset 0 s ≡ leafRun page e offset (placeOf r)
     unfolding under
     leaf-is h k = rw (q, h, k)
 
@@ -124,7 +124,7 @@ module _ (log : Bytes) (page : ℕ) (e : Entry) (offset : ℕ) where
       go : (b : Bool) → same s zeroScore ≡ b → Run log page e offset (λ o. byteUnder log e o 0 s) (under log page e offset 0 s)
       go true q = zero-run 0 s q
       go false q =
-          let h = held-if log (typeAt e 0) s (e .dsize) (λ (r : Row). leafRun page e offset (r .first) (length (r .bytes))) (looked (same s zeroScore) (zeroRun page e offset) _ q a) in
+          let h = held-if log (typeAt e 0) s (e .dsize) (λ (r : Row). leafRun page e offset (placeOf r)) (looked (same s zeroScore) (zeroRun page e offset) _ q a) in
           rename _ _ _ _ (leaf-is s q (h .0) (h .1) (h .3)) (λ o g. leaf-byte s q (h .0) (h .1) o)
           (leaf-run (typeAt e 0) s (h .0) (h .1) (leb-true (length ((h .0) .bytes)) (e .dsize) (h .3)))
   under-run (suc d) s a = go (same s zeroScore) refl (under-run d)

@@ -9,10 +9,9 @@ use borrow.Author.Tests.{ltb-true, ltb-false}
 use lib.ListN.{length, getD, List·getD-eq-default}
 use Rattle.buffer.specs.Bytes.{Bytes}
 use Rattle.refusal.specs.declared.Refusal.{Refusal}
-use Rattle.sector_number.specs.declared.SectorNumber.{SectorNumber}
-use Rattle.block.specs.Block.{partsOf}
-use Rattle.block.specs.Log.{sectors}
-use Rattle.reader.specs.Reader.{bytesAt}
+use Rattle.block.specs.declared.Block.{Block}
+use Rattle.block.specs.Block.{Inside}
+use Rattle.block.specs.Log.{sectors, bytesOf}
 use Rattle.reader.proofs.Pieces.{length-bytes}
 use Rattle.log.specs.declared.Look.{Look}
 use Rattle.log.specs.declared.Look.the-variants as look
@@ -36,28 +35,28 @@ same-leaf w o j pos h =
     )
 
 -- the first byte of a leaf's run is the leaf's byte there, and zero past its end
-first-byte : (log : Bytes) (e : Entry) (o n size : ℕ) → n + partsOf size ≤ sectors (length log)
-    → byteOf log (leafRun 1 e o n size) ≡ byte (getD (bytesAt log n size) (o % e .dsize) 0)
-first-byte log e o n size h = go (ltb (o % e .dsize) size) refl
+first-byte : (log : Bytes) (e : Entry) (o : ℕ) (b : Block) → Inside (sectors (length log)) b
+    → byteOf log (leafRun 1 e o b) ≡ byte (getD (bytesOf log b) (o % e .dsize) 0)
+first-byte log e o b h = go (ltb (o % e .dsize) (b .size)) refl
   where
-    go : (t : Bool) → ltb (o % e .dsize) size ≡ t → byteOf log (leafRun 1 e o n size) ≡ byte (getD (bytesAt log n size) (o % e .dsize) 0)
+    go : (t : Bool) → ltb (o % e .dsize) (b .size) ≡ t → byteOf log (leafRun 1 e o b) ≡ byte (getD (bytesOf log b) (o % e .dsize) 0)
     go true q =
-        let lt = ltb-true (o % e .dsize) size q in
-        ap (byteOf log) (sym (leaf-in 1 e o n size lt)) ∙ ap byte (sym (byte-place log n size h (o % e .dsize) lt))
+        let lt = ltb-true (o % e .dsize) (b .size) q in
+        ap (byteOf log) (sym (leaf-in 1 e o b lt)) ∙ ap byte (sym (byte-place log b h (o % e .dsize) lt))
     go false q =
-        let ge = ltb-false (o % e .dsize) size q in
-        let past : length (bytesAt log n size) ≤ o % e .dsize = omega (arith, length-bytes log n size) in
-        ap (byteOf log) (sym (leaf-past 1 e o n size ge)) ∙ ap byte (sym (List·getD-eq-default (bytesAt log n size) 0 past))
+        let ge = ltb-false (o % e .dsize) (b .size) q in
+        let past : length (bytesOf log b) ≤ o % e .dsize = omega (arith, length-bytes log b (h .1)) in
+        ap (byteOf log) (sym (leaf-past 1 e o b ge)) ∙ ap byte (sym (List·getD-eq-default (bytesOf log b) 0 past))
 
 module _ (log : Bytes) (e : Entry) (top : Bytes) (offset : ℕ) (l : Look)
     (found : (page o : ℕ) → o / e .dsize ≡ offset / e .dsize → runIn page e o l ≡ under log page e o (e .depth) top) where
   pub leaf-refused : (w : Refusal) → l ≡ look.Refused w → byteBelow log e top offset ≡ refused w
   leaf-refused w z = ap (byteOf log) (sym (found 1 offset refl) ∙ ap (runIn 1 e offset) z)
 
-  pub leaf-bytes : (first : SectorNumber) (size : ℕ) → l ≡ look.Found first size → first .0 + partsOf size ≤ sectors (length log) → 0 < e .dsize
-      → (j : ℕ) → offset % e .dsize + j < e .dsize → byteBelow log e top (offset + j) ≡ byte (getD (bytesAt log (first .0) size) (offset % e .dsize + j) 0)
-  leaf-bytes first size z room pos j h =
+  pub leaf-bytes : (b : Block) → l ≡ look.Found b → Inside (sectors (length log)) b → 0 < e .dsize
+      → (j : ℕ) → offset % e .dsize + j < e .dsize → byteBelow log e top (offset + j) ≡ byte (getD (bytesOf log b) (offset % e .dsize + j) 0)
+  leaf-bytes b z room pos j h =
       let s = same-leaf (e .dsize) offset j pos h in
       ap (byteOf log) (sym (found 1 (offset + j) (s .0)) ∙ ap (runIn 1 e (offset + j)) z)
-      ∙ first-byte log e (offset + j) (first .0) size room
-      ∙ ap (λ (x : ℕ). byte (getD (bytesAt log (first .0) size) x 0)) (s .1)
+      ∙ first-byte log e (offset + j) b room
+      ∙ ap (λ (x : ℕ). byte (getD (bytesOf log b) x 0)) (s .1)

@@ -1,5 +1,5 @@
 -- One turn of the loop over leaves: the leaf's bytes written, or the refusal that ends it.
-use mathlib.Core.Path.{_≡_, ap, _∙_}
+use mathlib.Core.Path.{_≡_, sym, ap, _∙_, subst}
 use mathlib.Core.List.{_++_}
 use Prim.Native.Nat.{ℕ, _+_, _-_, _/_, _%_, _≤_, _<_, min}
 use native.Mathlib.Nat.{mod-lt}
@@ -9,17 +9,16 @@ use Rattle.buffer.specs.Bytes.{Bytes, put}
 use Rattle.buffer.proofs.Put.{put-mid, length-put}
 use Rattle.refusal.specs.declared.Refusal.{Refusal}
 use Rattle.sector.specs.Sector.{filled}
-use Rattle.sector_number.specs.declared.SectorNumber.{SectorNumber}
-use Rattle.block.specs.Block.{partsOf}
-use Rattle.block.specs.Log.{sectors, joined}
+use Rattle.block.specs.declared.Block.{Block}
+use Rattle.block.specs.Block.{Inside}
+use Rattle.block.specs.Log.{sectors, joined, bytesOf}
 use Rattle.block.proofs.Joined.{sectors-joined}
-use Rattle.reader.specs.Reader.{bytesAt}
 use Rattle.log.specs.declared.Look.{Look}
 use Rattle.log.specs.declared.Look.the-variants as look
 use Rattle.entry.specs.declared.Entry.{Entry}
 use Rattle.tree.proofs.Filled.{length-filled}
 use Rattle.file.specs.File.{under}
-use Rattle.file.specs.Fetch.{endOf, runIn}
+use Rattle.file.specs.Fetch.{LiesIn, runIn}
 use Rattle.fill.specs.declared.Stop.{Stop}
 use Rattle.fill.specs.Fill.{Read, byte, stopOf, byteBelow, gathered, fillOutcome, filledWith}
 use Rattle.fill.proofs.Gather.{Rest, rest-refused, rest-leaf}
@@ -29,9 +28,9 @@ use Rattle.fill.proofs.Leaf.{leaf-refused, leaf-bytes}
 abbrev pub Filling : (ℕ → Read) → ℕ → ℕ → Bytes → Bytes → ℕ → Type 0
 Filling read count offset d₀ d done = (done ≤ count) × (length d ≡ length d₀) × Rest read count offset d₀ d done
 
--- what ends within both parts ends within them read as one
-pub room-both : (u : ℕ) (log waiting : Bytes) → u ≤ sectors (length log) → (n : ℕ) → n ≤ u + sectors (length waiting) → n ≤ sectors (length (joined u log waiting))
-room-both u log waiting h n e = omega (arith, sectors-joined u log waiting h)
+-- what lies within both parts lies within them read as one
+pub room-both : (u : ℕ) (log waiting : Bytes) → u ≤ sectors (length log) → (l : Look) → LiesIn (u + sectors (length waiting)) l → LiesIn (sectors (length (joined u log waiting))) l
+room-both u log waiting h l e = subst (λ (n : ℕ). LiesIn n l) (sym (sectors-joined u log waiting h)) e
 
 -- the length of the part that is lent
 pub length-part : (d : Bytes) (done m : ℕ) → done + m ≤ length d → length (take (done + m - done) (drop done d)) ≡ m
@@ -50,7 +49,7 @@ least-of : (a b : ℕ) → 0 < a → 0 < b → (0 < min a b) × (min a b ≤ a) 
 least-of a b p q = (omega arith, omega arith, omega arith)
 
 module _ (log : Bytes) (e : Entry) (top : Bytes) (offset count : ℕ) (d₀ d : Bytes) (done : ℕ) (pos : 0 < e .dsize) (full : count ≤ length d₀)
-    (held : Filling (byteBelow log e top) count offset d₀ d done) (lt : done < count) (l : Look) (ends : endOf l ≤ sectors (length log))
+    (held : Filling (byteBelow log e top) count offset d₀ d done) (lt : done < count) (l : Look) (ends : LiesIn (sectors (length log)) l)
     (found : (page o : ℕ) → o / e .dsize ≡ (offset + done) / e .dsize → runIn page e o l ≡ under log page e o (e .depth) top) where
   pub leaf-missing : (w : Refusal) → l ≡ look.Refused w → (s : Stop) → s ≡ stopOf l
       → fillOutcome (record { count = done; stop = s }) d ≡ filledWith d₀ (gathered (byteBelow log e top) count offset)
@@ -58,7 +57,7 @@ module _ (log : Bytes) (e : Entry) (top : Bytes) (offset count : ℕ) (d₀ d : 
       ap (λ (x : Stop). fillOutcome (record { count = done; stop = x }) d) (es ∙ ap stopOf z)
       ∙ rest-refused (byteBelow log e top) count offset d₀ d done (held .2) w lt (leaf-refused log e top (offset + done) l found w z)
 
-  module _ (first : SectorNumber) (size : ℕ) (z : l ≡ look.Found first size) (m : ℕ) (em : m ≡ min (e .dsize - (offset + done) % e .dsize) (count - done)) where
+  module _ (b : Block) (z : l ≡ look.Found b) (m : ℕ) (em : m ≡ min (e .dsize - (offset + done) % e .dsize) (count - done)) where
     k : ℕ
     k = (offset + done) % e .dsize
 
@@ -76,21 +75,21 @@ module _ (log : Bytes) (e : Entry) (top : Bytes) (offset count : ℕ) (d₀ d : 
     pub leaf-within : done + m ≤ count
     leaf-within = omega (arith, least .2)
 
-    pub leaf-room : first .0 + partsOf size ≤ sectors (length log)
-    leaf-room = omega (arith, ends, ap endOf z)
+    pub leaf-room : Inside (sectors (length log)) b
+    leaf-room = subst (LiesIn (sectors (length log))) z ends
 
     pub leaf-written : (ys : Bytes)
-        → ys ≡ filled (length (take (done + m - done) (drop done d))) (drop ((offset + done) % e .dsize) (bytesAt log (first .0) size))
+        → ys ≡ filled (length (take (done + m - done) (drop done d))) (drop ((offset + done) % e .dsize) (bytesOf log b))
         → Filling (byteBelow log e top) count offset d₀ (take done d ++ (ys ++ drop (done + m - done) (drop done d))) (done + m)
     unfolding k
     leaf-written ys ey =
-        let b = bytesAt log (first .0) size in
+        let bytes = bytesOf log b in
         let same = held .1 in
         let fits : done + m ≤ length d = omega (arith, leaf-within) in
-        let put-in = part-filled-in d ys (drop k b) done m fits ey in
+        let put-in = part-filled-in d ys (drop k bytes) done m fits ey in
         let reads : (j : ℕ) → j < m → byteBelow log e top (offset + done + j) ≡ byte _ =
-        λ j g. leaf-bytes log e top (offset + done) l found first size z leaf-room pos j (omega (arith, least .1)) in (
+        λ j g. leaf-bytes log e top (offset + done) l found b z leaf-room pos j (omega (arith, least .1)) in (
           leaf-within,
-          ap length put-in ∙ length-put d done (filled m (drop k b)) (omega (arith, fits, length-filled m (drop k b))) ∙ same,
-          rest-leaf (byteBelow log e top) count offset d₀ d done (held .2) b k m _ leaf-within (omega (arith, fits)) reads put-in,
+          ap length put-in ∙ length-put d done (filled m (drop k bytes)) (omega (arith, fits, length-filled m (drop k bytes))) ∙ same,
+          rest-leaf (byteBelow log e top) count offset d₀ d done (held .2) bytes k m _ leaf-within (omega (arith, fits)) reads put-in,
         )

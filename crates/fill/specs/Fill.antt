@@ -28,7 +28,7 @@ stopNumber (Refused w) = numberOf w
 
 -- how filling ends that ends with a look-up
 abbrev pub stopOf : Look → Stop
-stopOf (look.Found first size) = Done
+stopOf (look.Found b) = Done
 stopOf (look.Refused w) = Refused w
 
 -- what is read at an offset: a byte, or why there is none

@@ -37,7 +37,7 @@ fn stop_of(look: Look) -> Stop
     ensures { λ r. ⌜ r ≡ stopOf look ⌝ }
 {
     match look {
-        Look::Found { first: _, size: _ } => Stop::Done,
+        Look::Found(_) => Stop::Done,
         Look::Refused(why) => Stop::Refused(why),
     }
 }
@@ -70,7 +70,7 @@ fn fill_leaves<'a>(
     while done < count {
         let o = offset + done as u64;
         let look = file::descend(log, end, waiting, e, o, top);
-        let Look::Found { first, size } = look else {
+        let Look::Found(b) = look else {
             return Filled {
                 count: done,
                 stop: stop_of(look),
@@ -78,7 +78,7 @@ fn fill_leaves<'a>(
         };
         let k = (o % e.dsize as u64) as usize;
         let next = done + lesser(e.dsize - k, (count - done) as u64);
-        tree::read_part(log, end, waiting, first, size, k, &mut d[done..next]);
+        tree::read_part(log, end, waiting, b, k, &mut d[done..next]);
         done = next;
     }
     Filled {

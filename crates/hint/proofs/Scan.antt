@@ -5,14 +5,13 @@ use mathlib.Core.Logic.{_≢_, _⊎_, inl, inr}
 use mathlib.Core.Option.{Option, none, some}
 use Prim.Native.Nat.{ℕ}
 use native.Mathlib.Omega.{arith}
-use lib.ListN.{length}
 use Rattle.ground.specs.Choice.{on}
 use Rattle.ground.proofs.Cases.{and-true}
 use Rattle.buffer.specs.Bytes.{Bytes, same}
 use Rattle.buffer.proofs.Bytes.{same-true}
 use Rattle.kind.specs.Kind.{lawful, zeroScore}
 use Rattle.refusal.specs.declared.Refusal.{Refusal}
-use Rattle.block.specs.Block.{Row}
+use Rattle.block.specs.Block.{Row, placeOf}
 use Rattle.block.specs.Log.{sound}
 use Rattle.log.specs.LookUp.{blocks, firstOf, emptyRow, held, absence, lookUp, lookNumber, lookSector}
 use Rattle.log.specs.declared.Look.{Look}
@@ -45,7 +44,7 @@ hint-is-scan log index c t s = seen bytesOf log index t s
     ap (λ (y : Bytes). some y) (c r x (a .0) (b .0) (a .1 ∙ sym (b .1)) (a .2 ∙ sym (b .2))))
 
 look : Bytes → Option Row → Look
-look log o = on o (Refused (absence log)) (λ (r : Row). Found (record { 0 = r .first }) (length (r .bytes)))
+look log o = on o (Refused (absence log)) (λ (r : Row). Found (placeOf r))
 
 pub refuses-alike : RefusesAlike
 unfolding lookUpBy lookUp look

@@ -8,7 +8,7 @@ use Rattle.ground.specs.Choice.{on}
 use Rattle.buffer.specs.Bytes.{Bytes, same}
 use Rattle.kind.specs.Kind.{lawful, zeroScore}
 use Rattle.refusal.specs.declared.Refusal.the-variants.{LogLength, BlockType}
-use Rattle.block.specs.Block.{Row}
+use Rattle.block.specs.Block.{Row, placeOf}
 use Rattle.block.specs.Log.{sound}
 use Rattle.log.specs.Parts.{tape}
 use Rattle.log.specs.LookUp.{blocks, firstOf, emptyRow, absence, lentAllowed}
@@ -39,7 +39,7 @@ heldBy log index t s = cond (lawful t && same s zeroScore) (some (emptyRow t)) (
 
 -- "Look-up by index also tells where the stored block it found starts"; a block that isn't found is refused as by the scan
 unfoldable pub lookUpBy : Bytes → Bytes → ℕ → Bytes → Look
-lookUpBy log index t s = on (heldBy log index t s) (Refused (absence log)) (λ r. Found (record { 0 = r .first }) (length (r .bytes)))
+lookUpBy log index t s = on (heldBy log index t s) (Refused (absence log)) (λ r. Found (placeOf r))
 
 -- look-up by index asked outside messages: tests 3 and 9, as for the scan
 unfoldable pub lookUpByAsked : Bytes → Bytes → Bytes → ℕ → Bytes → Look

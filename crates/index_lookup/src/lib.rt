@@ -1,6 +1,6 @@
 // Look-up by index in a log and the sectors that wait behind its used part, and the index rebuilt from a log.
 use log::Look;
-use lookup::Place;
+use reader::Place;
 use refusal::Refusal;
 use sector::SECTOR;
 use sector_number::SectorNumber;
@@ -8,7 +8,7 @@ ghost use mathlib.Core.Path.{_≡_};
 ghost use Prim.Native.Nat.{_+_, _*_, _≤_};
 ghost use lib.ListN.{length};
 ghost use Rattle.block.specs.Log.{sectors, joined};
-ghost use Rattle.lookup.specs.Place.{placeOf};
+ghost use Rattle.reader.specs.Reader.{placed};
 ghost use Rattle.hint.specs.Hint.{trueAt, hint, heldBy, lookUpBy, lookUpByAsked};
 
 // The block that the entry at a place is true of: it names the score and type, and such a block starts at its sector.
@@ -22,7 +22,7 @@ fn true_at<'a>(
     score: &[u8],
 ) -> Place
     requires { ⌜ (end .0 ≤ sectors (length (now log))) × (25 * p + 25 ≤ length (now index)) × (length (now score) ≡ 20) ⌝ }
-    ensures { λ r. ⌜ r ≡ placeOf (trueAt (joined (end .0) (now (log .entry)) (now (waiting .entry))) (now (index .entry)) kind (now (score .entry)) p) ⌝ }
+    ensures { λ r. ⌜ r ≡ placed (trueAt (joined (end .0) (now (log .entry)) (now (waiting .entry))) (now (index .entry)) kind (now (score .entry)) p) ⌝ }
 {
     if !index::names(index, p, kind, score) {
         return Place::Nowhere;
@@ -31,11 +31,7 @@ fn true_at<'a>(
     if end.0 + waiting.len() / SECTOR <= first.0 {
         return Place::Nowhere;
     }
-    let size = reader::sound_as(log, end, waiting, first, kind, score);
-    if size == 0 {
-        return Place::Nowhere;
-    }
-    Place::At { first, size }
+    reader::sound_as(log, end, waiting, first, kind, score)
 }
 
 // The block of the first entry of the bucket that is true.
@@ -48,7 +44,7 @@ fn find_hint<'a>(
     score: &[u8],
 ) -> Place
     requires { ⌜ (end .0 ≤ sectors (length (now log))) × (length (now score) ≡ 20) ⌝ }
-    ensures { λ r. ⌜ r ≡ placeOf (hint (joined (end .0) (now (log .entry)) (now (waiting .entry))) (now (index .entry)) kind (now (score .entry))) ⌝ }
+    ensures { λ r. ⌜ r ≡ placed (hint (joined (end .0) (now (log .entry)) (now (waiting .entry))) (now (index .entry)) kind (now (score .entry))) ⌝ }
 {
     let b = index::bucket_of(index, score);
     let mut p = b.from;
@@ -72,7 +68,7 @@ fn find_held_by<'a>(
     score: &[u8],
 ) -> Place
     requires { ⌜ (end .0 ≤ sectors (length (now log))) × (length (now score) ≡ 20) ⌝ }
-    ensures { λ r. ⌜ r ≡ placeOf (heldBy (joined (end .0) (now (log .entry)) (now (waiting .entry))) (now (index .entry)) kind (now (score .entry))) ⌝ }
+    ensures { λ r. ⌜ r ≡ placed (heldBy (joined (end .0) (now (log .entry)) (now (waiting .entry))) (now (index .entry)) kind (now (score .entry))) ⌝ }
 {
     if kind::is_lawful(kind) {
         if kind::is_zero_score(score) {
@@ -99,10 +95,10 @@ pub fn look_up_by<'a>(
     ensures { λ r. ⌜ r ≡ lookUpBy (joined (end .0) (now (log .entry)) (now (waiting .entry))) (now (index .entry)) kind (now (score .entry)) ⌝ }
 {
     let place = find_held_by(log, end, waiting, index, kind, score);
-    let Place::At { first, size } = place else {
+    let Place::At(b) = place else {
         return Look::Refused(lookup::why_absent(log, end, waiting));
     };
-    Look::Found { first, size }
+    Look::Found(b)
 }
 
 // The public look-up by index: any log, waiting part, index, type and score.

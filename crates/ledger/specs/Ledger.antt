@@ -20,7 +20,7 @@ hasAll cs n (suc k) = has n cs && hasAll cs (suc n) k
 
 -- rows of any kind, by their first sectors and how many they cover
 module _ {Row : Type 0} (first parts : Row → ℕ) where
-  -- "A row covers sectors from there on, its byte count over 403 rounded up"
+  -- "A row covers sectors from there on, its byte count over 403 rounded up"; "a dated row covers sectors by 389"
   abbrev pub rowCovers : Row → ℕ → Bool
   rowCovers r n = within (first r) (parts r) n
 

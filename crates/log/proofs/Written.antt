@@ -1,4 +1,4 @@
--- Appending a block hides nothing: on any log, what look-up found it finds again, at the same place.
+-- Appending a block hides nothing: on any log, what look-up found it finds again, at the same place; and the block is found.
 use mathlib.Core.Path.{_≡_, refl, sym, ap, _∙_}
 use mathlib.Core.Bool.{Bool, true, false, cond, _&&_}
 use mathlib.Core.List.{List, [], _∷_, _++_}
@@ -6,10 +6,11 @@ use mathlib.Core.Option.{Option, none, some}
 use Prim.Native.Nat.{ℕ, zero, suc, _+_, _-_, _≤_, _<_}
 use native.Mathlib.Omega.{arith}
 use lib.Dec.{eqb, leb}
-use borrow.Author.Tests.{lt-leb, le-leb, lt-ltb, leb-true, leb-false}
+use borrow.Author.Tests.{lt-leb, le-leb, lt-ltb, leb-true, leb-false, eq-eqb}
 use lib.ListN.{length}
 use Rattle.ground.specs.Places.{foundFrom}
 use Rattle.buffer.specs.Bytes.{Bytes, same}
+use Rattle.buffer.proofs.Bytes.{same-refl}
 use Rattle.kind.specs.Kind.{lawful, zeroScore}
 use Rattle.block.specs.Block.{Row, parts, image, valid, written}
 use Rattle.block.specs.Log.{sectors, at, used, sound}
@@ -20,8 +21,8 @@ use Rattle.block.proofs.Written.{length-written, at-written}
 use Rattle.block.proofs.Sound.{sound-reads, sound-finds}
 use Rattle.block.proofs.Apart.{sound-used}
 use Rattle.log.specs.LookUp.{blocks, firstOf, emptyRow, held}
-use Rattle.log.proofs.Blocks.{blocks-append, blocks-used}
-use Rattle.log.specs.Laws.{HeldStays}
+use Rattle.log.proofs.Blocks.{blocks-append, blocks-used, one-some}
+use Rattle.log.specs.Laws.{HeldStays, AppendedIsHeld}
 
 -- rows behind do not hide the first of a type and score
 pub first-front : (t : ℕ) (s : Bytes) (xs ys : List Row) (r : Row) → firstOf t s xs ≡ some r → firstOf t s (xs ++ ys) ≡ some r
@@ -31,6 +32,16 @@ first-front t s (x ∷ xs) ys r e = go (eqb (x .kind) t && same (x .score) s) e 
   where
     go : (b : Bool) → cond b (some x) (firstOf t s xs) ≡ some r → (firstOf t s xs ≡ some r → firstOf t s (xs ++ ys) ≡ some r) → cond b (some x) (firstOf t s (xs ++ ys)) ≡ some r
     go true e f = e
+    go false e f = f e
+
+-- where none is, the first of those behind is the first
+first-behind : (t : ℕ) (s : Bytes) (xs ys : List Row) → firstOf t s xs ≡ none → firstOf t s (xs ++ ys) ≡ firstOf t s ys
+unfolding firstOf
+first-behind t s [] ys e = refl
+first-behind t s (x ∷ xs) ys e = go (eqb (x .kind) t && same (x .score) s) e (first-behind t s xs ys)
+  where
+    go : (b : Bool) → cond b (some x) (firstOf t s xs) ≡ none → (firstOf t s xs ≡ none → firstOf t s (xs ++ ys) ≡ firstOf t s ys) → cond b (some x) (firstOf t s (xs ++ ys)) ≡ firstOf t s ys
+    go true e f = let z : _≡_ {A = ℕ} 0 1 = cc in absurd (omega arith)
     go false e f = f e
 
 -- the same sound blocks at each of k sectors
@@ -44,11 +55,15 @@ module _ (log : Bytes) (r : Row) (v : valid r ≡ true) (end : r .first ≡ used
   kept : (n : ℕ) → n < used log → at (written log r) n ≡ at log n
   kept n h = at-written log r v room n ∙ rw (lt-leb (r .first) n (omega arith))
 
+  written-at : (k : ℕ) → k < parts r → at (written log r) (r .first + k) ≡ image r k
+  written-at k h =
+      let z : r .first + k - r .first ≡ k = omega arith in
+      at-written log r v room (r .first + k) ∙ rw (le-leb (r .first) (r .first + k) (omega arith), lt-ltb (r .first + k) (r .first + parts r) (omega arith), z)
+
   start : at (written log r) (r .first) ≡ image r 0
   start =
-      let pos : 0 < parts r = parts-pos r v in
-      let z : r .first - r .first ≡ 0 = omega arith in
-      at-written log r v room (r .first) ∙ rw (le-leb (r .first) (r .first) (omega arith), lt-ltb (r .first) (r .first + parts r) (omega arith), z)
+      let z : r .first + 0 ≡ r .first = omega arith in
+      ap (at (written log r)) (sym z) ∙ written-at 0 (parts-pos r v)
 
   -- a sound block in the used part is sound still
   pub still : (n : ℕ) (x : Row) → sound log n ≡ some x → sound (written log r) n ≡ some x
@@ -108,3 +123,31 @@ held-written log r v end room t s x e = go (lawful t && same s zeroScore) e
     go : (b : Bool) → cond b (some (emptyRow t)) (firstOf t s (blocks log)) ≡ some x → cond b (some (emptyRow t)) (firstOf t s (blocks (written log r))) ≡ some x
     go true q = q
     go false q = ap (firstOf t s) (same-front log r v end room) ∙ first-front t s (blocks log) (foundFrom (sound (written log r)) (sectors (length log) - used log) (0 + used log)) x q
+
+pub held-appended : AppendedIsHeld
+unfolding held firstOf
+held-appended log r v end room e = go (lawful (r .kind) && same (r .score) zeroScore) e
+  where
+    k : ℕ
+    k = sectors (length log) - used log - 1
+
+    more : sectors (length log) - used log ≡ suc k
+    more = omega (arith, end, room, parts-pos r v)
+
+    there : sound (written log r) (r .first) ≡ some r
+    there = sound-finds (written log r) r v (omega (arith, room, ap sectors (length-written log r v room))) (written-at log r v end room)
+
+    behind : firstOf (r .kind) (r .score) (foundFrom (sound (written log r)) (sectors (length log) - used log) (0 + used log)) ≡ some r
+    behind =
+        let here : sound (written log r) (0 + used log) ≡ some r = ap (sound (written log r)) (omega (arith, end)) ∙ there in
+        ap (λ (n : ℕ). firstOf (r .kind) (r .score) (foundFrom (sound (written log r)) n (0 + used log))) more
+        ∙ ap (firstOf (r .kind) (r .score)) (one-some (written log r) k (0 + used log) r here)
+        ∙ rw (eq-eqb (r .kind) (r .kind) refl, same-refl (r .score))
+
+    go : (b : Bool) → cond b (some (emptyRow (r .kind))) (firstOf (r .kind) (r .score) (blocks log)) ≡ none
+        → cond b (some (emptyRow (r .kind))) (firstOf (r .kind) (r .score) (blocks (written log r))) ≡ some r
+    go true q = let z : _≡_ {A = ℕ} 0 1 = cc in absurd (omega arith)
+    go false q =
+        ap (firstOf (r .kind) (r .score)) (same-front log r v end room)
+        ∙ first-behind (r .kind) (r .score) (blocks log) (foundFrom (sound (written log r)) (sectors (length log) - used log) (0 + used log)) q
+        ∙ behind

@@ -10,7 +10,7 @@ use Rattle.sector_number.specs.declared.SectorNumber.{SectorNumber}
 use Rattle.refusal.specs.Number.{numberOf, toldSector}
 use Rattle.refusal.specs.declared.Refusal.the-variants.{LogLength, BlockType, NotKnown}
 use Rattle.kind.specs.Kind.{lawful}
-use Rattle.block.specs.Block.{Row, parts, valid, written}
+use Rattle.block.specs.Block.{Row, parts, placeOf, valid, written}
 use Rattle.block.specs.Log.{sectors, Alike, used, sound}
 use Rattle.log.specs.Parts.{tape}
 use Rattle.log.specs.declared.Look.the-variants.{Refused}
@@ -25,6 +25,11 @@ HeldStays = (log : Bytes) (r : Row) → valid r ≡ true → r .first ≡ used l
 abbrev pub BlocksAppended : Type 0
 BlocksAppended = (log : Bytes) (r : Row) → valid r ≡ true → r .first ≡ used log → r .first + parts r ≤ sectors (length log)
     → blocks (written log r) ≡ blocks log ++ (r ∷ [])
+
+-- and what is appended is found, where no block of its type and score was
+abbrev pub AppendedIsHeld : Type 0
+AppendedIsHeld = (log : Bytes) (r : Row) → valid r ≡ true → r .first ≡ used log → r .first + parts r ≤ sectors (length log)
+    → held log (r .kind) (r .score) ≡ none → held (written log r) (r .kind) (r .score) ≡ some r
 
 -- a pass from the front stands at n: no block that starts before n reaches past it
 abbrev pub PassedTo : Bytes → ℕ → Type 0
@@ -46,10 +51,10 @@ FirstAt = (log : Bytes) (n : ℕ) → outside (blocks log) n ≡ 0 → n < used 
 abbrev pub FirstEnd : Type 0
 FirstEnd = (log : Bytes) (n : ℕ) → outside (blocks log) n ≡ 0 → used log ≤ n → firstDoubtful log ≡ used log
 
--- "gives this paper's number and values": 0 with the place and size of the block that is found; else 12 or 11, and no place
+-- "gives this paper's number and values": 0 with the place of the block that is found; else 12 or 11, and no place
 abbrev pub LookUpGives : Type 0
 LookUpGives = (log : Bytes) (t : ℕ) (s : Bytes)
-    → ((r : Row) → held log t s ≡ some r → (lookNumber (lookUp log t s) ≡ 0) × (lookPlace (lookUp log t s) ≡ some (r .first, length (r .bytes))))
+    → ((r : Row) → held log t s ≡ some r → (lookNumber (lookUp log t s) ≡ 0) × (lookPlace (lookUp log t s) ≡ some (placeOf r)))
     × (held log t s ≡ none
     → (lookNumber (lookUp log t s) ≡ numberOf (absence log)) × (lookPlace (lookUp log t s) ≡ none) × (lookSector (lookUp log t s) ≡ toldSector (absence log)))
 

@@ -12,7 +12,8 @@ use Rattle.kind.specs.Kind.{lawful, zeroScore}
 use Rattle.refusal.specs.Number.{numberOf, toldSector}
 use Rattle.refusal.specs.declared.Refusal.{Refusal}
 use Rattle.refusal.specs.declared.Refusal.the-variants.{LogLength, BlockType, NotHeld, NotKnown, OverCount}
-use Rattle.block.specs.Block.{Row, parts}
+use Rattle.block.specs.Block.{Row, parts, placeOf}
+use Rattle.block.specs.declared.Block.{Block}
 use Rattle.block.specs.Log.{sectors, used, sound}
 use Rattle.log.specs.Parts.{tape}
 use Rattle.log.specs.declared.Look.{Look}
@@ -50,7 +51,7 @@ firstOf t s (r ∷ rows) = cond (eqb (r .kind) t && same (r .score) s) (some r) 
 
 -- "the zero score (SHA-1 of no bytes) is the empty block for each of the ten types, always"
 abbrev pub emptyRow : ℕ → Row
-emptyRow t = record { kind = t; score = zeroScore; bytes = []; first = 0 }
+emptyRow t = record { kind = t; score = zeroScore; bytes = []; first = 0; date = [] }
 
 -- "Else the first sound block with both"
 unfoldable pub held : Bytes → ℕ → Bytes → Option Row
@@ -61,26 +62,26 @@ unfoldable pub absence : Bytes → Refusal
 absence log = cond (eqb (doubtful log) 0) NotHeld (NotKnown (record { 0 = firstDoubtful log }))
 
 unfoldable pub lookUp : Bytes → ℕ → Bytes → Look
-lookUp log t s = on (held log t s) (Refused (absence log)) (λ r. Found (record { 0 = r .first }) (length (r .bytes)))
+lookUp log t s = on (held log t s) (Refused (absence log)) (λ r. Found (placeOf r))
 
 -- 13 is "block longer than count"
 abbrev pub counted : ℕ → Look → Look
-counted count (Found first size) = cond (ltb count size) (Refused OverCount) (Found first size)
+counted count (Found b) = cond (ltb count (b .size)) (Refused OverCount) (Found b)
 counted count (Refused w) = Refused w
 
--- "gives this paper's number and values": a look-up's number, 0 where it finds a block; the values are then its first sector and size
+-- "gives this paper's number and values": a look-up's number, 0 where it finds a block; the values are then its first sector and size, and how long its labels are
 abbrev pub lookNumber : Look → ℕ
-lookNumber (Found first size) = 0
+lookNumber (Found b) = 0
 lookNumber (Refused w) = numberOf w
 
--- the block's first sector and size, where it finds one
-abbrev pub lookPlace : Look → Option (ℕ × ℕ)
-lookPlace (Found first size) = some (first .0, size)
+-- the block's place, where it finds one
+abbrev pub lookPlace : Look → Option Block
+lookPlace (Found b) = some b
 lookPlace (Refused w) = none
 
 -- the doubtful sector that it tells, 0 where it tells none
 abbrev pub lookSector : Look → ℕ
-lookSector (Found first size) = 0
+lookSector (Found b) = 0
 lookSector (Refused w) = toldSector w
 
 -- "The limit of 131,072 sectors becomes 1,048,576, with refusal 3 beyond it"

@@ -1,10 +1,11 @@
 // Look-up and store in any log.
+use block::Block;
 use refusal::Refusal;
 use sector_number::SectorNumber;
 
-// What a look-up finds: the block's place and size, or the reason why there is none. The empty block is found at sector 0 with size 0.
+// What a look-up finds: the block's place, or the reason why there is none. The empty block is found at sector 0 with size 0.
 pub enum Look {
-    Found { first: SectorNumber, size: usize },
+    Found(Block),
     Refused(Refusal),
 }
 

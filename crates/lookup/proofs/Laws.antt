@@ -1,31 +1,38 @@
 -- Case laws of the look-up's functions.
-use mathlib.Core.Path.{_≡_, refl, sym, ap, _∙_}
-use mathlib.Core.Bool.{Bool, true, false, _&&_, true≢false}
+use mathlib.Core.Path.{_≡_, refl, sym, ap, ap₂, _∙_}
+use mathlib.Core.Bool.{Bool, true, false, _&&_, _||_, true≢false}
 use mathlib.Core.Option.{Option, none, some}
 use Prim.Native.Nat.{ℕ, suc, _+_, _-_, _/_, _%_, _≤_, _<_}
 use native.Mathlib.Omega.{arith}
 use native.Mathlib.Numerals.{add-one}
 use lib.Dec.{leb, eqb}
 use borrow.Author.Tests.{eq-eqb, ne-eqb, leb-true, lt-ltb, le-ltb}
-use lib.ListN.{length}
+use lib.ListN.{length, take, drop, length-drop}
+use lib.Seq.{drop-drop, drop-at, take-add, take-all, length-take-le}
 use Rattle.ground.specs.Places.{foundFrom}
 use Rattle.ground.specs.Choice.{on}
 use Rattle.ground.proofs.Cases.{and-true}
 use Rattle.buffer.specs.Bytes.{Bytes, same}
 use Rattle.word.specs.Hex.{hexBytes}
-use Rattle.sector.specs.Sector.{scoreDigits}
-use Rattle.block.specs.Block.{Row, parts, partsOf}
+use Rattle.buffer.proofs.Bytes.{same-true, same-refl}
+use Rattle.sector.specs.Sector.{frontOf, isDated, behind, scoreDigits}
+use Rattle.sector.proofs.Dates.{front-some, undated}
+use Rattle.block.proofs.At.{length-at}
+use Rattle.lookup.specs.Digits.{mayHold}
+use Rattle.block.specs.Block.{Row, parts, partsIn, placeOf}
+use Rattle.block.specs.declared.Block.{Block}
 use Rattle.block.specs.Log.{sectors, at, Alike, joined, used, sound, soundAs}
 use Rattle.block.proofs.Used.{used-le-sectors}
 use Rattle.block.proofs.Joined.{at-alone}
-use Rattle.block.proofs.Facts.{valid-facts}
-use Rattle.block.proofs.Sound.{sound-reads, as-reads, as-digits}
+use Rattle.block.proofs.Facts.{valid-facts, label-bounds, parts-pos}
+use Rattle.block.proofs.Sound.{sound-reads, as-digits}
 use Rattle.block.proofs.Apart.{sound-used}
-use Rattle.reader.specs.Reader.{sizeOf}
+use Rattle.reader.specs.Reader.{placed}
+use Rattle.reader.specs.declared.Place.{Place}
+use Rattle.reader.specs.declared.Place.the-variants.{At, Nowhere}
 use Rattle.kind.specs.Kind.{lawful, longest, zeroScore}
 use Rattle.refusal.specs.declared.Refusal.{Refusal}
 use Rattle.refusal.specs.declared.Refusal.the-variants.{LogLength, BlockType, NotHeld, NotKnown, OverCount}
-use Rattle.sector_number.specs.declared.SectorNumber.{SectorNumber}
 use Rattle.log.specs.declared.Look.{Look}
 use Rattle.log.specs.declared.Look.the-variants.{Found, Refused}
 use Rattle.log.specs.LookUp.{blocks, firstOf, outside, firstDoubtful, mostSectors, logAllowed, mostWaiting, waitingAllowed, lentAllowed, held, absence, lookUp, counted, lookUpAsked}
@@ -36,9 +43,6 @@ use Rattle.log.proofs.Doubt.{walked-some, doubtful-at, doubt-some}
 use Rattle.log.proofs.FirstDoubt.{first-at, first-end, absence-known, absence-held}
 use Rattle.log.proofs.Alike.{look-up-alike}
 use Rattle.log.proofs.Parts.{tape-alone}
-use Rattle.lookup.specs.Place.{placeOf}
-use Rattle.lookup.specs.declared.Place.{Place}
-use Rattle.lookup.specs.declared.Place.the-variants.{At, Nowhere}
 
 -- a log's length
 pub ragged : (m : ℕ) → (m % 512 ≡ 0 → ⊥) → false ≡ logAllowed m
@@ -62,30 +66,62 @@ pub lent-whole : (m w : ℕ) (a : Bool) → a ≡ logAllowed m → a ≡ true �
 unfolding lentAllowed waitingAllowed
 lent-whole m w a p q h = rw (sym p ∙ q, eq-eqb (w % 512) 0 h)
 
--- the size of a sound block is not 0
-pub sized : (o : Option Row) (n : ℕ) → n ≡ sizeOf o → 0 < n → (r : Row) × (o ≡ some r) × (n ≡ length (r .bytes))
-sized none n e h = absurd (omega arith)
-sized (some r) n e h = (r, refl, e)
+-- where a block stands
+pub placed-some : (o : Option Row) (p : Place) (b : Block) → p ≡ placed o → p ≡ At b → (r : Row) × (o ≡ some r) × (b ≡ placeOf r)
+placed-some none p b e z = let q : Nowhere ≡ At b = sym e ∙ z in let y : _≡_ {A = ℕ} 0 1 = cc in absurd (omega arith)
+placed-some (some r) p b e z = let q : At (placeOf r) ≡ At b = sym e ∙ z in (r, refl, cc)
 
-sized-none : (o : Option Row) → ((r : Row) → o ≡ some r → 1 ≤ length (r .bytes)) → 0 ≡ sizeOf o → o ≡ none
-sized-none none f e = refl
-sized-none (some r) f e = absurd (omega (arith, f r refl))
+pub placed-none : (o : Option Row) (p : Place) → p ≡ placed o → p ≡ Nowhere → o ≡ none
+placed-none none p e z = refl
+placed-none (some r) p e z = let q : At (placeOf r) ≡ Nowhere = sym e ∙ z in let y : _≡_ {A = ℕ} 0 1 = cc in absurd (omega arith)
 
-pub none-sound : (log : Bytes) (n k : ℕ) → k ≡ sizeOf (sound log n) → k ≡ 0 → sound log n ≡ none
-none-sound log n k e z = sized-none (sound log n) (λ r q. (valid-facts r ((sound-reads log n r q) .0)) .some-bytes) (sym z ∙ e)
+-- the digits in either edition's place
+tail-of : (x : Bytes) → 64 ≤ length x → take 31 (drop 64 x) ≡ drop 9 (scoreDigits x)
+tail-of x h =
+    let y = drop 55 x in
+    let l : length (take 9 y) ≡ 9 = length-take-le 9 y (omega (arith, length-drop 55 x)) in
+    ap (take 31) (sym (drop-drop 9 55 x)) ∙ sym (drop-at (take 9 y) (take 31 (drop 9 y)) 9 l) ∙ ap (drop 9) (sym (take-add 9 31 y))
 
-pub none-as : (log : Bytes) (n t : ℕ) (s : Bytes) (k : ℕ) → k ≡ sizeOf (soundAs log n t s) → k ≡ 0 → soundAs log n t s ≡ none
-none-as log n t s k e z = sized-none (soundAs log n t s) (λ r q. (valid-facts r ((sound-reads log n r ((as-reads log n t s r q) .0)) .0)) .some-bytes) (sym z ∙ e)
+or-true : (b : Bool) → (b || true) ≡ true
+or-true true = refl
+or-true false = refl
+
+holds-score : (x d : Bytes) → 64 ≤ length x → scoreDigits (behind x) ≡ d → mayHold x d ≡ true
+unfolding mayHold
+holds-score x d h e = go (isDated x) refl
+  where
+    go : (b : Bool) → isDated x ≡ b → (same (take 40 (drop 69 x)) d || same (take 31 (drop 64 x)) (drop 9 d)) ≡ true
+    go true q =
+        let z : take 40 (drop 69 x) ≡ d =
+        ap (take 40) (sym (drop-drop 55 14 x)) ∙ ap (λ (k : ℕ). take 40 (drop 55 (drop k x))) (front-some x q) ∙ e in
+        ap (λ (y : Bytes). same y d || same (take 31 (drop 64 x)) (drop 9 d)) z ∙ ap (λ (t : Bool). t || same (take 31 (drop 64 x)) (drop 9 d)) (same-refl d)
+    go false q =
+        let f : behind x ≡ x = ap (λ (y : Bytes). drop (length (frontOf y)) x) (undated x q) in
+        let z : take 31 (drop 64 x) ≡ drop 9 d = tail-of x h ∙ ap (λ (y : Bytes). drop 9 (scoreDigits y)) (sym f) ∙ ap (drop 9) e in
+        ap (λ (y : Bytes). same (take 40 (drop 69 x)) d || same y (drop 9 d)) z
+        ∙ ap (λ (t : Bool). same (take 40 (drop 69 x)) d || t) (same-refl (drop 9 d)) ∙ or-true (same (take 40 (drop 69 x)) d)
+
+-- as the code tests them
+pub holds-dated : (x d : Bytes) (a : Bool) → a ≡ same (take 40 (drop 69 x)) d → a ≡ true → true ≡ mayHold x d
+unfolding mayHold
+holds-dated x d a p q = rw (sym p ∙ q) refl
+
+pub holds-plain : (x d : Bytes) (a b : Bool) → a ≡ same (take 40 (drop 69 x)) d → a ≡ false
+    → b ≡ same (take 31 (drop 64 x)) (take (length d - 9) (drop 9 d)) → length d ≡ 40 → b ≡ mayHold x d
+unfolding mayHold
+holds-plain x d a b p q e h =
+    let n : length (drop 9 d) ≤ length d - 9 = omega (arith, length-drop 9 d) in
+    rw (sym p ∙ q) (e ∙ ap (same (take 31 (drop 64 x))) (take-all (length d - 9) (drop 9 d) n))
 
 -- other digits than the score's in sector n: no such block
-pub other-digits : (log : Bytes) (n t : ℕ) (s d x : Bytes) (b : Bool) → x ≡ at log n → d ≡ hexBytes s → b ≡ same (scoreDigits x) d → b ≡ false
-    → soundAs log n t s ≡ none
+pub other-digits : (log : Bytes) (n t : ℕ) (s d x : Bytes) (b : Bool) → x ≡ at log n → d ≡ hexBytes s → b ≡ mayHold x d → b ≡ false → soundAs log n t s ≡ none
 other-digits log n t s d x b e f q z = go (soundAs log n t s) refl
   where
     go : (o : Option Row) → soundAs log n t s ≡ o → soundAs log n t s ≡ none
     go none p = p
     go (some r) p =
-        absurd (true≢false (sym (as-digits log n t s r p) ∙ ap (λ (y : Bytes). same (scoreDigits y) (hexBytes s)) (sym e) ∙ ap (same (scoreDigits x)) (sym f) ∙ sym q ∙ z))
+        let g : scoreDigits (behind x) ≡ d = ap (λ (y : Bytes). scoreDigits (behind y)) e ∙ same-true _ _ (as-digits log n t s r p) ∙ sym f in
+        absurd (true≢false (sym (holds-score x d (omega (arith, ap length e, length-at log n)) g) ∙ sym q ∙ z))
 
 -- one turn of the look-up's loop
 module _ (log : Bytes) (n t : ℕ) (s : Bytes) (h : n < sectors (length log)) (inv : firstOf t s (foundFrom (sound log) (sectors (length log) - n) n) ≡ firstOf t s (blocks log)) where
@@ -98,55 +134,53 @@ module _ (log : Bytes) (n t : ℕ) (s : Bytes) (h : n < sectors (length log)) (i
       ∙ sym (first-none log (sectors (length log) - (n + 1)) n t s e)
       ∙ ap (λ (x : ℕ). firstOf t s (foundFrom (sound log) x n)) (sym more) ∙ inv
 
-  pub find-found : (k : ℕ) → k ≡ sizeOf (soundAs log n t s) → 0 < k → At (record { 0 = n }) k ≡ placeOf (firstOf t s (blocks log))
-  find-found k e p =
-      let r = sized (soundAs log n t s) k e p in
+  pub find-found : (p : Place) (b : Block) → p ≡ placed (soundAs log n t s) → p ≡ At b → p ≡ placed (firstOf t s (blocks log))
+  find-found p b e z =
+      let r = placed-some (soundAs log n t s) p b e z in
       let f : firstOf t s (blocks log) ≡ some (r .0) = sym inv ∙ ap (λ (x : ℕ). firstOf t s (foundFrom (sound log) x n)) more ∙ first-some log (sectors (length log) - (n + 1)) n t s (r .0) (r .1) in
-      let at-n : n ≡ (r .0) .first = sym ((sound-reads log n (r .0) ((as-reads log n t s (r .0) (r .1)) .0)) .1) in
-      rw f (λ i. At (record { 0 = at-n i }) (r .2 i))
+      e ∙ ap placed (r .1 ∙ sym f)
 
 pub find-nowhere : (log : Bytes) (n t : ℕ) (s : Bytes) → n ≤ sectors (length log) → sectors (length log) ≤ n
-    → firstOf t s (foundFrom (sound log) (sectors (length log) - n) n) ≡ firstOf t s (blocks log) → Nowhere ≡ placeOf (firstOf t s (blocks log))
+    → firstOf t s (foundFrom (sound log) (sectors (length log) - n) n) ≡ firstOf t s (blocks log) → Nowhere ≡ placed (firstOf t s (blocks log))
 unfolding foundFrom firstOf
 find-nowhere log n t s a b inv =
     let z : sectors (length log) - n ≡ 0 = omega arith in
-    ap placeOf (sym (ap (λ (x : ℕ). firstOf t s (foundFrom (sound log) x n)) z) ∙ inv)
+    ap placed (sym (ap (λ (x : ℕ). firstOf t s (foundFrom (sound log) x n)) z) ∙ inv)
 
 -- one turn of the walk for doubt
 abbrev pub Passed : Bytes → ℕ → Type 0
 Passed log n = PassedTo log n × (outside (blocks log) n ≡ 0)
 
-pub walk-stops : (log : Bytes) (n k : ℕ) → Passed log n → n < used log → k ≡ sizeOf (sound log n) → k ≡ 0 → n ≡ firstDoubtful log
-walk-stops log n k p h e z = sym (first-at log n (p .1) h (doubtful-at log n (p .0) (none-sound log n k e z)))
+pub walk-stops : (log : Bytes) (n : ℕ) (p : Place) → Passed log n → n < used log → p ≡ placed (sound log n) → p ≡ Nowhere → n ≡ firstDoubtful log
+walk-stops log n p w h e z = sym (first-at log n (w .1) h (doubtful-at log n (w .0) (placed-none (sound log n) p e z)))
 
--- past a sound block of k bytes, m sectors
-pub walk-on : (log : Bytes) (n k m : ℕ) → Passed log n → k ≡ sizeOf (sound log n) → (k ≡ 0 → ⊥) → m ≡ partsOf k → (n + m ≤ used log) × (0 < m) × Passed log (n + m)
-unfolding partsOf
-walk-on log n k m p e z f =
-    let r = sized (sound log n) k e (omega arith) in
-    let m : m ≡ parts (r .0) = f ∙ ap partsOf (r .2) in (
+-- past a sound block, m sectors
+pub walk-on : (log : Bytes) (n m : ℕ) (p : Place) (b : Block) → Passed log n → p ≡ placed (sound log n) → p ≡ At b → m ≡ partsIn b
+    → (n + m ≤ used log) × (0 < m) × Passed log (n + m)
+walk-on log n m p b w e z f =
+    let r = placed-some (sound log n) p b e z in
+    let m : m ≡ parts (r .0) = f ∙ ap partsIn (r .2) in (
       rw m (sound-used log n (r .0) (r .1)),
-      omega arith,
-      (rw m (walked-some log n (r .0) (p .0) (r .1)), rw m (doubt-some log n (r .0) (r .1) ∙ p .1)),
+      rw m (parts-pos (r .0) ((sound-reads log n (r .0) (r .1)) .0)),
+      (rw m (walked-some log n (r .0) (w .0) (r .1)), rw m (doubt-some log n (r .0) (r .1) ∙ w .1)),
     )
+
+-- the label of a sound block leaves room for a payload, and the block is not longer than the longest
+pub block-bounds : (log : Bytes) (n : ℕ) (p : Place) (b : Block) → p ≡ placed (sound log n) → p ≡ At b → (b .label < 499) × (b .size ≤ longest)
+block-bounds log n p b e z =
+    let r = placed-some (sound log n) p b e z in
+    let v = (sound-reads log n (r .0) (r .1)) .0 in
+    (omega (arith, label-bounds (r .0) v, ap (λ (x : Block). x .label) (r .2)), omega (arith, valid-facts (r .0) v .not-many, ap (λ (x : Block). x .size) (r .2)))
 
 pub walk-ends : (log : Bytes) (n : ℕ) → Passed log n → used log ≤ n → used log ≡ firstDoubtful log
 walk-ends log n p h = sym (first-end log n (p .1) h)
 
--- a sound block is not longer than the longest
-pub size-most : (log : Bytes) (n k : ℕ) → k ≡ sizeOf (sound log n) → k ≤ longest
-size-most log n k e = go (sound log n) refl e
-  where
-    go : (o : Option Row) → sound log n ≡ o → k ≡ sizeOf o → k ≤ longest
-    go none q z = omega arith
-    go (some r) q z = omega (arith, (valid-facts r ((sound-reads log n r q) .0)) .not-many)
-
 -- what look-up finds
-pub held-zero : (log : Bytes) (t : ℕ) (s : Bytes) (a b : Bool) → a ≡ lawful t → a ≡ true → b ≡ same s zeroScore → b ≡ true → At (record { 0 = 0 }) 0 ≡ placeOf (held log t s)
+pub held-zero : (log : Bytes) (t : ℕ) (s : Bytes) (a b : Bool) → a ≡ lawful t → a ≡ true → b ≡ same s zeroScore → b ≡ true → At (record { first = record { 0 = 0 }; size = 0; label = 96 }) ≡ placed (held log t s)
 unfolding held
 held-zero log t s a b p q u v = rw (sym p ∙ q, sym u ∙ v)
 
-pub held-scan : (log : Bytes) (t : ℕ) (s : Bytes) (r : Place) → (lawful t && same s zeroScore) ≡ false → r ≡ placeOf (firstOf t s (blocks log)) → r ≡ placeOf (held log t s)
+pub held-scan : (log : Bytes) (t : ℕ) (s : Bytes) (r : Place) → (lawful t && same s zeroScore) ≡ false → r ≡ placed (firstOf t s (blocks log)) → r ≡ placed (held log t s)
 unfolding held
 held-scan log t s r e p = rw e p
 
@@ -160,33 +194,33 @@ not-zero t s b p q = rw (sym p ∙ q) (go (lawful t))
     go true = refl
     go false = refl
 
-pub look-cases : (o : Option Row) (w : Refusal) (p : Place) → p ≡ placeOf o → (p ≡ Nowhere → Refused w ≡ on o (Refused w) (λ (r : Row). Found (record { 0 = r .first }) (length (r .bytes))))
+pub look-cases : (o : Option Row) (w : Refusal) (p : Place) → p ≡ placed o → (p ≡ Nowhere → Refused w ≡ on o (Refused w) (λ (r : Row). Found (placeOf r)))
 look-cases none w p e z = refl
 look-cases (some r) w p e z = let y : _≡_ {A = ℕ} 0 1 = cc in absurd (omega arith)
 
-pub look-none : (log : Bytes) (t : ℕ) (s : Bytes) (p : Place) (w : Refusal) → p ≡ placeOf (held log t s) → p ≡ Nowhere → w ≡ absence log → Refused w ≡ lookUp log t s
+pub look-none : (log : Bytes) (t : ℕ) (s : Bytes) (p : Place) (w : Refusal) → p ≡ placed (held log t s) → p ≡ Nowhere → w ≡ absence log → Refused w ≡ lookUp log t s
 unfolding lookUp
 look-none log t s p w e z a = ap Refused a ∙ look-cases (held log t s) (absence log) p e z
 
-pub look-found : (o : Option Row) (w : Refusal) (p : Place) (f : SectorNumber) (n : ℕ) → p ≡ placeOf o → p ≡ At f n → Found f n ≡ on o (Refused w) (λ (r : Row). Found (record { 0 = r .first }) (length (r .bytes)))
-look-found none w p f n e z = let y : _≡_ {A = ℕ} 0 1 = cc in absurd (omega arith)
-look-found (some r) w p f n e z =
-    let q : At f n ≡ At (record { 0 = r .first }) (length (r .bytes)) = sym z ∙ e in
+pub look-found : (o : Option Row) (w : Refusal) (p : Place) (b : Block) → p ≡ placed o → p ≡ At b → Found b ≡ on o (Refused w) (λ (r : Row). Found (placeOf r))
+look-found none w p b e z = let y : _≡_ {A = ℕ} 0 1 = cc in absurd (omega arith)
+look-found (some r) w p b e z =
+    let q : At b ≡ At (placeOf r) = sym z ∙ e in
     cc
 
-pub look-some : (log : Bytes) (t : ℕ) (s : Bytes) (p : Place) (f : SectorNumber) (n : ℕ) → p ≡ placeOf (held log t s) → p ≡ At f n → Found f n ≡ lookUp log t s
+pub look-some : (log : Bytes) (t : ℕ) (s : Bytes) (p : Place) (b : Block) → p ≡ placed (held log t s) → p ≡ At b → Found b ≡ lookUp log t s
 unfolding lookUp
-look-some log t s p f n e z = look-found (held log t s) (absence log) p f n e z
+look-some log t s p b e z = look-found (held log t s) (absence log) p b e z
 
 -- the count
 pub count-refused : (count : ℕ) (l w : Look) (y : Refusal) → l ≡ w → l ≡ Refused y → l ≡ counted count w
 count-refused count l w y e z = z ∙ ap (counted count) (sym z ∙ e)
 
-pub count-over : (count : ℕ) (l w : Look) (f : SectorNumber) (n : ℕ) → l ≡ w → l ≡ Found f n → count < n → Refused OverCount ≡ counted count w
-count-over count l w f n e z h = rw (sym e ∙ z, lt-ltb count n h)
+pub count-over : (count : ℕ) (l w : Look) (b : Block) → l ≡ w → l ≡ Found b → count < b .size → Refused OverCount ≡ counted count w
+count-over count l w b e z h = rw (sym e ∙ z, lt-ltb count (b .size) h)
 
-pub count-found : (count : ℕ) (l w : Look) (f : SectorNumber) (n : ℕ) → l ≡ w → l ≡ Found f n → n ≤ count → Found f n ≡ counted count w
-count-found count l w f n e z h = rw (sym e ∙ z, le-ltb count n h)
+pub count-found : (count : ℕ) (l w : Look) (b : Block) → l ≡ w → l ≡ Found b → b .size ≤ count → Found b ≡ counted count w
+count-found count l w b e z h = rw (sym e ∙ z, le-ltb count (b .size) h)
 
 -- the public look-up
 module _ (log waiting : Bytes) (t : ℕ) (s : Bytes) (a : Bool) (p : a ≡ lentAllowed (length log) (length waiting)) where

@@ -1,6 +1,9 @@
 // Look-up of a score and type by scan, in a log and the sectors that wait behind its used part, read as one log.
+use block::Block;
 use log::Look;
+use reader::Place;
 use refusal::Refusal;
+use sector::LABEL;
 use sector::SECTOR;
 use sector_number::SectorNumber;
 ghost use mathlib.Core.Path.{_≡_};
@@ -9,7 +12,8 @@ ghost use lib.ListN.{length};
 ghost use Rattle.block.specs.Log.{sectors, Alike, joined, used};
 ghost use Rattle.log.specs.Parts.{tape};
 ghost use Rattle.log.specs.LookUp.{blocks, firstOf, held, absence, lookUp, counted, lookNumber, lookUpAsked, firstDoubtful, logAllowed, lentAllowed};
-ghost use Rattle.lookup.specs.Place.{placeOf};
+ghost use Rattle.reader.specs.Reader.{placed};
+ghost use Rattle.lookup.specs.Digits.{mayHold};
 
 // The most sectors of a log.
 pub const MOST_SECTORS: usize = 1048576;
@@ -17,18 +21,12 @@ pub const MOST_SECTORS: usize = 1048576;
 // The most sectors of a waiting part.
 pub const MOST_WAITING: usize = 256;
 
-// Where a block stands, if it does.
-pub enum Place {
-    At { first: SectorNumber, size: usize },
-    Nowhere,
-}
-
 // The number of a look-up: 0 for a block that is found.
 pub fn number(look: Look) -> u8
     ensures { λ r. ⌜ r ≡ lookNumber look ⌝ }
 {
     match look {
-        Look::Found { first: _, size: _ } => 0,
+        Look::Found(_) => 0,
         Look::Refused(why) => refusal::number(why),
     }
 }
@@ -69,10 +67,21 @@ pub fn border(log: &[u8], waiting: &[u8]) -> SectorNumber
     SectorNumber(log.len() / SECTOR)
 }
 
+// Whether a sector may hold a block of the score with these digits, by its label. Only a few bytes next to each other are looked at.
+fn may_hold(s: &[u8], digits: &[u8]) -> bool
+    requires { ⌜ (length (now s) ≡ 512) × (length (now digits) ≡ 40) ⌝ }
+    ensures { λ r. ⌜ r ≡ mayHold (now (s .entry)) (now (digits .entry)) ⌝ }
+{
+    if buffer::equal(&s[69..109], digits) {
+        return true;
+    }
+    buffer::equal(&s[64..95], &digits[9..])
+}
+
 // The first sound block of a type and score. Only a block whose label has the score is looked at.
 fn find<'a>(log: &'a [u8], end: SectorNumber, waiting: &'a [u8], kind: u8, score: &[u8]) -> Place
     requires { ⌜ (end .0 ≤ sectors (length (now log))) × (length (now score) ≡ 20) ⌝ }
-    ensures { λ r. ⌜ r ≡ placeOf (firstOf kind (now (score .entry)) (blocks (joined (end .0) (now (log .entry)) (now (waiting .entry))))) ⌝ }
+    ensures { λ r. ⌜ r ≡ placed (firstOf kind (now (score .entry)) (blocks (joined (end .0) (now (log .entry)) (now (waiting .entry))))) ⌝ }
 {
     let mut digits = [0u8; 40];
     word::hex::put_hex_bytes(&mut digits, score);
@@ -80,14 +89,11 @@ fn find<'a>(log: &'a [u8], end: SectorNumber, waiting: &'a [u8], kind: u8, score
     let mut n: usize = 0;
     while n < count {
         let s = reader::sector_at(log, end, waiting, SectorNumber(n));
-        if buffer::equal(&s[55..95], &digits) {
-            let size = reader::sound_as(log, end, waiting, SectorNumber(n), kind, score);
-            if 0 < size {
-                return Place::At {
-                    first: SectorNumber(n),
-                    size: size,
-                };
-            }
+        if may_hold(s, &digits) {
+            let place = reader::sound_as(log, end, waiting, SectorNumber(n), kind, score);
+            let Place::Nowhere = place else {
+                return place;
+            };
         }
         n += 1;
     }
@@ -103,14 +109,15 @@ pub fn find_held<'a>(
     score: &[u8],
 ) -> Place
     requires { ⌜ (end .0 ≤ sectors (length (now log))) × (length (now score) ≡ 20) ⌝ }
-    ensures { λ r. ⌜ r ≡ placeOf (held (joined (end .0) (now (log .entry)) (now (waiting .entry))) kind (now (score .entry))) ⌝ }
+    ensures { λ r. ⌜ r ≡ placed (held (joined (end .0) (now (log .entry)) (now (waiting .entry))) kind (now (score .entry))) ⌝ }
 {
     if kind::is_lawful(kind) {
         if kind::is_zero_score(score) {
-            return Place::At {
+            return Place::At(Block {
                 first: SectorNumber(0),
                 size: 0,
-            };
+                label: LABEL,
+            });
         }
     }
     find(log, end, waiting, kind, score)
@@ -128,11 +135,11 @@ pub fn first_doubtful<'a>(
 {
     let mut n: usize = 0;
     while n < last.0 {
-        let size = reader::sound_at(log, end, waiting, SectorNumber(n));
-        if size == 0 {
+        let place = reader::sound_at(log, end, waiting, SectorNumber(n));
+        let Place::At(b) = place else {
             return SectorNumber(n);
-        }
-        n += block::parts_of(size);
+        };
+        n += block::parts_of(b.label, b.size);
     }
     last
 }
@@ -176,13 +183,10 @@ pub fn look_up<'a>(
     ensures { λ r. ⌜ r ≡ lookUp (joined (end .0) (now (log .entry)) (now (waiting .entry))) kind (now (score .entry)) ⌝ }
 {
     let place = find_held(log, end, waiting, kind, score);
-    let Place::At { first, size } = place else {
+    let Place::At(b) = place else {
         return Look::Refused(why_absent(log, end, waiting));
     };
-    Look::Found {
-        first: first,
-        size: size,
-    }
+    Look::Found(b)
 }
 
 // Look-up of a block that must not be longer than count. The refusal of a missing one is handed on.
@@ -198,16 +202,13 @@ pub fn fetch<'a>(
     ensures { λ r. ⌜ r ≡ counted count (lookUp (joined (end .0) (now (log .entry)) (now (waiting .entry))) kind (now (score .entry))) ⌝ }
 {
     let look = look_up(log, end, waiting, kind, score);
-    let Look::Found { first, size } = look else {
+    let Look::Found(b) = look else {
         return look;
     };
-    if count < size {
+    if count < b.size {
         return Look::Refused(Refusal::OverCount);
     }
-    Look::Found {
-        first: first,
-        size: size,
-    }
+    Look::Found(b)
 }
 
 // The public look-up: any log, waiting part, type and score.

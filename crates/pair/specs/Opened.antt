@@ -26,7 +26,7 @@ opened log e level score refused next =
 
 -- what it hands back in the program: its place, or the refusal
 abbrev pub wholeScores : ℕ → Look → Look
-wholeScores level (Found first size) = cond (ragged level size) (Refused Pointers) (Found first size)
+wholeScores level (Found b) = cond (ragged level (b .size)) (Refused Pointers) (Found b)
 wholeScores level (Refused w) = Refused w
 
 unfoldable pub placeAt : Bytes → Entry → ℕ → Bytes → Look

@@ -110,11 +110,11 @@ pub fn read_block<'a>(
         score,
         tree::count_at(e, level),
     );
-    let Look::Found { first, size } = look else {
+    let Look::Found(b) = look else {
         return look;
     };
     if level != 0 {
-        if size % 20 != 0 {
+        if b.size % 20 != 0 {
             return Look::Refused(Refusal::Pointers);
         }
     }

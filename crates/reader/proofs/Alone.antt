@@ -1,17 +1,16 @@
 -- Nothing waits: where the log's sectors are read to its end and nothing behind them, all that is read is the log's.
 use mathlib.Core.Path.{_≡_, refl, ap}
 use mathlib.Core.List.{[]}
-use mathlib.Core.Option.{Option}
 use Prim.Native.Nat.{ℕ}
 use native.Mathlib.Omega.{arith}
-use lib.ListN.{length, take}
+use lib.ListN.{length}
 use Rattle.buffer.specs.Bytes.{Bytes}
-use Rattle.block.specs.Block.{Row, partsOf}
-use Rattle.block.specs.Log.{sectors, Alike, joined, usedOf, used, sound}
+use Rattle.block.specs.declared.Block.{Block}
+use Rattle.block.specs.Log.{sectors, Alike, joined, usedOf, used, bytesOf, sound}
 use Rattle.block.proofs.Used.{used-le-sectors}
 use Rattle.block.proofs.Joined.{at-alone}
-use Rattle.block.proofs.Alike.{payloads-alike, sound-alike}
-use Rattle.reader.specs.Reader.{bytesAt, sizeOf}
+use Rattle.block.proofs.Alike.{bytes-alike, sound-alike}
+use Rattle.reader.specs.Reader.{placed}
 
 module _ (log : Bytes) where
   alone : Bytes
@@ -21,10 +20,10 @@ module _ (log : Bytes) where
   unfolding alone used usedOf
   same-sectors = at-alone (sectors (length log)) log [] (omega arith) (used-le-sectors log) refl
 
-  pub bytes-alone : (n size : ℕ) → bytesAt (joined (sectors (length log)) log []) n size ≡ bytesAt log n size
+  pub bytes-alone : (b : Block) → bytesOf (joined (sectors (length log)) log []) b ≡ bytesOf log b
   unfolding alone
-  bytes-alone n size = ap (take size) (payloads-alike alone log same-sectors (partsOf size) n)
+  bytes-alone b = bytes-alike alone log same-sectors b
 
-  pub size-alone : (n : ℕ) → sizeOf (sound (joined (sectors (length log)) log []) n) ≡ sizeOf (sound log n)
+  pub placed-alone : (n : ℕ) → placed (sound (joined (sectors (length log)) log []) n) ≡ placed (sound log n)
   unfolding alone
-  size-alone n = ap sizeOf (sound-alike alone log same-sectors n)
+  placed-alone n = ap placed (sound-alike alone log same-sectors n)

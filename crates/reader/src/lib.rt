@@ -1,22 +1,29 @@
 // One block read from two runs of sectors: whether it is sound, its digest, its bytes compared and copied out; and the end of the used part.
 // The runs are the first `end` sectors of a log and the sectors that wait behind them, read as one. They are any bytes: nothing assumes
 // that the archive wrote them.
+use block::Block;
 use kind::LONGEST;
 use sector::BODY;
 use sector::LABEL;
 use sector::Label;
-use sector::PAYLOAD;
 use sector::SECTOR;
 use sector_number::SectorNumber;
 use word::hex::Hex;
 ghost use mathlib.Core.Path.{_≡_};
 ghost use Prim.Native.Nat.{_+_, _-_, _≤_, _<_};
 ghost use lib.ListN.{length, take, drop};
-ghost use Rattle.buffer.specs.Bytes.{same, zeros, put};
+ghost use Rattle.buffer.specs.Bytes.{Bytes, same, zeros, put};
 ghost use Rattle.sha1.specs.Sha1.{sha1Of};
-ghost use Rattle.block.specs.Block.{partsOf};
-ghost use Rattle.block.specs.Log.{sectors, at, joined, used, payloads, labelled, checked, soundAs, sound};
-ghost use Rattle.reader.specs.Reader.{bytesAt, sizeOf, numberOf};
+ghost use Rattle.sector.specs.Sector.{payloadOf, frontOf, dateField};
+ghost use Rattle.block.specs.Block.{partsIn, Inside};
+ghost use Rattle.block.specs.Log.{sectors, at, joined, used, payloads, bytesOf, labelled, checked, soundAs, sound};
+ghost use Rattle.reader.specs.Reader.{numberOf, placed};
+
+// Where a block stands, if one does.
+pub enum Place {
+    At(Block),
+    Nowhere,
+}
 
 // How many sectors the eight digits of a label's place can name.
 const PLACES: usize = 4294967296;
@@ -63,20 +70,21 @@ pub fn used_part(log: &[u8]) -> SectorNumber
     SectorNumber(0)
 }
 
-// Whether the sectors from `first` on have the labels of the parts of a block that starts there.
+// Whether the sectors of a block have the labels of its parts, each behind `front`.
 fn labels_agree<'a>(
     log: &'a [u8],
     end: SectorNumber,
     waiting: &'a [u8],
-    first: SectorNumber,
+    front: &[u8],
+    b: Block,
     kind: u8,
-    size: usize,
     score: &[u8],
 ) -> bool
-    requires { ⌜ (end .0 ≤ sectors (length (now log))) × (first .0 + partsOf size ≤ end .0 + sectors (length (now waiting))) × (length (now score) ≡ 20) ⌝ }
-    ensures { λ r. ⌜ r ≡ labelled (joined (end .0) (now (log .entry)) (now (waiting .entry))) (first .0) kind size (now (score .entry)) (partsOf size) 0 ⌝ }
+    requires { ⌜ (end .0 ≤ sectors (length (now log))) × Inside (end .0 + sectors (length (now waiting))) b × (length (now front) + 96 ≡ b .label) × (length (now score) ≡ 20) ⌝ }
+    ensures { λ r. ⌜ ((date : Bytes) → frontOf date ≡ now (front .entry) → r ≡ labelled (joined (end .0) (now (log .entry)) (now (waiting .entry))) date (partsIn b) (b .first .0) kind (b .size) (now (score .entry)) (partsIn b) 0) ⌝ }
 {
-    let of = block::parts_of(size);
+    let first = b.first;
+    let of = block::parts_of(b.label, b.size);
     let mut i: usize = 0;
     while i < of {
         let label = Label {
@@ -84,11 +92,11 @@ fn labels_agree<'a>(
             part: i,
             of,
             kind,
-            size,
+            size: b.size,
         };
         let n = first.0 + i;
         let s = sector_at(log, end, waiting, SectorNumber(n));
-        if !sector::has_label(s, label, score) {
+        if !sector::has_label(s, front, label, score) {
             return false;
         }
         i += 1;
@@ -118,41 +126,36 @@ fn checks_fit<'a>(
     true
 }
 
-// The payload of sector n, or its first `size` bytes where these are fewer.
+// The payload of sector n behind a label of this length, or its first `size` bytes where these are fewer.
 fn piece_at<'a>(
     log: &'a [u8],
     end: SectorNumber,
     waiting: &'a [u8],
     n: SectorNumber,
+    label: usize,
     size: usize,
 ) -> &'a [u8]
-    requires { ⌜ (end .0 ≤ sectors (length (now log))) × (n .0 < end .0 + sectors (length (now waiting))) ⌝ }
-    ensures { λ r. ⌜ now r ≡ take size (take 403 (drop 96 (at (joined (end .0) (now (log .entry)) (now (waiting .entry))) (n .0)))) ⌝ }
+    requires { ⌜ (end .0 ≤ sectors (length (now log))) × (n .0 < end .0 + sectors (length (now waiting))) × (label ≤ 499) ⌝ }
+    ensures { λ r. ⌜ now r ≡ take size (take (payloadOf label) (drop label (at (joined (end .0) (now (log .entry)) (now (waiting .entry))) (n .0)))) ⌝ }
 {
     let s = sector_at(log, end, waiting, n);
-    if PAYLOAD <= size {
-        return &s[LABEL..BODY];
+    if block::payload_of(label) <= size {
+        return &s[label..BODY];
     }
-    let to = LABEL + size;
-    &s[LABEL..to]
+    let to = label + size;
+    &s[label..to]
 }
 
 // The SHA-1 of a block's bytes, piece by piece where they lie.
-pub fn digest<'a>(
-    log: &'a [u8],
-    end: SectorNumber,
-    waiting: &'a [u8],
-    first: SectorNumber,
-    size: usize,
-) -> [u8; 20]
-    requires { ⌜ (end .0 ≤ sectors (length (now log))) × (first .0 + partsOf size ≤ end .0 + sectors (length (now waiting))) ⌝ }
-    ensures { λ r. ⌜ r ≡ sha1Of (bytesAt (joined (end .0) (now (log .entry)) (now (waiting .entry))) (first .0) size) ⌝ }
+pub fn digest<'a>(log: &'a [u8], end: SectorNumber, waiting: &'a [u8], b: Block) -> [u8; 20]
+    requires { ⌜ (end .0 ≤ sectors (length (now log))) × Inside (end .0 + sectors (length (now waiting))) b ⌝ }
+    ensures { λ r. ⌜ r ≡ sha1Of (bytesOf (joined (end .0) (now (log .entry)) (now (waiting .entry))) b) ⌝ }
 {
-    let mut n = first.0;
+    let mut n = b.first.0;
     let mut done: usize = 0;
     let mut s = sha1::start();
-    while done < size {
-        let piece = piece_at(log, end, waiting, SectorNumber(n), size - done);
+    while done < b.size {
+        let piece = piece_at(log, end, waiting, SectorNumber(n), b.label, b.size - done);
         s = sha1::absorb(s, piece);
         done += piece.len();
         n += 1;
@@ -161,19 +164,14 @@ pub fn digest<'a>(
 }
 
 // Whether the payloads of a block hold zeros behind its bytes: only the last of them has room there.
-fn rest_is_zero<'a>(
-    log: &'a [u8],
-    end: SectorNumber,
-    waiting: &'a [u8],
-    first: SectorNumber,
-    size: usize,
-) -> bool
-    requires { ⌜ (end .0 ≤ sectors (length (now log))) × (0 < size) × (first .0 + partsOf size ≤ end .0 + sectors (length (now waiting))) ⌝ }
-    ensures { λ r. ⌜ r ≡ zeros (drop size (payloads (joined (end .0) (now (log .entry)) (now (waiting .entry))) (partsOf size) (first .0))) ⌝ }
+fn rest_is_zero<'a>(log: &'a [u8], end: SectorNumber, waiting: &'a [u8], b: Block) -> bool
+    requires { ⌜ (end .0 ≤ sectors (length (now log))) × (0 < b .size) × Inside (end .0 + sectors (length (now waiting))) b ⌝ }
+    ensures { λ r. ⌜ r ≡ zeros (drop (b .size) (payloads (b .label) (joined (end .0) (now (log .entry)) (now (waiting .entry))) (partsIn b) (b .first .0))) ⌝ }
 {
-    let last = (size - 1) / PAYLOAD;
-    let from = LABEL + (size - PAYLOAD * last);
-    let n = first.0 + last;
+    let p = block::payload_of(b.label);
+    let last = (b.size - 1) / p;
+    let from = b.label + (b.size - p * last);
+    let n = b.first.0 + last;
     let s = sector_at(log, end, waiting, SectorNumber(n));
     buffer::is_zero(&s[from..BODY])
 }
@@ -198,7 +196,58 @@ fn number_at<'a>(
     }
 }
 
-// The size of the block that starts at a sector, if it is sound and has this type and score; otherwise 0.
+// Where the block that starts at a sector stands, if it is sound and has this type and score; `front` is the line of a date with which that sector begins,
+// or nothing.
+fn sound_behind<'a>(
+    log: &'a [u8],
+    end: SectorNumber,
+    waiting: &'a [u8],
+    front: &[u8],
+    first: SectorNumber,
+    kind: u8,
+    score: &[u8],
+) -> Place
+    requires { ⌜ (end .0 ≤ sectors (length (now log))) × (first .0 < end .0 + sectors (length (now waiting))) × (now front ≡ frontOf (dateField (at (joined (end .0) (now log) (now waiting)) (first .0)))) × (length (now score) ≡ 20) ⌝ }
+    ensures { λ r. ⌜ r ≡ placed (soundAs (joined (end .0) (now (log .entry)) (now (waiting .entry))) (first .0) kind (now (score .entry))) ⌝ }
+{
+    let k = front.len();
+    let size = number_at(log, end, waiting, first, k + 44, k + 48);
+    if size < 1 {
+        return Place::Nowhere;
+    }
+    if LONGEST < size {
+        return Place::Nowhere;
+    }
+    if !kind::is_lawful(kind) {
+        return Place::Nowhere;
+    }
+    let label = k + LABEL;
+    let of = block::parts_of(label, size);
+    let after = first.0 + of;
+    if end.0 + waiting.len() / SECTOR < after {
+        return Place::Nowhere;
+    }
+    if PLACES < after {
+        return Place::Nowhere;
+    }
+    let b = Block { first, size, label };
+    if !labels_agree(log, end, waiting, front, b, kind, score) {
+        return Place::Nowhere;
+    }
+    if !checks_fit(log, end, waiting, first, of) {
+        return Place::Nowhere;
+    }
+    if !rest_is_zero(log, end, waiting, b) {
+        return Place::Nowhere;
+    }
+    let d = digest(log, end, waiting, b);
+    if !buffer::equal(&d, score) {
+        return Place::Nowhere;
+    }
+    Place::At(b)
+}
+
+// Where the block that starts at a sector stands, if it is sound and has this type and score.
 pub fn sound_as<'a>(
     log: &'a [u8],
     end: SectorNumber,
@@ -206,64 +255,38 @@ pub fn sound_as<'a>(
     first: SectorNumber,
     kind: u8,
     score: &[u8],
-) -> usize
+) -> Place
     requires { ⌜ (end .0 ≤ sectors (length (now log))) × (first .0 < end .0 + sectors (length (now waiting))) × (length (now score) ≡ 20) ⌝ }
-    ensures { λ r. ⌜ r ≡ sizeOf (soundAs (joined (end .0) (now (log .entry)) (now (waiting .entry))) (first .0) kind (now (score .entry))) ⌝ }
+    ensures { λ r. ⌜ r ≡ placed (soundAs (joined (end .0) (now (log .entry)) (now (waiting .entry))) (first .0) kind (now (score .entry))) ⌝ }
 {
-    let size = number_at(log, end, waiting, first, 44, 48);
-    if size < 1 {
-        return 0;
-    }
-    if LONGEST < size {
-        return 0;
-    }
-    if !kind::is_lawful(kind) {
-        return 0;
-    }
-    let of = block::parts_of(size);
-    let after = first.0 + of;
-    if end.0 + waiting.len() / SECTOR < after {
-        return 0;
-    }
-    if PLACES < after {
-        return 0;
-    }
-    if !labels_agree(log, end, waiting, first, kind, size, score) {
-        return 0;
-    }
-    if !checks_fit(log, end, waiting, first, of) {
-        return 0;
-    }
-    if !rest_is_zero(log, end, waiting, first, size) {
-        return 0;
-    }
-    let d = digest(log, end, waiting, first, size);
-    if !buffer::equal(&d, score) {
-        return 0;
-    }
-    size
+    let s = sector_at(log, end, waiting, first);
+    let k = sector::front_length(s);
+    sound_behind(log, end, waiting, &s[..k], first, kind, score)
 }
 
-// The size of the sound block that starts at a sector, and 0 if none does.
+// Where the sound block that starts at a sector stands, if one does.
 pub fn sound_at<'a>(
     log: &'a [u8],
     end: SectorNumber,
     waiting: &'a [u8],
     first: SectorNumber,
-) -> usize
+) -> Place
     requires { ⌜ (end .0 ≤ sectors (length (now log))) × (first .0 < end .0 + sectors (length (now waiting))) ⌝ }
-    ensures { λ r. ⌜ r ≡ sizeOf (sound (joined (end .0) (now (log .entry)) (now (waiting .entry))) (first .0)) ⌝ }
+    ensures { λ r. ⌜ r ≡ placed (sound (joined (end .0) (now (log .entry)) (now (waiting .entry))) (first .0)) ⌝ }
 {
-    let kind = number_at(log, end, waiting, first, 36, 38);
-    if kind < 1 {
-        return 0;
-    }
     let s = sector_at(log, end, waiting, first);
-    let mut score = [0u8; 20];
-    if !word::hex::read_hex_bytes(&mut score, &s[55..95]) {
-        return 0;
+    let k = sector::front_length(s);
+    let kind = number_at(log, end, waiting, first, k + 36, k + 38);
+    if kind < 1 {
+        return Place::Nowhere;
     }
-    sound_as(log, end, waiting, first, kind as u8, &score)
+    let from = k + 55;
+    let to = k + 95;
+    let mut score = [0u8; 20];
+    if !word::hex::read_hex_bytes(&mut score, &s[from..to]) {
+        return Place::Nowhere;
+    }
+    sound_behind(log, end, waiting, &s[..k], first, kind as u8, &score)
 }
 
 // Whether a block's bytes are those of `data`, piece by piece where they lie.
@@ -271,16 +294,23 @@ pub fn same_bytes<'a>(
     log: &'a [u8],
     end: SectorNumber,
     waiting: &'a [u8],
-    first: SectorNumber,
+    b: Block,
     data: &[u8],
 ) -> bool
-    requires { ⌜ (end .0 ≤ sectors (length (now log))) × (first .0 + partsOf (length (now «data»)) ≤ end .0 + sectors (length (now waiting))) ⌝ }
-    ensures { λ r. ⌜ r ≡ same (bytesAt (joined (end .0) (now (log .entry)) (now (waiting .entry))) (first .0) (length (now («data» .entry)))) (now («data» .entry)) ⌝ }
+    requires { ⌜ (end .0 ≤ sectors (length (now log))) × Inside (end .0 + sectors (length (now waiting))) b × (b .size ≡ length (now «data»)) ⌝ }
+    ensures { λ r. ⌜ r ≡ same (bytesOf (joined (end .0) (now (log .entry)) (now (waiting .entry))) b) (now («data» .entry)) ⌝ }
 {
-    let mut n = first.0;
+    let mut n = b.first.0;
     let mut done: usize = 0;
     while done < data.len() {
-        let piece = piece_at(log, end, waiting, SectorNumber(n), data.len() - done);
+        let piece = piece_at(
+            log,
+            end,
+            waiting,
+            SectorNumber(n),
+            b.label,
+            data.len() - done,
+        );
         let next = done + piece.len();
         if !buffer::equal(piece, &data[done..next]) {
             return false;
@@ -292,21 +322,14 @@ pub fn same_bytes<'a>(
 }
 
 // Writes a block's bytes to the front of d.
-pub fn copy_out<'a>(
-    log: &'a [u8],
-    end: SectorNumber,
-    waiting: &'a [u8],
-    first: SectorNumber,
-    size: usize,
-    d: &mut [u8],
-)
-    requires { ⌜ (end .0 ≤ sectors (length (now log))) × (first .0 + partsOf size ≤ end .0 + sectors (length (now waiting))) × (size ≤ length (now d)) ⌝ }
-    ensures { λ _. ⌜ now (d .exit) ≡ put (now (d .entry)) 0 (bytesAt (joined (end .0) (now (log .entry)) (now (waiting .entry))) (first .0) size) ⌝ }
+pub fn copy_out<'a>(log: &'a [u8], end: SectorNumber, waiting: &'a [u8], b: Block, d: &mut [u8])
+    requires { ⌜ (end .0 ≤ sectors (length (now log))) × Inside (end .0 + sectors (length (now waiting))) b × (b .size ≤ length (now d)) ⌝ }
+    ensures { λ _. ⌜ now (d .exit) ≡ put (now (d .entry)) 0 (bytesOf (joined (end .0) (now (log .entry)) (now (waiting .entry))) b) ⌝ }
 {
-    let mut n = first.0;
+    let mut n = b.first.0;
     let mut done: usize = 0;
-    while done < size {
-        let piece = piece_at(log, end, waiting, SectorNumber(n), size - done);
+    while done < b.size {
+        let piece = piece_at(log, end, waiting, SectorNumber(n), b.label, b.size - done);
         buffer::copy_at(d, done, piece);
         done += piece.len();
         n += 1;

@@ -1,6 +1,8 @@
 // The index rebuilt from a log: one pass over its sectors.
 use hint::Rebuilding;
+use reader::Place;
 use refusal::Refusal;
+use sector::SCORE;
 use sector::SECTOR;
 use sector_number::SectorNumber;
 use word::hex::Hex;
@@ -9,12 +11,15 @@ ghost use mathlib.Core.Bool.{true};
 ghost use Prim.Native.Nat.{_<_};
 ghost use lib.ListN.{length, take, drop};
 ghost use Rattle.word.specs.Hex.{isHex, hexValue};
-ghost use Rattle.sector.specs.Sector.{kindField, scoreDigits, scoreField};
+ghost use Rattle.sector.specs.Sector.{behind, kindField, scoreDigits, scoreField};
 ghost use Rattle.block.specs.Log.{sectors, sound};
 ghost use Rattle.log.specs.LookUp.{blocks};
 ghost use Rattle.index.specs.Index.{entered};
 ghost use Rattle.hint.specs.Rebuilt.{enteredAll, afterRebuild, rebuiltAsked};
 ghost use Rattle.rebuild.specs.Rebuild.{enteredFound};
+
+// Where the digits of the type stand among the six lines of a label.
+const KIND: usize = 36;
 
 // The type that two hex digits name.
 fn read_kind(digits: &[u8]) -> u8
@@ -30,12 +35,17 @@ fn read_kind(digits: &[u8]) -> u8
 
 // Enters the block whose first sector is s: its label has the score and the type.
 fn enter_label(s: &[u8], first: SectorNumber, index: &mut [u8])
-    requires { ⌜ (length (now s) ≡ 512) × (isHex (take 2 (drop 36 (now s))) ≡ true) × (isHex (scoreDigits (now s)) ≡ true) ⌝ }
-    ensures { λ _. ⌜ now (index .exit) ≡ entered (now (index .entry)) (scoreField (now (s .entry))) (kindField (now (s .entry))) (first .0) ⌝ }
+    requires { ⌜ (length (now s) ≡ 512) × (isHex (take 2 (drop 36 (behind (now s)))) ≡ true) × (isHex (scoreDigits (behind (now s))) ≡ true) ⌝ }
+    ensures { λ _. ⌜ now (index .exit) ≡ entered (now (index .entry)) (scoreField (behind (now (s .entry)))) (kindField (behind (now (s .entry)))) (first .0) ⌝ }
 {
-    let kind = read_kind(&s[36..38]);
+    let k = sector::front_length(s);
+    let at = k + KIND;
+    let end = at + 2;
+    let kind = read_kind(&s[at..end]);
+    let from = k + SCORE;
+    let to = from + 40;
     let mut score = [0u8; 20];
-    let _ = word::hex::read_hex_bytes(&mut score, &s[55..95]);
+    let _ = word::hex::read_hex_bytes(&mut score, &s[from..to]);
     index::enter(index, &score, kind, first);
 }
 
@@ -46,10 +56,11 @@ fn enter_at(log: &[u8], n: SectorNumber, index: &mut [u8])
 {
     let none = [0u8; 0];
     let whole = SectorNumber(log.len() / SECTOR);
-    let size = reader::sound_at(log, whole, &none, n);
-    if 0 < size {
-        enter_label(reader::sector_at(log, whole, &none, n), n, index);
-    }
+    let place = reader::sound_at(log, whole, &none, n);
+    let Place::At(_) = place else {
+        return;
+    };
+    enter_label(reader::sector_at(log, whole, &none, n), n, index);
 }
 
 // Enters each sound block, in log order.

@@ -3,7 +3,7 @@ use Prim.Native.Nat.{ℕ}
 use Rattle.refusal.specs.declared.Refusal.{Refusal}
 use Rattle.refusal.specs.declared.Doubt.{Doubt}
 use Rattle.refusal.specs.declared.Doubt.the-variants.{At, Nowhere}
-use Rattle.refusal.specs.declared.Refusal.the-variants.{Frame, Buffer, LogLength, Closed, MessageType, Body, NoHello, Hello, BlockType, DataLength, NotHeld, NotKnown, OverCount, NoRoom, Clash, Entry, Offset, Pointers, Page, Nest, Spent, Pad, Allowance, Card, Query}
+use Rattle.refusal.specs.declared.Refusal.the-variants.{Frame, Buffer, LogLength, Closed, MessageType, Body, NoHello, Hello, BlockType, DataLength, NotHeld, NotKnown, OverCount, NoRoom, Clash, Entry, Offset, Pointers, Page, Nest, Spent, Pad, Allowance, Date, Card, Query}
 
 abbrev pub numberOf : Refusal → ℕ
 numberOf Frame = 1
@@ -29,6 +29,7 @@ numberOf Nest = 20
 numberOf Spent = 21
 numberOf Pad = 22
 numberOf Allowance = 23
+numberOf Date = 24
 -- "Ill-formed cards are 25, ill-formed queries 26"
 numberOf Card = 25
 numberOf Query = 26
@@ -58,6 +59,7 @@ doubtOf Nest = Nowhere
 doubtOf Spent = Nowhere
 doubtOf Pad = Nowhere
 doubtOf Allowance = Nowhere
+doubtOf Date = Nowhere
 doubtOf Card = Nowhere
 doubtOf Query = Nowhere
 

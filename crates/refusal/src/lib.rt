@@ -50,6 +50,8 @@ pub enum Refusal {
     Pad,
     // An allowance over the limit.
     Allowance,
+    // A date that isn't eight decimal digits.
+    Date,
     // An ill-formed card, or one over 4,096 bytes.
     Card,
     // An ill-formed query.
@@ -90,6 +92,7 @@ pub fn doubt_of(why: Refusal) -> Doubt
         | Refusal::Spent
         | Refusal::Pad
         | Refusal::Allowance
+        | Refusal::Date
         | Refusal::Card
         | Refusal::Query => Doubt::Nowhere,
     }
@@ -134,6 +137,7 @@ pub fn number(why: Refusal) -> u8
         Refusal::Spent => 21,
         Refusal::Pad => 22,
         Refusal::Allowance => 23,
+        Refusal::Date => 24,
         Refusal::Card => 25,
         Refusal::Query => 26,
     }

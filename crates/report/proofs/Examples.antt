@@ -5,7 +5,7 @@ use native.Mathlib.Omega.{arith}
 use lib.ListN.{replicate}
 use Rattle.ground.specs.Places.{foundFrom}
 use Rattle.buffer.specs.Bytes.{Bytes}
-use Rattle.sector.specs.Sector.{blank}
+use Rattle.sector.specs.Sector.{isDate, isDated, dateField}
 use Rattle.word.specs.Hex.{charDigit, readBytes}
 use Rattle.word.specs.Number.{valueFrom}
 use Rattle.block.specs.Log.{at, usedOf, used, soundAs, sound}
@@ -34,5 +34,5 @@ blank-report : reportText (replicate 1024 0)
     ∷ 100 ∷ 111 ∷ 117 ∷ 98 ∷ 116 ∷ 102 ∷ 117 ∷ 108 ∷ 61 ∷ 48 ∷ 10
     ∷ 118 ∷ 101 ∷ 114 ∷ 100 ∷ 105 ∷ 99 ∷ 116 ∷ 61 ∷ 115 ∷ 111 ∷ 117 ∷ 110 ∷ 100 ∷ 10
     ∷ []
-unfolding reportText textOf decimal digits verdict doubtful outside blocks foundFrom sound soundAs used usedOf at charDigit valueFrom readBytes
+unfolding reportText textOf decimal digits verdict doubtful outside blocks foundFrom sound soundAs used usedOf at dateField isDated isDate charDigit valueFrom readBytes
 blank-report = refl

@@ -15,16 +15,21 @@ use Rattle.buffer.specs.Bytes.{Bytes, put}
 use Rattle.buffer.proofs.Put.{length-put, put-next, put-one}
 use Rattle.refusal.specs.declared.Refusal.the-variants.{Buffer, LogLength}
 use Rattle.sector.specs.Sector.{line, lines}
-use Rattle.block.specs.Block.{Row, parts, partsOf}
+use Rattle.block.specs.Block.{Row, parts, partsIn}
+use Rattle.block.specs.declared.Block.{Block}
 use Rattle.block.specs.Log.{sectors, used, sound}
+use Rattle.block.proofs.Facts.{parts-pos}
+use Rattle.block.proofs.Sound.{sound-reads}
 use Rattle.block.proofs.Apart.{sound-used}
 use Rattle.block.proofs.Used.{used-le-sectors}
-use Rattle.reader.specs.Reader.{sizeOf}
+use Rattle.reader.specs.Reader.{placed}
+use Rattle.reader.specs.declared.Place.{Place}
+use Rattle.reader.specs.declared.Place.the-variants.{At, Nowhere}
 use Rattle.log.specs.LookUp.{blocks, inBlock, outside, doubtful, mostSectors, logAllowed}
 use Rattle.log.proofs.Doubt.{walked-zero, walked-none, walked-some, doubt-none, doubt-some}
 use Rattle.log.specs.Laws.{PassedTo}
 use Rattle.log.proofs.Records.{records-none, records-some, records-used}
-use Rattle.lookup.proofs.Laws.{sized, none-sound, allowed-sectors}
+use Rattle.lookup.proofs.Laws.{placed-some, placed-none, allowed-sectors}
 use Rattle.report.specs.declared.Survey.{Survey}
 use Rattle.report.specs.declared.Reported.the-variants.{Written, Refused}
 use Rattle.report.specs.Report.{decimal, sectorsName, usedName, recordsName, doubtfulName, verdictName, verdict, surveyOf, textOf, reportText, reportOutcome, reportOf}
@@ -149,9 +154,9 @@ pub counted-zero : (log : Bytes) → Counted log 0 0 0
 unfolding foundFrom outside
 counted-zero log = record { walked = walked-zero log; inside = omega arith; blocks-before = refl; doubts-before = refl; few = omega arith }
 
-pub counted-none : (log : Bytes) (n r d k : ℕ) → Counted log n r d → n < used log → k ≡ sizeOf (sound log n) → k ≡ 0 → Counted log (n + 1) r (d + 1)
+pub counted-none : (log : Bytes) (n r d : ℕ) (p : Place) → Counted log n r d → n < used log → p ≡ placed (sound log n) → p ≡ Nowhere → Counted log (n + 1) r (d + 1)
 counted-none log n r d k p h e z =
-    let o = none-sound log n k e z in
+    let o = placed-none (sound log n) k e z in
     record {
       walked = walked-none log n (p .walked) o;
       inside = omega arith;
@@ -160,22 +165,24 @@ counted-none log n r d k p h e z =
       few = omega (arith, p .few);
     }
 
-pub some-parts : (k : ℕ) → 0 < k → 0 < partsOf k
-unfolding partsOf
-some-parts k h = omega arith
-
-pub counted-some : (log : Bytes) (n r d k : ℕ) → Counted log n r d → k ≡ sizeOf (sound log n) → (k ≡ 0 → ⊥) → Counted log (n + partsOf k) (r + 1) d
-counted-some log n r d k p e z =
-    let s = sized (sound log n) k e (omega arith) in
-    let m : partsOf k ≡ parts (s .0) = ap partsOf (s .2) in
+pub counted-some : (log : Bytes) (n r d : ℕ) (p : Place) (b : Block) → Counted log n r d → p ≡ placed (sound log n) → p ≡ At b → Counted log (n + partsIn b) (r + 1) d
+counted-some log n r d k b p e z =
+    let s = placed-some (sound log n) k b e z in
+    let m : partsIn b ≡ parts (s .0) = ap partsIn (s .2) in
     rw m
     (record {
       walked = walked-some log n (s .0) (p .walked) (s .1);
       inside = sound-used log n (s .0) (s .1);
       blocks-before = omega (arith, p .blocks-before, records-some log n (s .0) (s .1));
       doubts-before = p .doubts-before ∙ sym (doubt-some log n (s .0) (s .1));
-      few = omega (arith, p .few, some-parts k (omega arith), m);
+      few = omega (arith, p .few, parts-pos (s .0) ((sound-reads log n (s .0) (s .1)) .0));
     })
+
+-- a sound block takes a sector
+pub parts-some : (log : Bytes) (n : ℕ) (p : Place) (b : Block) → p ≡ placed (sound log n) → p ≡ At b → 0 < partsIn b
+parts-some log n p b e z =
+    let s = placed-some (sound log n) p b e z in
+    rw (s .2) (parts-pos (s .0) ((sound-reads log n (s .0) (s .1)) .0))
 
 pub counted-end : (log : Bytes) (n r d : ℕ) → Counted log n r d → used log ≤ n → record { records = r; doubtful = d } ≡ surveyOf log
 unfolding doubtful

@@ -1,4 +1,5 @@
 // The report of a log: its sectors, used part, sound blocks and doubtful sectors, counted and printed.
+use reader::Place;
 use refusal::Refusal;
 use sector::SECTOR;
 use sector_number::SectorNumber;
@@ -34,14 +35,17 @@ fn scan(log: &[u8], end: SectorNumber) -> Survey
     let mut doubtful: usize = 0;
     let mut n: usize = 0;
     while n < end.0 {
-        let size = reader::sound_at(log, whole, &none, SectorNumber(n));
-        if size == 0 {
-            doubtful += 1;
-            n += 1;
-        } else {
-            let parts = block::parts_of(size);
-            records += 1;
-            n += parts;
+        let place = reader::sound_at(log, whole, &none, SectorNumber(n));
+        match place {
+            Place::At(b) => {
+                let parts = block::parts_of(b.label, b.size);
+                records += 1;
+                n += parts;
+            }
+            Place::Nowhere => {
+                doubtful += 1;
+                n += 1;
+            }
         }
     }
     Survey { records, doubtful }

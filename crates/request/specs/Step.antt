@@ -1,6 +1,7 @@
--- One request: session, message, log with its waiting part, and reply buffer -> number, session, both parts and reply buffer. "When the desk says no".
-use mathlib.Core.Bool.{Bool, cond, not}
+-- One request: session, message, date, log with its waiting part, and reply buffer -> number, session, both parts and reply buffer. "When the desk says no".
+use mathlib.Core.Bool.{Bool, true, cond, not}
 use mathlib.Core.List.{[], _∷_}
+use mathlib.Core.Option.{Option, none, some}
 use Prim.Native.Nat.{ℕ}
 use lib.Dec.{ltb}
 use lib.ListN.{length}
@@ -8,12 +9,13 @@ use Rattle.ground.specs.Choice.{on}
 use Rattle.buffer.specs.Bytes.{Bytes, same}
 use Rattle.refusal.specs.Number.{numberOf}
 use Rattle.refusal.specs.declared.Refusal.{Refusal}
-use Rattle.refusal.specs.declared.Refusal.the-variants.{Frame, Buffer, LogLength, Closed, MessageType, Body, NoHello, Hello as BadHello, BlockType, DataLength, OverCount, NoRoom}
+use Rattle.refusal.specs.declared.Refusal.the-variants.{Frame, Buffer, LogLength, Closed, MessageType, Body, NoHello, Hello as BadHello, BlockType, DataLength, OverCount, NoRoom, Date}
 use Rattle.message.specs.Message.{framed, tagOf, versionOf, scoreOf, dataOf, requestOf}
 use Rattle.message.specs.Reply.{answered, errorReply, pingReply, helloReply, readReply, writeReply, syncReply}
 use Rattle.message.specs.declared.Request.{Request}
 use Rattle.message.specs.declared.Request.the-variants.{Ping, Hello, Goodbye, Read, Write, Sync, Unknown, Ill}
 use Rattle.kind.specs.Kind.{lawful, longest}
+use Rattle.sector.specs.Sector.{isDate}
 use Rattle.log.specs.LookUp.{logAllowed, lentAllowed, held, absence}
 use Rattle.log.specs.Parts.{Lent, beside, oneLog, canSettle, settled}
 use Rattle.log.specs.Store.{store}
@@ -65,6 +67,16 @@ read kind count tag score L buffer =
     (on (held (oneLog L) kind score) (refused (absence (oneLog L)) tag Greeted L buffer)
     (λ r. cond (ltb count (length (r .bytes))) (refused OverCount tag Greeted L buffer) (granted (readReply tag (r .bytes)) Greeted L buffer)))
 
+-- "A date that isn't eight decimal digits is refusal 24": the contrary. A request of the first edition comes with no date, and has no such test
+abbrev pub dateAllowed : Option Bytes → Bool
+dateAllowed none = true
+dateAllowed (some d) = isDate d
+
+-- the date that a block gets: none in the first edition
+abbrev pub dateOf : Option Bytes → Bytes
+dateOf none = []
+dateOf (some d) = d
+
 -- what a write answers of what the store did
 abbrev pub written : Stored → ℕ → Bytes → Lent → Bytes → Outcome
 written (New at) tag score L buffer = granted (writeReply tag score) Greeted L buffer
@@ -72,11 +84,11 @@ written (Duplicate at) tag score L buffer = granted (writeReply tag score) Greet
 written (Refused w) tag score L buffer = refused w tag Greeted L buffer
 
 -- "a write then takes empty data (nothing stored), a duplicate, 15, 14", after tests 9 and 10
-unfoldable pub write : ℕ → ℕ → Bytes → Lent → Bytes → Outcome
-write kind tag d L buffer =
+unfoldable pub write : Bytes → ℕ → ℕ → Bytes → Lent → Bytes → Outcome
+write date kind tag d L buffer =
     cond (not (lawful kind)) (refused BlockType tag Greeted L buffer)
     (cond (ltb longest (length d)) (refused DataLength tag Greeted L buffer)
-    (let a = store L kind d in written (a .receipt .stored) tag (a .receipt .score) (a .lent) buffer))
+    (let a = store L date kind d in written (a .receipt .stored) tag (a .receipt .score) (a .lent) buffer))
 
 -- "sync, no longer answered at once, moves them in order into the log before it replies"; it "is 14 and moves nothing if its used sectors don't fit"
 unfoldable pub sync : ℕ → Lent → Bytes → Outcome
@@ -94,26 +106,26 @@ fresh Sync tag m L buffer = refused NoHello tag Fresh L buffer
 fresh (Read kind count) tag m L buffer = refused NoHello tag Fresh L buffer
 fresh (Write kind) tag m L buffer = refused NoHello tag Fresh L buffer
 
-unfoldable pub greeted : Request → ℕ → Bytes → Lent → Bytes → Outcome
-greeted Unknown tag m L buffer = refused MessageType tag Greeted L buffer
-greeted Ill tag m L buffer = refused Body tag Greeted L buffer
-greeted Goodbye tag m L buffer = record { number = 0; session = Shut; lent = L; reply = buffer }
-greeted Hello tag m L buffer = refused BadHello tag Greeted L buffer
-greeted Ping tag m L buffer = granted (pingReply tag) Greeted L buffer
-greeted Sync tag m L buffer = sync tag L buffer
-greeted (Read kind count) tag m L buffer = read kind count tag (scoreOf m) L buffer
-greeted (Write kind) tag m L buffer = write kind tag (dataOf m) L buffer
+unfoldable pub greeted : Bytes → Request → ℕ → Bytes → Lent → Bytes → Outcome
+greeted date Unknown tag m L buffer = refused MessageType tag Greeted L buffer
+greeted date Ill tag m L buffer = refused Body tag Greeted L buffer
+greeted date Goodbye tag m L buffer = record { number = 0; session = Shut; lent = L; reply = buffer }
+greeted date Hello tag m L buffer = refused BadHello tag Greeted L buffer
+greeted date Ping tag m L buffer = granted (pingReply tag) Greeted L buffer
+greeted date Sync tag m L buffer = sync tag L buffer
+greeted date (Read kind count) tag m L buffer = read kind count tag (scoreOf m) L buffer
+greeted date (Write kind) tag m L buffer = write date kind tag (dataOf m) L buffer
 
--- test 4
-unfoldable pub inSession : Session → Bytes → Lent → Bytes → Outcome
-inSession Shut m L buffer = silent Closed Shut L buffer
-inSession Fresh m L buffer = fresh (requestOf m) (tagOf m) m L buffer
-inSession Greeted m L buffer = greeted (requestOf m) (tagOf m) m L buffer
+-- tests 4 and 24: "after 4, outcome A"
+unfoldable pub inSession : Session → Bytes → Option Bytes → Lent → Bytes → Outcome
+inSession Shut m date L buffer = silent Closed Shut L buffer
+inSession Fresh m date L buffer = cond (dateAllowed date) (fresh (requestOf m) (tagOf m) m L buffer) (silent Date Fresh L buffer)
+inSession Greeted m date L buffer = cond (dateAllowed date) (greeted (dateOf date) (requestOf m) (tagOf m) m L buffer) (silent Date Greeted L buffer)
 
--- "Tests go in the order 1 to 10"
-unfoldable pub step : Session → Bytes → Lent → Bytes → Outcome
-step s m L buffer =
+-- "Tests go in the order 1 to 10", with 24 after 4
+unfoldable pub step : Session → Bytes → Option Bytes → Lent → Bytes → Outcome
+step s m date L buffer =
     cond (not (framed m)) (silent Frame s L buffer)
     (cond (ltb (length buffer) replyRoom) (silent Buffer s L buffer)
     (cond (not (allowed L)) (silent LogLength s L buffer)
-    (inSession s m L buffer)))
+    (inSession s m date L buffer)))

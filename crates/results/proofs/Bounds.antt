@@ -2,7 +2,7 @@
 use mathlib.Core.Bool.{Bool, true}
 use mathlib.Core.Path.{_≡_, refl, sym, _∙_}
 use Prim.Native.Nat.{ℕ, _+_, _-_, _*_, _%_, _≤_, _<_, min}
-use native.Mathlib.Nat.{min-le-left, min-le-right}
+use native.Mathlib.Nat.{min-le-left, min-le-right, mod-lt}
 use native.Mathlib.Omega.{arith}
 use lib.Dec.{ltb}
 use borrow.Author.Tests.{ltb-true}
@@ -12,7 +12,8 @@ use Rattle.buffer.specs.Bytes.{Bytes}
 use Rattle.refusal.specs.Number.{toldSector}
 use Rattle.refusal.specs.declared.Refusal.{Refusal}
 use Rattle.kind.specs.Kind.{longest}
-use Rattle.block.specs.Block.{Row, partsOf}
+use Rattle.block.specs.Block.{Row, placeOf, Inside}
+use Rattle.block.specs.declared.Block.{Block}
 use Rattle.block.specs.Log.{sectors, used}
 use Rattle.log.specs.LookUp.{lentAllowed}
 use Rattle.log.specs.Parts.{tape}
@@ -23,9 +24,9 @@ use Rattle.file.specs.declared.Located.{Located}
 use Rattle.file.specs.declared.Located.the-variants.{Stored, Waiting, Zeros, Refused}
 use Rattle.file.specs.declared.Extent.{Extent}
 use Rattle.file.specs.declared.Extent.the-variants as ext
-use Rattle.file.specs.File.{zeroRun, storedRun, placeIn, leafRun, pageAllowed, entryReadable, under, extentAt, split, located}
+use Rattle.file.specs.File.{zeroRun, storedRun, payloadIn, placeIn, leafRun, pageAllowed, entryReadable, under, extentAt, split, located}
 use Rattle.file.proofs.Under.{under-ind}
-use Rattle.tree.proofs.Pieces.{part-of}
+use Rattle.block.proofs.Facts.{part-of}
 use Rattle.file.proofs.Tests.{opened}
 use Rattle.results.specs.Tree.{mostBoth}
 use Rattle.results.proofs.Doubts.{absence-told, both-few}
@@ -41,8 +42,10 @@ Small (Waiting at n) = (at < 512 * mostBoth) × (n ≤ longest)
 Small (Zeros n) = n ≤ longest
 Small (Refused w) = toldSector w ≤ mostBoth
 
-place-small : (l n size k : ℕ) → sectors l ≤ mostBoth → n + partsOf size ≤ sectors l → k < size → placeIn n k < 512 * mostBoth
-place-small l n size k h r g = omega (arith, part-of size k g)
+place-small : (l k : ℕ) (b : Block) → sectors l ≤ mostBoth → Inside (sectors l) b → k < b .size → placeIn b k < 512 * mostBoth
+place-small l k b h r g =
+    let pos : 0 < payloadIn b = omega (arith, r .1) in
+    omega (arith, part-of (payloadIn b) pos k (b .size) g, mod-lt k pos, r .0, r .1)
 
 module _ (log : Bytes) (page : ℕ) (e : Entry) (offset : ℕ) (h : sectors (length log) ≤ mostBoth) (d : e .dsize ≤ longest) where
   zero-small : SmallIn (zeroRun page e offset)
@@ -51,14 +54,14 @@ module _ (log : Bytes) (page : ℕ) (e : Entry) (offset : ℕ) (h : sectors (len
       let c = e .size - offset in
       omega (arith, min-le-right page (min b c), min-le-left b c)
 
-  stored-small : (r : Row) → Stands log r → offset % e .dsize < length (r .bytes) → SmallIn (storedRun e offset (r .first) (length (r .bytes)))
+  stored-small : (r : Row) → Stands log r → offset % e .dsize < length (r .bytes) → SmallIn (storedRun e offset (placeOf r))
   stored-small r P g =
       let k = offset % e .dsize in (
-        place-small (length log) (r .first) (length (r .bytes)) k h (P .within) g,
-        omega (arith, min-le-left (403 - k % 403) (min (length (r .bytes) - k) (e .size - offset))),
+        place-small (length log) k (placeOf r) h (P .within) g,
+        omega (arith, min-le-left (payloadIn (placeOf r) - k % payloadIn (placeOf r)) (min (length (r .bytes) - k) (e .size - offset))),
       )
 
-  leaf-small : (r : Row) → Stands log r → SmallIn (leafRun page e offset (r .first) (length (r .bytes)))
+  leaf-small : (r : Row) → Stands log r → SmallIn (leafRun page e offset (placeOf r))
   unfolding leafRun
   leaf-small r P =
       cond-ind SmallIn (ltb (offset % e .dsize) (length (r .bytes))) _ _

@@ -2,7 +2,7 @@
 use Prim.Native.Nat.{_≤_}
 use native.Mathlib.Omega.{arith}
 use Rattle.refusal.specs.declared.Refusal.{Refusal}
-use Rattle.refusal.specs.declared.Refusal.the-variants.{Frame, Buffer, LogLength, Closed, MessageType, Body, NoHello, Hello, BlockType, DataLength, NotHeld, NotKnown, OverCount, NoRoom, Clash, Entry, Offset, Pointers, Page, Nest, Spent, Pad, Allowance, Card, Query}
+use Rattle.refusal.specs.declared.Refusal.the-variants.{Frame, Buffer, LogLength, Closed, MessageType, Body, NoHello, Hello, BlockType, DataLength, NotHeld, NotKnown, OverCount, NoRoom, Clash, Entry, Offset, Pointers, Page, Nest, Spent, Pad, Allowance, Date, Card, Query}
 use Rattle.refusal.specs.Number.{numberOf}
 
 pub number-bounds : (w : Refusal) → (1 ≤ numberOf w) × (numberOf w ≤ 26)
@@ -29,5 +29,6 @@ number-bounds Nest = (omega arith, omega arith)
 number-bounds Spent = (omega arith, omega arith)
 number-bounds Pad = (omega arith, omega arith)
 number-bounds Allowance = (omega arith, omega arith)
+number-bounds Date = (omega arith, omega arith)
 number-bounds Card = (omega arith, omega arith)
 number-bounds Query = (omega arith, omega arith)

@@ -11,15 +11,19 @@ use Rattle.buffer.specs.Bytes.{Bytes}
 use Rattle.refusal.specs.Number.{numberOf}
 use Rattle.refusal.specs.declared.Refusal.the-variants.{LogLength}
 use Rattle.sector.specs.Sector.{line, lines}
+use Rattle.block.specs.declared.Block.{Block}
+use Rattle.reader.specs.Reader.{placed}
+use Rattle.reader.specs.declared.Place.{Place}
+use Rattle.reader.specs.declared.Place.the-variants.{At, Nowhere}
+use Rattle.lookup.proofs.Laws.{placed-some, placed-none}
 use Rattle.block.specs.Log.{used, sound}
 use Rattle.block.proofs.Apart.{none-past}
 use Rattle.block.proofs.Used.{used-le-sectors}
 use Rattle.log.specs.LookUp.{logAllowed}
-use Rattle.reader.specs.Reader.{sizeOf}
 use Rattle.report.specs.declared.Reported.{Reported}
 use Rattle.report.specs.Report.{sectorsName, usedName, recordsName, doubtfulName, verdictName, decimal, verdict, surveyOf, textOf, reportText, ReportOutcome, reportOutcome, reportOf}
 use Rattle.report.proofs.Laws.{verdict-length, line-short, report-room}
-use Rattle.results.specs.Survey.{reportNumber, textLength, reported, reportResult, soundResult}
+use Rattle.results.specs.Survey.{reportNumber, textLength, reported, reportResult, soundResult, sizeOf}
 
 -- ---- the report
 
@@ -62,6 +66,12 @@ module _ (log : Bytes) (n : ℕ) (a : Bool) (e : a ≡ logAllowed (length log)) 
     unfolding soundResult
     sound-past h = rw (sym e ∙ q, none-past log n (omega (arith, used-le-sectors log))) refl
 
-    pub sound-sized : (k : ℕ) → k ≡ sizeOf (sound log n) → 256 * k ≡ soundResult log n
+    pub sound-sized : (p : Place) (b : Block) → p ≡ placed (sound log n) → p ≡ At b → 256 * b .size ≡ soundResult log n
     unfolding soundResult
-    sound-sized k z = rw (sym e ∙ q) (ap (λ (x : ℕ). 256 * x) z)
+    sound-sized p b z g =
+        let r = placed-some (sound log n) p b z g in
+        rw (sym e ∙ q, r .1) (ap (λ (x : Block). 256 * x .size) (r .2))
+
+    pub sound-none : (p : Place) → p ≡ placed (sound log n) → p ≡ Nowhere → 0 ≡ soundResult log n
+    unfolding soundResult
+    sound-none p z g = rw (sym e ∙ q, placed-none (sound log n) p z g) refl

@@ -1,5 +1,6 @@
 -- What a caller reads back: each claim of specs/Unpacked.antt.
 use mathlib.Core.Path.{_≡_, refl, sym, ap, _∙_}
+use mathlib.Core.Option.{Option}
 use mathlib.Core.Bool.{Bool, true, false, cond, not}
 use mathlib.Core.List.{[], _∷_}
 use Prim.Native.Nat.{ℕ, _+_, _*_, _/_, _%_, _<_}
@@ -18,7 +19,6 @@ use Rattle.message.specs.Message.{framed, tagOf, versionOf, scoreOf, dataOf, re
 use Rattle.message.specs.declared.Request.{Request}
 use Rattle.message.specs.declared.Request.the-variants.{Ping, Hello, Goodbye, Read, Write, Sync, Unknown, Ill}
 use Rattle.block.specs.Log.{sound}
-use Rattle.reader.specs.Reader.{sizeOf}
 use Rattle.log.specs.LookUp.{held, absence, logAllowed}
 use Rattle.log.specs.Store.{store}
 use Rattle.log.specs.declared.Stored.{Stored}
@@ -39,7 +39,7 @@ use Rattle.visit.specs.declared.End.the-variants.{Done, Refused}
 use Rattle.walk.specs.Walk.{walkOf}
 use Rattle.visit.specs.Visit.{endNumber}
 use Rattle.results.specs.Serve.{sessionOf, sessionNumber}
-use Rattle.results.specs.Survey.{soundResult}
+use Rattle.results.specs.Survey.{soundResult, sizeOf}
 use Rattle.results.specs.Blocks.{typeResult}
 use Rattle.results.specs.Tree.{run, runOf, stopSector, endSector}
 use Rattle.results.specs.Unpacked as claims
@@ -67,7 +67,7 @@ Few o = o .number < 256
 few : (w : Refusal) → numberOf w < 256
 few w = omega (arith, number-bounds w .1)
 
-module _ (m : Bytes) (L : Lent) (buffer : Bytes) where
+module _ (m : Bytes) (date : Option Bytes) (L : Lent) (buffer : Bytes) where
   read-few : (t count : ℕ) → Few (steps.read t count (tagOf m) (scoreOf m) L buffer)
   unfolding steps.read
   read-few t count =
@@ -79,12 +79,12 @@ module _ (m : Bytes) (L : Lent) (buffer : Bytes) where
   written-few (stored.Duplicate at) tag score after = omega arith
   written-few (stored.Refused w) tag score after = few w
 
-  write-few : (t : ℕ) → Few (steps.write t (tagOf m) (dataOf m) L buffer)
+  write-few : (t : ℕ) → Few (steps.write (steps.dateOf date) t (tagOf m) (dataOf m) L buffer)
   unfolding steps.write
   write-few t =
       cond-ind Few (not (lawful t)) _ _ (λ _. omega arith) (λ _.
       cond-ind Few (ltb longest (length (dataOf m))) _ _ (λ _. omega arith) (λ _.
-      let a = store L t (dataOf m) in written-few (a .receipt .stored) (tagOf m) (a .receipt .score) (a .lent)))
+      let a = store L (steps.dateOf date) t (dataOf m) in written-few (a .receipt .stored) (tagOf m) (a .receipt .score) (a .lent)))
 
   sync-few : Few (steps.sync (tagOf m) L buffer)
   unfolding steps.sync
@@ -101,7 +101,7 @@ module _ (m : Bytes) (L : Lent) (buffer : Bytes) where
   fresh-few (Read t c) = omega arith
   fresh-few (Write t) = omega arith
 
-  greeted-few : (q : Request) → Few (steps.greeted q (tagOf m) m L buffer)
+  greeted-few : (q : Request) → Few (steps.greeted (steps.dateOf date) q (tagOf m) m L buffer)
   unfolding steps.greeted
   greeted-few Unknown = omega arith
   greeted-few Ill = omega arith
@@ -112,13 +112,13 @@ module _ (m : Bytes) (L : Lent) (buffer : Bytes) where
   greeted-few (Read t c) = read-few t c
   greeted-few (Write t) = write-few t
 
-  session-few : (s : Session) → Few (steps.inSession s m L buffer)
+  session-few : (s : Session) → Few (steps.inSession s m date L buffer)
   unfolding steps.inSession
-  session-few Fresh = fresh-few (requestOf m)
-  session-few Greeted = greeted-few (requestOf m)
+  session-few Fresh = cond-ind Few (steps.dateAllowed date) _ _ (λ _. fresh-few (requestOf m)) (λ _. omega arith)
+  session-few Greeted = cond-ind Few (steps.dateAllowed date) _ _ (λ _. greeted-few (requestOf m)) (λ _. omega arith)
   session-few Shut = omega arith
 
-  step-few : (s : Session) → Few (step s m L buffer)
+  step-few : (s : Session) → Few (step s m date L buffer)
   unfolding step
   step-few s =
       cond-ind Few (not (framed m)) _ _ (λ _. omega arith) (λ _.
@@ -132,9 +132,9 @@ session-goes-round Greeted = refl
 session-goes-round Shut = refl
 
 pub request-unpacks : claims.RequestUnpacks
-request-unpacks s m L buffer =
-    let o = step s m L buffer in
-    let b = beside (o .number) (sessionNumber (o .session)) (step-few m L buffer s) in
+request-unpacks s m date L buffer =
+    let o = step s m date L buffer in
+    let b = beside (o .number) (sessionNumber (o .session)) (step-few m date L buffer s) in
     (b .0, ap sessionOf (b .1) ∙ session-goes-round (o .session))
 
 -- ---- the other calls

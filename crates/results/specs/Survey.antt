@@ -1,13 +1,14 @@
 -- A log's report and its sound blocks, in numbers and byte strings.
 use mathlib.Core.Bool.{cond}
+use mathlib.Core.Option.{Option, none, some}
 use Prim.Native.Nat.{ℕ, _*_}
 use lib.ListN.{length}
 use Rattle.buffer.specs.Bytes.{Bytes}
 use Rattle.refusal.specs.Number.{numberOf}
 use Rattle.refusal.specs.declared.Refusal.the-variants.{LogLength}
+use Rattle.block.specs.Block.{Row}
 use Rattle.block.specs.Log.{sound}
 use Rattle.log.specs.LookUp.{logAllowed}
-use Rattle.reader.specs.Reader.{sizeOf}
 use Rattle.report.specs.declared.Reported.{Reported}
 use Rattle.report.specs.declared.Reported.the-variants.{Written, Refused}
 use Rattle.report.specs.Report.{ReportOutcome}
@@ -32,6 +33,11 @@ reported r b = record { result = r; buffer = b }
 
 abbrev pub reportResult : ReportOutcome → Report
 reportResult o = reported (reportNumber (o .answer)) (o .buffer)
+
+-- the size of a sound block, and 0 where there is none: a sound block has at least one byte
+abbrev pub sizeOf : Option Row → ℕ
+sizeOf none = 0
+sizeOf (some r) = length (r .bytes)
 
 -- 256 times the size of the sound block that starts at sector n, 0 where none does; refusal 3 for a log that is not allowed
 unfoldable pub soundResult : Bytes → ℕ → ℕ

@@ -18,7 +18,6 @@ use Rattle.cut.specs.Cut.{cutOf}
 use Rattle.report.specs.declared.Reported.{Reported}
 use Rattle.report.specs.declared.Reported.the-variants as told
 use Rattle.log.specs.LookUp.{logAllowed}
-use Rattle.reader.specs.Reader.{sizeOf}
 use Rattle.log.specs.Parts.{Lent}
 use Rattle.request.specs.Step.{step}
 use Rattle.request.specs.declared.Session.{Session}
@@ -33,7 +32,7 @@ use Rattle.search.specs.Search.{answerNumber}
 use Rattle.results.specs.Serve.{sessionOf, sessionNumber, servedOf}
 use Rattle.visit.specs.Visit.{endNumber}
 use Rattle.results.specs.Blocks.{typeResult, cutResult}
-use Rattle.results.specs.Survey.{reportNumber, textLength, soundResult}
+use Rattle.results.specs.Survey.{reportNumber, textLength, soundResult, sizeOf}
 use Rattle.results.specs.Tree.{packed, unpacked, run, runOf, fillResult, walkResult, endSector}
 use Rattle.results.specs.Search.{valueNumber, valueFrom, answerSector, searchResult}
 
@@ -49,8 +48,8 @@ abbrev pub SessionGoesRound : Type 0
 SessionGoesRound = (s : Session) → sessionOf (sessionNumber s) ≡ s
 
 abbrev pub RequestUnpacks : Type 0
-RequestUnpacks = (s : Session) (m : Bytes) (L : Lent) (buffer : Bytes)
-    → let o = step s m L buffer in (numberIn (servedOf o .result) ≡ o .number) × (sessionOf (answerIn (servedOf o .result)) ≡ o .session)
+RequestUnpacks = (s : Session) (m : Bytes) (date : Option Bytes) (L : Lent) (buffer : Bytes)
+    → let o = step s m date L buffer in (numberIn (servedOf o .result) ≡ o .number) × (sessionOf (answerIn (servedOf o .result)) ≡ o .session)
 
 -- a file's run: the number, the slice in which it lies, its start and its length
 abbrev pub RunUnpacks : Type 0

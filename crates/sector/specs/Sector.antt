@@ -1,8 +1,9 @@
--- "A sector of the log": 96 bytes of label, 403 of payload, 13 of check. Nothing below but the label's own lines knows
--- the label's length: another edition of the label is another list of lines.
-use mathlib.Core.Bool.{Bool}
+-- "A sector of the log": a label, a payload that fills it up to 499 bytes, 13 bytes of check. The label is the six lines of the first edition,
+-- 96 bytes; in the second edition the line of a date stands before them.
+use mathlib.Core.Bool.{Bool, true, cond, _&&_}
 use mathlib.Core.List.{List, [], _∷_, _++_}
-use Prim.Native.Nat.{ℕ, _-_}
+use Prim.Native.Nat.{ℕ, _+_, _-_}
+use lib.Dec.{leb, eqb}
 use lib.ListN.{length, take, drop, replicate}
 use Rattle.buffer.specs.Bytes.{Bytes, same}
 use Rattle.word.specs.Hex.{hex, hexBytes, hexValue, readBytes}
@@ -18,7 +19,10 @@ abbrev pub lines : List Bytes → Bytes
 lines [] = []
 lines (l ∷ ls) = l ++ lines ls
 
--- the names, as bytes: rec= part= of= type= size= score= crc=
+-- the names, as bytes: date= rec= part= of= type= size= score= crc=
+abbrev pub dateName : Bytes
+dateName = 100 ∷ 97 ∷ 116 ∷ 101 ∷ 61 ∷ []
+
 abbrev pub recName : Bytes
 recName = 114 ∷ 101 ∷ 99 ∷ 61 ∷ []
 
@@ -54,7 +58,48 @@ labelLines l score =
 unfoldable pub labelOf : Label → Bytes → Bytes
 labelOf l score = lines (labelLines l score)
 
--- what the digits at their places in such a label say; characters that are no digits make some number too, whose label isn't these bytes
+-- "eight decimal digits": bytes 0x30 to 0x39, and no calendar
+abbrev pub decimals : Bytes → Bool
+decimals [] = true
+decimals (b ∷ bs) = (leb 48 b && leb b 57) && decimals bs
+
+unfoldable pub isDate : Bytes → Bool
+isDate d = eqb (length d) 8 && decimals d
+
+-- a date, or none
+abbrev pub isDateOrNone : Bytes → Bool
+isDateOrNone [] = true
+isDateOrNone (b ∷ bs) = isDate (b ∷ bs)
+
+-- "A second edition of the label has a first line date= with eight decimal digits"; the first edition has no date, and nothing before its lines
+abbrev pub frontOf : Bytes → Bytes
+frontOf [] = []
+frontOf (b ∷ bs) = line dateName (b ∷ bs)
+
+-- the label of a sector, whole: 96 bytes, or 110 behind a date's line
+abbrev pub datedLabel : Bytes → Label → Bytes → Bytes
+datedLabel date l score = frontOf date ++ labelOf l score
+
+-- how long it is
+abbrev pub labelLength : Bytes → ℕ
+labelLength date = length (frontOf date) + 96
+
+-- how long the payload is behind it: 403, or 389
+abbrev pub payloadOf : ℕ → ℕ
+payloadOf label = 499 - label
+
+-- "told apart by the first line": whether a sector begins with a date's line, and that date, or none
+unfoldable pub isDated : Bytes → Bool
+isDated s = same (take 14 s) (line dateName (take 8 (drop 5 s))) && isDate (take 8 (drop 5 s))
+
+unfoldable pub dateField : Bytes → Bytes
+dateField s = cond (isDated s) (take 8 (drop 5 s)) []
+
+-- a sector's bytes behind the line of its date
+abbrev pub behind : Bytes → Bytes
+behind s = drop (length (frontOf (dateField s))) s
+
+-- what the digits at their places in the six lines say; characters that are no digits make some number too, whose label isn't these bytes
 abbrev pub recField : Bytes → ℕ
 recField s = hexValue (take 8 (drop 4 s))
 

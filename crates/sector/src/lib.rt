@@ -1,11 +1,12 @@
 // One sector of the log: label, payload and check, written and tested.
 use sector_number::SectorNumber;
 ghost use mathlib.Core.Path.{_≡_};
+ghost use mathlib.Core.List.{_++_};
 ghost use Prim.Native.Nat.{_+_, _≤_};
 ghost use lib.ListN.{length, take, drop};
 ghost use Rattle.buffer.specs.Bytes.{same, put};
 ghost use Rattle.word.specs.Hex.{hex, hexBytes};
-ghost use Rattle.sector.specs.Sector.{line, scoreName, labelOf, fits, encode};
+ghost use Rattle.sector.specs.Sector.{line, dateName, scoreName, labelOf, fits, encode, isDate, frontOf, dateField};
 
 // What the label of a sector says beside the score: the sector where the block starts, which part this is and of how many,
 // the block's type, and the bytes in the block.
@@ -19,11 +20,65 @@ pub struct Label {
 
 pub const SECTOR: usize = 512;
 
+// The six lines of a label.
 pub const LABEL: usize = 96;
 
-pub const PAYLOAD: usize = 403;
+// The line of a date, before them.
+pub const FRONT: usize = 14;
 
+// Where the digits of the score stand among the six lines.
+pub const SCORE: usize = 55;
+
+// Label and payload.
 pub const BODY: usize = 499;
+
+// Whether bytes are a date: eight decimal digits.
+pub fn is_date(d: &[u8]) -> bool
+    ensures { λ r. ⌜ r ≡ isDate (now (d .entry)) ⌝ }
+{
+    if d.len() != 8 {
+        return false;
+    }
+    let mut i: usize = 0;
+    while i < d.len() {
+        let b = d[i];
+        if b < 48 {
+            return false;
+        }
+        if 57 < b {
+            return false;
+        }
+        i += 1;
+    }
+    true
+}
+
+// How long the line of a date is with which a sector begins, 0 where it begins with none.
+pub fn front_length(s: &[u8]) -> usize
+    requires { ⌜ 14 ≤ length (now s) ⌝ }
+    ensures { λ r. ⌜ r ≡ length (frontOf (dateField (now (s .entry)))) ⌝ }
+{
+    if s[13] != 10 {
+        return 0;
+    }
+    if !buffer::equal(&s[..5], b"date=") {
+        return 0;
+    }
+    if !is_date(&s[5..13]) {
+        return 0;
+    }
+    FRONT
+}
+
+// Writes the line of a date.
+pub fn write_front(d: &mut [u8], date: &[u8])
+    requires { ⌜ (length (now d) ≡ 14) × (length (now date) ≡ 8) ⌝ }
+    ensures { λ _. ⌜ now (d .exit) ≡ line dateName (now (date .entry)) ⌝ }
+{
+    buffer::copy_at(d, 0, b"date=");
+    buffer::copy_at(d, 5, date);
+    d[13] = 10;
+}
 
 // Writes a line, its name, the digits of n and a line feed, into d from `at` on.
 pub fn write_line(d: &mut [u8], at: usize, name: &[u8], width: usize, n: usize)
@@ -63,14 +118,19 @@ pub fn write_label(d: &mut [u8], l: Label, score: &[u8])
     write_score(d, 49, score);
 }
 
-// Whether the first 96 bytes of a sector are exactly the lines of a label.
-pub fn has_label(s: &[u8], l: Label, score: &[u8]) -> bool
-    requires { ⌜ (96 ≤ length (now s)) × (length (now score) ≡ 20) ⌝ }
-    ensures { λ r. ⌜ r ≡ same (take 96 (now (s .entry))) (labelOf l (now (score .entry))) ⌝ }
+// Whether a sector begins with `front` and then exactly the lines of a label.
+pub fn has_label(s: &[u8], front: &[u8], l: Label, score: &[u8]) -> bool
+    requires { ⌜ (length (now front) + 96 ≤ length (now s)) × (length (now score) ≡ 20) ⌝ }
+    ensures { λ r. ⌜ r ≡ same (take (length (now (front .entry)) + 96) (now (s .entry))) (now (front .entry) ++ labelOf l (now (score .entry))) ⌝ }
 {
+    let from = front.len();
+    if !buffer::equal(&s[..from], front) {
+        return false;
+    }
     let mut expected = [0u8; 96];
     write_label(&mut expected, l, score);
-    buffer::equal(&s[..LABEL], &expected)
+    let end = from + LABEL;
+    buffer::equal(&s[from..end], &expected)
 }
 
 // Whether the last 13 bytes of a sector are exactly the line of its check.
@@ -84,14 +144,17 @@ pub fn has_check(s: &[u8]) -> bool
     buffer::equal(&s[BODY..], &expected)
 }
 
-// Writes a sector: the label, a piece of data filled up with zeros, and the check.
-pub fn write_sector(d: &mut [u8], l: Label, score: &[u8], piece: &[u8])
-    requires { ⌜ (length (now d) ≡ 512) × (length (now score) ≡ 20) × (length (now piece) ≤ 403) ⌝ }
-    ensures { λ _. ⌜ now (d .exit) ≡ encode (labelOf l (now (score .entry))) (now (piece .entry)) ⌝ }
+// Writes a sector: `front` and the lines of the label, a piece of data filled up with zeros, and the check.
+pub fn write_sector(d: &mut [u8], front: &[u8], l: Label, score: &[u8], piece: &[u8])
+    requires { ⌜ (length (now d) ≡ 512) × (length (now score) ≡ 20) × (length (now front) + (96 + length (now piece)) ≤ 499) ⌝ }
+    ensures { λ _. ⌜ now (d .exit) ≡ encode (now (front .entry) ++ labelOf l (now (score .entry))) (now (piece .entry)) ⌝ }
 {
-    write_label(d, l, score);
-    buffer::copy_at(d, LABEL, piece);
-    let end = LABEL + piece.len();
+    buffer::copy_at(d, 0, front);
+    let from = front.len();
+    write_label(&mut d[from..], l, score);
+    let at = from + LABEL;
+    buffer::copy_at(d, at, piece);
+    let end = at + piece.len();
     buffer::clear(&mut d[end..BODY]);
     let crc = crc32::crc32(&d[..BODY]);
     write_line(d, BODY, b"crc=", 8, crc as usize);

@@ -10,97 +10,92 @@ use Rattle.buffer.specs.Bytes.{Bytes, same, put}
 use Rattle.buffer.proofs.Bytes.{same-false}
 use Rattle.sha1.specs.Sha1.{sha1Of}
 use Rattle.refusal.specs.declared.Refusal.the-variants.{NoRoom, Clash}
-use Rattle.sector_number.specs.declared.SectorNumber.{SectorNumber}
-use Rattle.block.specs.Block.{Row, partsOf}
-use Rattle.block.specs.Log.{sectors, joined, used}
+use Rattle.sector.specs.Sector.{payloadOf}
+use Rattle.sector.proofs.Dates.{front-eight}
+use Rattle.block.specs.Block.{partsOf, Inside}
+use Rattle.block.specs.declared.Block.{Block}
+use Rattle.block.specs.Log.{sectors, Alike, joined, used, bytesOf}
+use Rattle.block.proofs.Alike.{bytes-alike}
 use Rattle.block.proofs.Joined.{used-joined}
-use Rattle.reader.specs.Reader.{bytesAt}
+use Rattle.reader.specs.Reader.{placed}
 use Rattle.reader.proofs.Pieces.{length-bytes}
 use Rattle.lookup.proofs.Held.{held-stands}
-use Rattle.lookup.specs.Place.{placeOf}
-use Rattle.lookup.specs.declared.Place.{Place}
-use Rattle.lookup.specs.declared.Place.the-variants.{At, Nowhere}
+use Rattle.lookup.proofs.Laws.{placed-some, placed-none}
+use Rattle.reader.specs.declared.Place.{Place}
+use Rattle.reader.specs.declared.Place.the-variants.{At, Nowhere}
 use Rattle.log.specs.LookUp.{held}
+use Rattle.log.proofs.Alike.{held-alike}
 use Rattle.log.specs.Parts.{tape, writtenFrom, moved, Lent, beside, roomFor, appendRow, canSettle, settled}
-use Rattle.log.specs.Store.{afterStore, receipt, newRow, appended, compared, store}
+use Rattle.log.specs.Store.{afterStore, receipt, newRow, partsFor, appended, compared, store}
 use Rattle.log.specs.declared.Stored.{Stored}
 use Rattle.log.specs.declared.Stored.the-variants.{New, Duplicate, Refused}
 use Rattle.log.proofs.Room.{room-there, lacks-in-log, lacks-in-waiting, can-settle, cannot-settle}
 
 -- ---- a block that look-up did not find
 
-module _ (log w : Bytes) (t : ℕ) (d : Bytes) where
-  pub no-room : roomFor (beside log w) (partsOf (length d)) ≡ false
-      → afterStore (receipt (sha1Of d) (Refused NoRoom)) (beside log w) ≡ appended (beside log w) t d
+module _ (log w date : Bytes) (t : ℕ) (d : Bytes) where
+  pub no-room : roomFor (beside log w) (partsFor date d) ≡ false
+      → afterStore (receipt (sha1Of d) (Refused NoRoom)) (beside log w) ≡ appended (beside log w) date t d
   no-room h = rw h
 
   pub room : (n : ℕ) (s w′ : Bytes) → n ≡ used log + used w → s ≡ sha1Of d
-      → used log + used w + partsOf (length d) ≤ sectors (length log) → used w + partsOf (length d) ≤ sectors (length w)
-      → w′ ≡ writtenFrom (used log) w (record { kind = t; score = s; bytes = d; first = n })
-      → afterStore (receipt (sha1Of d) (New (record { 0 = n }))) (beside log w′) ≡ appended (beside log w) t d
+      → used log + used w + partsFor date d ≤ sectors (length log) → used w + partsFor date d ≤ sectors (length w)
+      → w′ ≡ writtenFrom (used log) w (record { kind = t; score = s; bytes = d; first = n; date = date })
+      → afterStore (receipt (sha1Of d) (New (record { 0 = n }))) (beside log w′) ≡ appended (beside log w) date t d
   unfolding appendRow
   room n s w′ e f a b p =
       let g : n ≡ used (tape log w) = e ∙ sym (used-joined log w) in
-      let q : w′ ≡ writtenFrom (used log) w (newRow (beside log w) t d) =
-      p ∙ (λ i. writtenFrom (used log) w (record { kind = t; score = f i; bytes = d; first = g i })) in
-      rw (room-there log w (partsOf (length d)) a b) (λ i. afterStore (receipt (sha1Of d) (New (record { 0 = g i }))) (beside log (q i)))
+      let q : w′ ≡ writtenFrom (used log) w (newRow (beside log w) date t d) =
+      p ∙ (λ i. writtenFrom (used log) w (record { kind = t; score = f i; bytes = d; first = g i; date = date })) in
+      rw (room-there log w (partsFor date d) a b) (λ i. afterStore (receipt (sha1Of d) (New (record { 0 = g i }))) (beside log (q i)))
+
+-- a date's labels
+pub parts-dated : (date d : Bytes) (n : ℕ) → length date ≡ 8 → n ≡ partsOf (payloadOf (14 + 96)) (length d) → n ≡ partsFor date d
+parts-dated date d n h e = e ∙ ap (λ (k : ℕ). partsOf (payloadOf (k + 96)) (length d)) (sym (front-eight date h))
 
 -- ---- a found block compared, in the log of both parts; L is what was lent
 
-module _ (L : Lent) (log : Bytes) (n k : ℕ) (d : Bytes) where
-  pub other-length : (k ≡ length d → ⊥) → afterStore (receipt (sha1Of d) (Refused Clash)) L ≡ compared L (bytesAt log n k) n d
-  other-length h = rw (same-false (bytesAt log n k) d (λ e. h (sym (length-bytes log n k) ∙ ap length e)))
+module _ (L : Lent) (log : Bytes) (b : Block) (d : Bytes) (short : b .label < 499) where
+  pub other-length : (b .size ≡ length d → ⊥) → afterStore (receipt (sha1Of d) (Refused Clash)) L ≡ compared L (bytesOf log b) (b .first .0) d
+  other-length h = rw (same-false (bytesOf log b) d (λ e. h (sym (length-bytes log b short) ∙ ap length e)))
 
-  module _ (b : Bool) (e : k ≡ length d) (p : b ≡ same (bytesAt log n (length d)) d) where
-    pub same-block : b ≡ true → afterStore (receipt (sha1Of d) (Duplicate (record { 0 = n }))) L ≡ compared L (bytesAt log n k) n d
-    same-block q = rw (ap (λ (x : ℕ). same (bytesAt log n x) d) e ∙ sym p ∙ q)
+  module _ (t : Bool) (p : t ≡ same (bytesOf log b) d) where
+    pub same-block : t ≡ true → afterStore (receipt (sha1Of d) (Duplicate (b .first))) L ≡ compared L (bytesOf log b) (b .first .0) d
+    same-block q = rw (sym p ∙ q)
 
-    pub other-block : b ≡ false → afterStore (receipt (sha1Of d) (Refused Clash)) L ≡ compared L (bytesAt log n k) n d
-    other-block q = rw (ap (λ (x : ℕ). same (bytesAt log n x) d) e ∙ sym p ∙ q)
+    pub other-block : t ≡ false → afterStore (receipt (sha1Of d) (Refused Clash)) L ≡ compared L (bytesOf log b) (b .first .0) d
+    other-block q = rw (sym p ∙ q)
 
--- ---- the place that look-up gives, as a row
+-- ---- the place that look-up gives
 
-found-row : (o : Option Row) (p : Place) (f : SectorNumber) (n : ℕ) → p ≡ placeOf o → p ≡ At f n → (r : Row) × (o ≡ some r) × (f .0 ≡ r .first) × (n ≡ length (r .bytes))
-found-row none p f n e z = let y : _≡_ {A = ℕ} 0 1 = cc in absurd (omega arith)
-found-row (some r) p f n e z =
-    let q : At f n ≡ At (record { 0 = r .first }) (length (r .bytes)) = sym z ∙ e in
-    let a : f ≡ record { 0 = r .first } = cc in
-    (r, refl, ap (λ (x : SectorNumber). x .0) a, cc)
-
-pub found-within : (log : Bytes) (t : ℕ) (s : Bytes) (p : Place) (f : SectorNumber) (n : ℕ) → p ≡ placeOf (held log t s) → p ≡ At f n → f .0 + partsOf n ≤ sectors (length log)
-found-within log t s p f n e z =
-    let q = found-row (held log t s) p f n e z in
-    let w = (held-stands log t s (q .0) (q .1)) .within in
-    let a : f .0 ≡ (q .0) .first = q .2 in
-    let b : partsOf n ≡ partsOf (length ((q .0) .bytes)) = ap partsOf (q .3) in
-    omega (arith, a, b, w)
-
-none-row : (o : Option Row) (p : Place) → p ≡ placeOf o → p ≡ Nowhere → o ≡ none
-none-row none p e z = refl
-none-row (some r) p e z = let y : _≡_ {A = ℕ} 0 1 = cc in absurd (omega arith)
+pub found-within : (log : Bytes) (t : ℕ) (s : Bytes) (p : Place) (b : Block) (n : ℕ) → p ≡ placed (held log t s) → p ≡ At b → sectors (length log) ≡ n → Inside n b
+found-within log t s p b n e z h =
+    let q = placed-some (held log t s) p b e z in
+    rw (← h, q .2) ((held-stands log t s (q .0) (q .1)) .within)
 
 -- ---- a store, by what look-up finds in the log of both parts; u is where the waiting sectors are read on from
 
-module _ (log w : Bytes) (u t : ℕ) (d s : Bytes) (p : Place) (r : Stored) (v : u ≡ used log) (g : s ≡ sha1Of d) (e : p ≡ placeOf (held (joined u log w) t s)) where
+module _ (log w : Bytes) (u t : ℕ) (date d s : Bytes) (p : Place) (r : Stored) (f : Alike (joined u log w) (tape log w)) (g : s ≡ sha1Of d)
+    (e : p ≡ placed (held (joined u log w) t s)) where
   abbrev L : Lent
   L = beside log w
 
-  found : p ≡ placeOf (held (tape log w) t s)
-  found = e ∙ ap (λ (n : ℕ). placeOf (held (joined n log w) t s)) v
+  found : p ≡ placed (held (tape log w) t s)
+  found = e ∙ ap placed (held-alike (joined u log w) (tape log w) f t s)
 
-  pub store-found : (f : SectorNumber) (n : ℕ) → p ≡ At f n
-      → afterStore (receipt (sha1Of d) r) L ≡ compared L (bytesAt (joined u log w) (f .0) n) (f .0) d → afterStore (receipt s r) L ≡ store L t d
+  pub store-found : (b : Block) → p ≡ At b
+      → afterStore (receipt (sha1Of d) r) L ≡ compared L (bytesOf (joined u log w) b) (b .first .0) d → afterStore (receipt s r) L ≡ store L date t d
   unfolding store
-  store-found f n z c =
-      let q = found-row (held (tape log w) t s) p f n found z in
+  store-found b z c =
+      let q = placed-some (held (tape log w) t s) p b found z in
       let h : held (tape log w) t (sha1Of d) ≡ some (q .0) = ap (held (tape log w) t) (sym g) ∙ q .1 in
-      let b : bytesAt (joined u log w) (f .0) n ≡ (q .0) .bytes =
-      (λ i. bytesAt (joined (v i) log w) (q .2 i) (q .3 i)) ∙ sym ((held-stands (tape log w) t s (q .0) (q .1)) .bytes-there) in
-      rw (g, h) (c ∙ (λ i. compared L (b i) (q .2 i) d))
+      let x : bytesOf (joined u log w) b ≡ (q .0) .bytes =
+      bytes-alike (joined u log w) (tape log w) f b ∙ ap (bytesOf (tape log w)) (q .2) ∙ sym ((held-stands (tape log w) t s (q .0) (q .1)) .bytes-there) in
+      rw (g, h) (c ∙ ap₂ (λ (y : Bytes) (k : Block). compared L y (k .first .0) d) x (q .2))
 
-  pub store-new : (L′ : Lent) → p ≡ Nowhere → afterStore (receipt (sha1Of d) r) L′ ≡ appended L t d → afterStore (receipt s r) L′ ≡ store L t d
+  pub store-new : (L′ : Lent) → p ≡ Nowhere → afterStore (receipt (sha1Of d) r) L′ ≡ appended L date t d → afterStore (receipt s r) L′ ≡ store L date t d
   unfolding store
-  store-new L′ z c = rw (g, ap (held (tape log w) t) (sym g) ∙ none-row (held (tape log w) t s) p found z) c
+  store-new L′ z c = rw (g, ap (held (tape log w) t) (sym g) ∙ placed-none (held (tape log w) t s) p found z) c
 
 -- ---- settling
 

@@ -1,9 +1,12 @@
 // Storing a block: at most one is appended, right after the used part of the log and of what waits behind it, and nothing else is
 // written. Settling: what waits is moved into the log.
+use block::Block;
 use log::Receipt;
 use log::Stored;
-use lookup::Place;
+use reader::Place;
 use refusal::Refusal;
+use sector::FRONT;
+use sector::LABEL;
 use sector::SECTOR;
 use sector_number::SectorNumber;
 ghost use mathlib.Core.Path.{_≡_};
@@ -13,9 +16,8 @@ ghost use lib.ListN.{length};
 ghost use Rattle.buffer.specs.Bytes.{Bytes};
 ghost use Rattle.sha1.specs.Sha1.{sha1Of};
 ghost use Rattle.kind.specs.Kind.{longest};
-ghost use Rattle.block.specs.Block.{partsOf};
-ghost use Rattle.block.specs.Log.{sectors, joined, used as usedOf};
-ghost use Rattle.reader.specs.Reader.{bytesAt};
+ghost use Rattle.block.specs.Block.{Inside};
+ghost use Rattle.block.specs.Log.{sectors, joined, bytesOf, used as usedOf};
 ghost use Rattle.log.specs.Parts.{Lent, beside, canSettle};
 ghost use Rattle.log.specs.Parts.{settled as settledOf};
 ghost use Rattle.log.specs.Store.{afterStore, receipt, appended, compared};
@@ -27,15 +29,16 @@ fn append_new(
     most: usize,
     from: SectorNumber,
     waiting: &mut [u8],
+    date: &[u8],
     kind: u8,
     score: &[u8; 20],
     data: &[u8],
 ) -> Stored
-    requires { ⌜ (length (now «data») ≤ longest) × (now score ≡ sha1Of (now «data»)) × (512 * from .0 < 2 ^ 64) ⌝ }
-    ensures { λ r. ⌜ ((log : Bytes) → sectors (length log) ≡ most → usedOf log ≡ from .0 → afterStore (receipt (sha1Of (now («data» .entry))) r) (beside log (now (waiting .exit))) ≡ appended (beside log (now (waiting .entry))) kind (now («data» .entry))) ⌝ }
+    requires { ⌜ (length (now «data») ≤ longest) × (length (now date) ≡ 8) × (now score ≡ sha1Of (now «data»)) × (512 * from .0 < 2 ^ 64) ⌝ }
+    ensures { λ r. ⌜ ((log : Bytes) → sectors (length log) ≡ most → usedOf log ≡ from .0 → afterStore (receipt (sha1Of (now («data» .entry))) r) (beside log (now (waiting .exit))) ≡ appended (beside log (now (waiting .entry))) (now (date .entry)) kind (now («data» .entry))) ⌝ }
 {
     let waits = reader::used_part(waiting);
-    let count = block::parts_of(data.len());
+    let count = block::parts_of(FRONT + LABEL, data.len());
     if waiting.len() / SECTOR < waits.0 + count {
         return Stored::Refused(Refusal::NoRoom);
     }
@@ -43,47 +46,42 @@ fn append_new(
     if most < first + count {
         return Stored::Refused(Refusal::NoRoom);
     }
-    append::append_block(waiting, from, SectorNumber(first), kind, score, data);
+    append::append_block(waiting, from, SectorNumber(first), date, kind, score, data);
     Stored::New(SectorNumber(first))
 }
 
 // A block that look-up found: a duplicate if it has these very bytes, else a clash.
-fn compare<'a>(
-    log: &'a [u8],
-    end: SectorNumber,
-    waiting: &'a [u8],
-    first: SectorNumber,
-    size: usize,
-    data: &[u8],
-) -> Stored
-    requires { ⌜ (end .0 ≤ sectors (length (now log))) × (first .0 + partsOf size ≤ end .0 + sectors (length (now waiting))) ⌝ }
-    ensures { λ r. ⌜ ((L : Lent) → afterStore (receipt (sha1Of (now («data» .entry))) r) L ≡ compared L (bytesAt (joined (end .0) (now (log .entry)) (now (waiting .entry))) (first .0) size) (first .0) (now («data» .entry))) ⌝ }
+fn compare<'a>(log: &'a [u8], end: SectorNumber, waiting: &'a [u8], b: Block, data: &[u8]) -> Stored
+    requires { ⌜ (end .0 ≤ sectors (length (now log))) × Inside (end .0 + sectors (length (now waiting))) b ⌝ }
+    ensures { λ r. ⌜ ((L : Lent) → afterStore (receipt (sha1Of (now («data» .entry))) r) L ≡ compared L (bytesOf (joined (end .0) (now (log .entry)) (now (waiting .entry))) b) (b .first .0) (now («data» .entry))) ⌝ }
 {
-    if size != data.len() {
+    if b.size != data.len() {
         return Stored::Refused(Refusal::Clash);
     }
-    if reader::same_bytes(log, end, waiting, first, data) {
+    let first = b.first;
+    if reader::same_bytes(log, end, waiting, b, data) {
         return Stored::Duplicate(first);
     }
     Stored::Refused(Refusal::Clash)
 }
 
-// Stores a block of a type.
-pub fn store(log: &[u8], waiting: &mut [u8], kind: u8, data: &[u8]) -> Receipt
-    requires { ⌜ length (now «data») ≤ longest ⌝ }
-    ensures { λ r. ⌜ afterStore r (beside (now (log .entry)) (now (waiting .exit))) ≡ storeOf (beside (now (log .entry)) (now (waiting .entry))) kind (now («data» .entry)) ⌝ }
+// Stores a block of a type, with a date. The end of the used part is looked for only where the block is appended.
+pub fn store(log: &[u8], waiting: &mut [u8], date: &[u8], kind: u8, data: &[u8]) -> Receipt
+    requires { ⌜ (length (now «data») ≤ longest) × (length (now date) ≡ 8) ⌝ }
+    ensures { λ r. ⌜ afterStore r (beside (now (log .entry)) (now (waiting .exit))) ≡ storeOf (beside (now (log .entry)) (now (waiting .entry))) (now (date .entry)) kind (now («data» .entry)) ⌝ }
 {
     let score = sha1::sha1(data);
-    let used = reader::used_part(log);
-    let place = lookup::find_held(log, used, waiting, kind, &score);
-    let Place::At { first, size } = place else {
-        let stored = append_new(log.len() / SECTOR, used, waiting, kind, &score, data);
+    let end = lookup::border(log, waiting);
+    let place = lookup::find_held(log, end, waiting, kind, &score);
+    let Place::At(b) = place else {
+        let used = reader::used_part(log);
+        let stored = append_new(log.len() / SECTOR, used, waiting, date, kind, &score, data);
         return Receipt {
             score: score,
             stored: stored,
         };
     };
-    let stored = compare(log, used, waiting, first, size, data);
+    let stored = compare(log, end, waiting, b, data);
     Receipt {
         score: score,
         stored: stored,

@@ -1,58 +1,82 @@
 -- A piece of a block within one payload, and a buffer filled piece by piece.
 use mathlib.Core.Path.{_≡_, refl, sym, ap, ap₂, _∙_}
-use mathlib.Core.List.{[], _++_}
+use mathlib.Core.List.{_++_}
 use Prim.Native.Nat.{ℕ, _+_, _-_, _*_, _/_, _%_, _≤_, _<_, min}
-use native.Mathlib.Nat.{sub-zero, add-zero}
+use native.Mathlib.Nat.{sub-zero, add-zero, zero-add, mod-lt, div-add-mod, add-mul-div-left, div-eq-of-lt}
 use native.Mathlib.Omega.{arith}
-use lib.ListN.{length, getD, take, drop, replicate, length-take, length-drop, length-append, length-replicate, take-append-drop, drop-of-length-le}
+use lib.ListN.{length, getD, take, drop, replicate, length-take, length-drop, length-replicate, take-append-drop, drop-of-length-le}
 use lib.Seq.{ext-getD, getD-take, getD-drop, drop-drop, length-take-le}
 use Rattle.buffer.specs.Bytes.{Bytes, put}
 use Rattle.buffer.proofs.Put.{put-next, put-whole, put-mid}
 use Rattle.buffer.proofs.Put.{put-none as put-nothing}
-use Rattle.sector.specs.Sector.{filled}
-use Rattle.block.specs.Block.{partsOf}
-use Rattle.block.specs.Log.{at, payloads}
+use Rattle.sector.specs.Sector.{payloadOf, filled}
+use Rattle.block.specs.declared.Block.{Block}
+use Rattle.block.specs.Block.{partsIn}
+use Rattle.block.specs.Log.{at, payloads, bytesOf}
 use Rattle.block.proofs.At.{length-at}
+use Rattle.block.proofs.Facts.{part-of}
 use Rattle.block.proofs.Payloads.{payloads-getD}
-use Rattle.reader.specs.Reader.{bytesAt}
 use Rattle.reader.proofs.Pieces.{length-bytes}
 use Rattle.tree.proofs.Filled.{length-filled, filled-none, filled-front}
 
 -- ---- one piece
 
-pub part-of : (size k : ℕ) → k < size → k / 403 < partsOf size
-unfolding partsOf
-part-of size k h = omega arith
+pub least-bounds : (m x y z : ℕ) → m ≡ min x (min y z) → (m ≤ x) × (m ≤ y)
+least-bounds m x y z e = (omega arith, omega arith)
 
--- byte k of a block is byte k % 403 of payload k / 403
-pub byte-in : (log : Bytes) (first size k : ℕ) → k < size → getD (bytesAt log first size) k 0 ≡ getD (at log (first + k / 403)) (96 + k % 403) 0
-byte-in log first size k h =
-    let z : k ≡ 403 * (k / 403) + k % 403 = omega arith in
-    let i : k % 403 < 403 = omega arith in
-    getD-take size (payloads log (partsOf size) first) k 0 h
-    ∙ ap (λ (x : ℕ). getD (payloads log (partsOf size) first) x 0) z
-    ∙ payloads-getD log (partsOf size) first (k / 403) (k % 403) (part-of size k h) i
-    ∙ getD-take 403 (drop 96 (at log (first + k / 403))) (k % 403) 0 i
-    ∙ getD-drop 96 (at log (first + k / 403)) (k % 403) 0
+-- i bytes further, within the same part of p bytes
+module _ (p k i : ℕ) (pos : 0 < p) (h : k % p + i < p) where
+  same-part : (k + i) / p ≡ k / p
+  same-part =
+      let e : k + i ≡ k % p + i + p * (k / p) = omega (arith, div-add-mod k p) in
+      ap (λ (x : ℕ). x / p) e ∙ add-mul-div-left (k % p + i) (k / p) pos ∙ ap (λ (x : ℕ). x + k / p) (div-eq-of-lt h) ∙ zero-add (k / p)
 
-module _ (log : Bytes) (first size k m : ℕ) (s : Bytes) (e : s ≡ at log (first + k / 403)) (a : m ≤ 403 - k % 403) (b : m ≤ size - k) (h : k < size) where
+  same-place : (k + i) % p ≡ k % p + i
+  same-place =
+      let e : p * ((k + i) / p) ≡ p * (k / p) = ap (λ (x : ℕ). p * x) same-part in
+      omega (arith, e, div-add-mod k p, div-add-mod (k + i) p)
+
+module _ (log : Bytes) (b : Block) (short : b .label < 499) (p : ℕ) (e : p ≡ payloadOf (b .label)) where
+  pos : 0 < p
+  pos = omega arith
+
+  -- byte k is in part k / p
+  pub part-in : (k : ℕ) → k < b .size → k / p < partsIn b
+  part-in k h = rw (← e) (part-of p pos k (b .size) h)
+
+  -- it is byte k % p of the payload there
+  pub byte-in : (k : ℕ) → k < b .size → getD (bytesOf log b) k 0 ≡ getD (at log (b .first .0 + k / p)) (b .label + k % p) 0
+  byte-in k h =
+      let z : k ≡ payloadOf (b .label) * (k / p) + k % p = sym (div-add-mod k p) ∙ ap (λ (x : ℕ). x * (k / p) + k % p) e in
+      let i : k % p < payloadOf (b .label) = omega (arith, mod-lt k pos) in
+      let s = at log (b .first .0 + k / p) in
+      getD-take (b .size) (payloads (b .label) log (partsIn b) (b .first .0)) k 0 h
+      ∙ ap (λ (x : ℕ). getD (payloads (b .label) log (partsIn b) (b .first .0)) x 0) z
+      ∙ payloads-getD (b .label) short log (partsIn b) (b .first .0) (k / p) (k % p) (part-in k h) i
+      ∙ getD-take (payloadOf (b .label)) (drop (b .label) s) (k % p) 0 i
+      ∙ getD-drop (b .label) s (k % p) 0
+
   -- the sector's bytes there are the block's
-  pub piece-here : take (96 + k % 403 + m - (96 + k % 403)) (drop (96 + k % 403) s) ≡ take m (drop k (bytesAt log first size))
-  piece-here =
-      let w : 96 + k % 403 + m - (96 + k % 403) ≡ m = omega arith in
-      let ls : length s ≡ 512 = ap length e ∙ length-at log (first + k / 403) in
-      let left : length (take m (drop (96 + k % 403) s)) ≡ m = simp (length-take, length-drop) (omega arith) in
-      let rest : length (drop k (bytesAt log first size)) ≡ size - k = length-drop k (bytesAt log first size) ∙ ap (λ (x : ℕ). x - k) (length-bytes log first size) in
-      let right : length (take m (drop k (bytesAt log first size))) ≡ m = length-take-le m (drop k (bytesAt log first size)) (omega arith) in
-      ap (λ (x : ℕ). take x (drop (96 + k % 403) s)) w
-      ∙ ext-getD 0 (take m (drop (96 + k % 403) s)) (take m (drop k (bytesAt log first size))) (left ∙ sym right)
-      (λ i g. let j : i < m = omega arith in
-      let q : (k + i) / 403 ≡ k / 403 = omega arith in
-      let r : 96 + (k + i) % 403 ≡ 96 + k % 403 + i = omega arith in
-      getD-take m (drop (96 + k % 403) s) i 0 j ∙ getD-drop (96 + k % 403) s i 0
-      ∙ ap₂ (λ (x : Bytes) (y : ℕ). getD x y 0) (e ∙ ap (λ (x : ℕ). at log (first + x)) (sym q)) (sym r)
-      ∙ sym (byte-in log first size (k + i) (omega arith))
-      ∙ sym (getD-take m (drop k (bytesAt log first size)) i 0 j ∙ getD-drop k (bytesAt log first size) i 0))
+  pub piece-here : (k m : ℕ) (s : Bytes) → s ≡ at log (b .first .0 + k / p) → m ≤ p - k % p → m ≤ b .size - k → k < b .size
+      → take (b .label + k % p + m - (b .label + k % p)) (drop (b .label + k % p) s) ≡ take m (drop k (bytesOf log b))
+  piece-here k m s g u v h =
+      let o = b .label + k % p in
+      let bytes = bytesOf log b in
+      let w : o + m - o ≡ m = omega arith in
+      let ls : length s ≡ 512 = ap length g ∙ length-at log (b .first .0 + k / p) in
+      let left : length (take m (drop o s)) ≡ m = length-take-le m (drop o s) (omega (arith, length-drop o s, mod-lt k pos)) in
+      let rest : length (drop k bytes) ≡ b .size - k = length-drop k bytes ∙ ap (λ (x : ℕ). x - k) (length-bytes log b short) in
+      let right : length (take m (drop k bytes)) ≡ m = length-take-le m (drop k bytes) (omega arith) in
+      ap (λ (x : ℕ). take x (drop o s)) w
+      ∙ ext-getD 0 (take m (drop o s)) (take m (drop k bytes)) (left ∙ sym right)
+      (λ i j. let lt : i < m = omega arith in
+      let within : k % p + i < p = omega (arith, mod-lt k pos) in
+      let q : (k + i) / p ≡ k / p = same-part p k i pos within in
+      let r : b .label + (k + i) % p ≡ o + i = omega (arith, same-place p k i pos within) in
+      getD-take m (drop o s) i 0 lt ∙ getD-drop o s i 0
+      ∙ ap₂ (λ (x : Bytes) (y : ℕ). getD x y 0) (g ∙ ap (λ (x : ℕ). at log (b .first .0 + x)) (sym q)) (sym r)
+      ∙ sym (byte-in (k + i) (omega arith))
+      ∙ sym (getD-take m (drop k bytes) i 0 lt ∙ getD-drop k bytes i 0))
 
 -- ---- filled piece by piece
 
@@ -105,18 +129,18 @@ module _ (b : Bytes) (from : ℕ) (d₀ : Bytes) where
         ∙ put-next d done (done + length p) p rest refl (omega (arith, length-piece, length-filled (length d₀ - (done + length p)) tail))
         ∙ ap (put d done) whole ∙ f
 
-  -- one piece more, up to the end of its payload, of the block or of the buffer
-  module _ (d p : Bytes) (done : ℕ) (l : done < length d) (e : length d ≡ length d₀) (h : from + done < length b)
-      (q : p ≡ take (min (403 - (from + done) % 403) (min (length b - (from + done)) (length d - done))) (drop (from + done) b)) where
+  -- one piece more, up to the end of its payload of w bytes, of the block or of the buffer
+  module _ (w : ℕ) (pos : 0 < w) (d p : Bytes) (done : ℕ) (l : done < length d) (e : length d ≡ length d₀) (h : from + done < length b)
+      (q : p ≡ take (min (w - (from + done) % w) (min (length b - (from + done)) (length d - done))) (drop (from + done) b)) where
     m : ℕ
-    m = min (403 - (from + done) % 403) (min (length b - (from + done)) (length d - done))
+    m = min (w - (from + done) % w) (min (length b - (from + done)) (length d - done))
 
     least-room : (x y z : ℕ) → 0 < x → 0 < y → 0 < z → (0 < min x (min y z)) × (min x (min y z) ≤ y) × (min x (min y z) ≤ z)
     least-room x y z f g i = (omega arith, omega arith, omega arith)
 
     some-room : (0 < m) × (m ≤ length b - (from + done)) × (m ≤ length d - done)
     unfolding m
-    some-room = least-room (403 - (from + done) % 403) (length b - (from + done)) (length d - done) (omega arith) (omega arith) (omega arith)
+    some-room = least-room (w - (from + done) % w) (length b - (from + done)) (length d - done) (omega (arith, mod-lt (from + done) pos)) (omega arith) (omega arith)
 
     long : length p ≡ m
     unfolding m

@@ -1,16 +1,14 @@
 // What reading a file and walking share: parts of a block copied out, the scores of a pointer block, an entry's blocks by their level.
 // A block lies in two runs of sectors that are read as one, as in `reader`.
+use block::Block;
 use entry::Entry;
-use sector::LABEL;
-use sector::PAYLOAD;
 use sector_number::SectorNumber;
 ghost use mathlib.Core.Path.{_≡_};
 ghost use Prim.Native.Nat.{_+_, _-_, _%_, _^_, _≤_, _<_, min};
 ghost use lib.ListN.{length, take, drop};
-ghost use Rattle.sector.specs.Sector.{filled};
-ghost use Rattle.block.specs.Block.{partsOf};
-ghost use Rattle.block.specs.Log.{sectors, joined};
-ghost use Rattle.reader.specs.Reader.{bytesAt};
+ghost use Rattle.sector.specs.Sector.{payloadOf, filled};
+ghost use Rattle.block.specs.Block.{Inside};
+ghost use Rattle.block.specs.Log.{sectors, joined, bytesOf};
 ghost use Rattle.tree.specs.Tree.{typeAt, countAt, pointer};
 
 // The least of three.
@@ -34,19 +32,19 @@ fn piece_from<'a>(
     log: &'a [u8],
     end: SectorNumber,
     waiting: &'a [u8],
-    first: SectorNumber,
-    size: usize,
+    b: Block,
     k: usize,
     room: usize,
 ) -> &'a [u8]
-    requires { ⌜ (end .0 ≤ sectors (length (now log))) × (first .0 + partsOf size ≤ end .0 + sectors (length (now waiting))) × (k < size) ⌝ }
-    ensures { λ r. ⌜ now r ≡ take (min (403 - k % 403) (min (size - k) room)) (drop k (bytesAt (joined (end .0) (now (log .entry)) (now (waiting .entry))) (first .0) size)) ⌝ }
+    requires { ⌜ (end .0 ≤ sectors (length (now log))) × Inside (end .0 + sectors (length (now waiting))) b × (k < b .size) ⌝ }
+    ensures { λ r. ⌜ now r ≡ take (min (payloadOf (b .label) - k % payloadOf (b .label)) (min (b .size - k) room)) (drop k (bytesOf (joined (end .0) (now (log .entry)) (now (waiting .entry))) b)) ⌝ }
 {
-    let at = k % PAYLOAD;
-    let n = first.0 + k / PAYLOAD;
+    let p = block::payload_of(b.label);
+    let at = k % p;
+    let n = b.first.0 + k / p;
     let s = reader::sector_at(log, end, waiting, SectorNumber(n));
-    let from = LABEL + at;
-    let to = from + least(PAYLOAD - at, size - k, room as u64);
+    let from = b.label + at;
+    let to = from + least(p - at, b.size - k, room as u64);
     &s[from..to]
 }
 
@@ -55,22 +53,21 @@ pub fn read_part<'a>(
     log: &'a [u8],
     end: SectorNumber,
     waiting: &'a [u8],
-    first: SectorNumber,
-    size: usize,
+    b: Block,
     from: usize,
     d: &mut [u8],
 )
-    requires { ⌜ (end .0 ≤ sectors (length (now log))) × (first .0 + partsOf size ≤ end .0 + sectors (length (now waiting))) × (from + length (now d) < 2 ^ 64) ⌝ }
-    ensures { λ _. ⌜ now (d .exit) ≡ filled (length (now (d .entry))) (drop from (bytesAt (joined (end .0) (now (log .entry)) (now (waiting .entry))) (first .0) size)) ⌝ }
+    requires { ⌜ (end .0 ≤ sectors (length (now log))) × Inside (end .0 + sectors (length (now waiting))) b × (from + length (now d) < 2 ^ 64) ⌝ }
+    ensures { λ _. ⌜ now (d .exit) ≡ filled (length (now (d .entry))) (drop from (bytesOf (joined (end .0) (now (log .entry)) (now (waiting .entry))) b)) ⌝ }
 {
     let mut done: usize = 0;
     while done < d.len() {
         let k = from + done;
-        if size <= k {
+        if b.size <= k {
             buffer::clear(&mut d[done..]);
             return;
         }
-        let piece = piece_from(log, end, waiting, first, size, k, d.len() - done);
+        let piece = piece_from(log, end, waiting, b, k, d.len() - done);
         buffer::copy_at(d, done, piece);
         done += piece.len();
     }
@@ -81,19 +78,18 @@ pub fn score_at<'a>(
     log: &'a [u8],
     end: SectorNumber,
     waiting: &'a [u8],
-    first: SectorNumber,
-    size: usize,
+    b: Block,
     i: usize,
 ) -> [u8; 20]
-    requires { ⌜ (end .0 ≤ sectors (length (now log))) × (first .0 + partsOf size ≤ end .0 + sectors (length (now waiting))) × (size % 20 ≡ 0) × (i < 2 ^ 32) ⌝ }
-    ensures { λ r. ⌜ r ≡ pointer (bytesAt (joined (end .0) (now (log .entry)) (now (waiting .entry))) (first .0) size) i ⌝ }
+    requires { ⌜ (end .0 ≤ sectors (length (now log))) × Inside (end .0 + sectors (length (now waiting))) b × (b .size % 20 ≡ 0) × (i < 2 ^ 32) ⌝ }
+    ensures { λ r. ⌜ r ≡ pointer (bytesOf (joined (end .0) (now (log .entry)) (now (waiting .entry))) b) i ⌝ }
 {
     let from = 20 * i;
-    if size <= from {
+    if b.size <= from {
         return kind::zero_score();
     }
     let mut d = [0u8; 20];
-    read_part(log, end, waiting, first, size, from, &mut d);
+    read_part(log, end, waiting, b, from, &mut d);
     d
 }
 

@@ -46,7 +46,7 @@ fn put(log: &mut [u8], kind: u8, data: &[u8]) -> [u8; 20] {
         return kind::zero_score();
     }
     let mut waiting = [0u8; 8192];
-    let receipt = store::store(log, &mut waiting, kind, data);
+    let receipt = store::store(log, &mut waiting, b"20261116", kind, data);
     store::settle(log, &mut waiting);
     receipt.score
 }
@@ -166,7 +166,7 @@ fn put_short_root(log: &mut [u8], directory: &[u8; 20]) -> [u8; 20] {
     put(log, 1, &r)
 }
 
-// Damages a byte of a sector's payload.
+// Damages a byte of a sector.
 fn damage(log: &mut [u8], sector: usize)
     requires { ⌜ sector < 127 ⌝ }
 {

@@ -48,7 +48,7 @@ module _ (L later : Lent) (k : Keeps L later) where
   }
 
 pub after-one : AfterOne
-after-one s m L buffer sm = kept-alike L (step s m L buffer .lent) (step-keeps s m L buffer sm)
+after-one s m date L buffer sm = kept-alike L (step s m date L buffer .lent) (step-keeps s m date L buffer sm)
 
 pub after-any : AfterAny
 after-any L past qs b = kept-alike L (afterwards L past qs) (list-keeps (record { log = L; past = past }) qs b)

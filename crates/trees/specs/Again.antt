@@ -2,6 +2,7 @@
 use mathlib.Core.Path.{_≡_}
 use mathlib.Core.Bool.{true}
 use mathlib.Core.List.{List, []}
+use mathlib.Core.Option.{Option}
 use Prim.Native.Nat.{ℕ}
 use lib.ListN.{length}
 use Rattle.ground.specs.Choice.{on}
@@ -52,9 +53,9 @@ pub record Alike (L later : Lent) : Type 0 where
   pub walks : WalksAlike L later
   pub compares : ComparesAlike L later
 
--- after any request, on any log; and after any list of requests
+-- after any request, with any date or none, on any log; and after any list of requests
 abbrev pub AfterOne : Type 0
-AfterOne = (s : Session) (m : Bytes) (L : Lent) (buffer : Bytes) → small m ≡ true → Alike L (step s m L buffer .lent)
+AfterOne = (s : Session) (m : Bytes) (date : Option Bytes) (L : Lent) (buffer : Bytes) → small m ≡ true → Alike L (step s m date L buffer .lent)
 
 abbrev pub AfterAny : Type 0
 AfterAny = (L : Lent) (past : List Session) (qs : List (Item archive)) → AllOfBytes archive qs → Alike L (afterwards L past qs)

@@ -11,12 +11,11 @@ use Rattle.ground.specs.Choice.{on}
 use Rattle.buffer.specs.Bytes.{Bytes}
 use Rattle.refusal.specs.declared.Refusal.{Refusal}
 use Rattle.refusal.specs.declared.Refusal.the-variants.{OverCount, Nest, Spent}
-use Rattle.sector_number.specs.declared.SectorNumber.{SectorNumber}
 use Rattle.kind.specs.Kind.{longest}
-use Rattle.block.specs.Block.{Row, parts, partsOf}
-use Rattle.block.specs.Log.{sectors, joined}
+use Rattle.block.specs.Block.{Row, placeOf, Inside}
+use Rattle.block.specs.declared.Block.{Block}
+use Rattle.block.specs.Log.{sectors, joined, bytesOf}
 use Rattle.block.proofs.Joined.{sectors-joined}
-use Rattle.reader.specs.Reader.{bytesAt}
 use Rattle.log.specs.declared.Look.{Look}
 use Rattle.log.specs.declared.Look.the-variants.{Found, Refused}
 use Rattle.log.specs.LookUp.{held, absence, lookUp, counted}
@@ -34,9 +33,9 @@ positive n h = omega arith
 
 -- ---- a visit by its tests: nest over 16, nothing left, what is held
 
--- the place of a row
+-- where a row is found
 abbrev placed : Row → Look
-placed r = Found (record { 0 = r .first }) (length (r .bytes))
+placed r = Found (placeOf r)
 
 abbrev metBy : Bool → Bool → Option Row → Refusal → ℕ → Met
 metBy a b o w count = cond a (met 0 (Refused Nest)) (cond b (met 0 (Refused Spent)) (met 1 (counted count (on o (Refused w) placed))))
@@ -47,32 +46,30 @@ visitBy a b o w count next =
     (λ r. cond (ltb count (length (r .bytes))) (walked 1 (Stopped OverCount)) (more (next (r .bytes))))))
 
 -- what is known where a block is found
-pub record FoundByTests (a b : Bool) (o : Option Row) (count : ℕ) (first : SectorNumber) (size spent : ℕ) : Type 0 where
+pub record FoundByTests (a b : Bool) (o : Option Row) (count : ℕ) (place : Block) (spent : ℕ) : Type 0 where
   pub row : Row
   pub not-deep : a ≡ false
   pub not-spent : b ≡ false
   pub row-held : o ≡ some row
-  pub first-of-row : first .0 ≡ row .first
-  pub size-of-row : size ≡ length (row .bytes)
+  pub place-of-row : place ≡ placeOf row
   pub within-count : ltb count (length (row .bytes)) ≡ false
   pub one-spent : spent ≡ 1
 
-found-by-tests : (a b : Bool) (o : Option Row) (w : Refusal) (count : ℕ) (f : SectorNumber) (n : ℕ) → metBy a b o w count .look ≡ Found f n
-    → FoundByTests a b o count f n (metBy a b o w count .spent)
-found-by-tests true b o w count f n e = let z : _≡_ {A = ℕ} 0 1 = cc in absurd (omega arith)
-found-by-tests false true o w count f n e = let z : _≡_ {A = ℕ} 0 1 = cc in absurd (omega arith)
-found-by-tests false false none w count f n e = let z : _≡_ {A = ℕ} 0 1 = cc in absurd (omega arith)
-found-by-tests false false (some r) w count f n e = go (ltb count (length (r .bytes))) refl e
+found-by-tests : (a b : Bool) (o : Option Row) (w : Refusal) (count : ℕ) (p : Block) → metBy a b o w count .look ≡ Found p
+    → FoundByTests a b o count p (metBy a b o w count .spent)
+found-by-tests true b o w count p e = let z : _≡_ {A = ℕ} 0 1 = cc in absurd (omega arith)
+found-by-tests false true o w count p e = let z : _≡_ {A = ℕ} 0 1 = cc in absurd (omega arith)
+found-by-tests false false none w count p e = let z : _≡_ {A = ℕ} 0 1 = cc in absurd (omega arith)
+found-by-tests false false (some r) w count p e = go (ltb count (length (r .bytes))) refl e
   where
-    go : (c : Bool) → ltb count (length (r .bytes)) ≡ c → cond c (Refused OverCount) (placed r) ≡ Found f n → FoundByTests false false (some r) count f n 1
+    go : (c : Bool) → ltb count (length (r .bytes)) ≡ c → cond c (Refused OverCount) (placed r) ≡ Found p → FoundByTests false false (some r) count p 1
     go true q d = let z : _≡_ {A = ℕ} 0 1 = cc in absurd (omega arith)
     go false q d = record {
       row = r;
       not-deep = refl;
       not-spent = refl;
       row-held = refl;
-      first-of-row = let z : f ≡ record { 0 = r .first } = cc in ap (λ (x : SectorNumber). x .0) z;
-      size-of-row = cc;
+      place-of-row = cc;
       within-count = q;
       one-spent = refl;
     }
@@ -117,33 +114,34 @@ met-level log e level nest left score em ek ec = em ∙ ap₂ (λ (x y : ℕ). m
 
 -- ---- what a caller learns of it
 
--- what ends within both parts read as one
-pub in-both : (u : ℕ) (log waiting : Bytes) → u ≤ sectors (length log) → (n : ℕ) → n ≤ sectors (length (joined u log waiting)) → n ≤ u + sectors (length waiting)
-in-both u log waiting h n e = omega (arith, sectors-joined u log waiting h)
+-- a place within both parts read as one
+pub in-both : (u : ℕ) (log waiting : Bytes) → u ≤ sectors (length log) → (b : Block) → Inside (sectors (length (joined u log waiting))) b
+    → Inside (u + sectors (length waiting)) b
+in-both u log waiting h b e = (omega (arith, sectors-joined u log waiting h, e .0), e .1)
 
-pub record Known (log : Bytes) (nest left kind count : ℕ) (score : Bytes) (first size spent : ℕ) : Type 0 where
+pub record Known (log : Bytes) (nest left kind count : ℕ) (score : Bytes) (place : Block) (spent : ℕ) : Type 0 where
   pub not-deep : nest ≤ 16
   pub some-left : 0 < left
-  pub in-log : first + partsOf size ≤ sectors (length log)
-  pub not-many : size ≤ longest
-  pub counted-in : size ≤ count
+  pub in-log : Inside (sectors (length log)) place
+  pub not-many : place .size ≤ longest
+  pub counted-in : place .size ≤ count
   pub one-spent : spent ≡ 1
-  pub goes-on : (go : Bytes → Walked) (w : Walked) → w ≡ go (bytesAt log first size) → more w ≡ visiting log nest left kind count score go
+  pub goes-on : (go : Bytes → Walked) (w : Walked) → w ≡ go (bytesOf log place) → more w ≡ visiting log nest left kind count score go
 
 module _ (log : Bytes) (nest left kind count : ℕ) (score : Bytes) (m : Met) (e : m ≡ metOf log nest left kind count score) where
-  pub found-known : (f : SectorNumber) (n : ℕ) → m .look ≡ Found f n → Known log nest left kind count score (f .0) n (m .spent)
+  pub found-known : (p : Block) → m .look ≡ Found p → Known log nest left kind count score p (m .spent)
   unfolding metOf lookUp visiting
-  found-known f n d =
-      let k = found-by-tests (ltb 16 nest) (eqb left 0) (held log kind score) (absence log) count f n (ap (λ (x : Met). x .look) (sym e) ∙ d) in
+  found-known p d =
+      let k = found-by-tests (ltb 16 nest) (eqb left 0) (held log kind score) (absence log) count p (ap (λ (x : Met). x .look) (sym e) ∙ d) in
       let s = held-stands log kind score (k .row) (k .row-held) in
-      let z : f .0 + partsOf n ≡ k .row .first + parts (k .row) = ap₂ (λ (x y : ℕ). x + partsOf y) (k .first-of-row) (k .size-of-row) in
-      let bytes : k .row .bytes ≡ bytesAt log (f .0) n = s .bytes-there ∙ ap₂ (λ (x y : ℕ). bytesAt log x y) (sym (k .first-of-row)) (sym (k .size-of-row)) in
+      let size : p .size ≡ length (k .row .bytes) = ap (λ (x : Block). x .size) (k .place-of-row) in
+      let bytes : k .row .bytes ≡ bytesOf log p = s .bytes-there ∙ ap (bytesOf log) (sym (k .place-of-row)) in
       record {
         not-deep = ltb-false 16 nest (k .not-deep);
         some-left = let y = eqb-false left 0 (k .not-spent) in positive left y;
-        in-log = rw z (s .within);
-        not-many = omega (arith, k .size-of-row, s .not-many);
-        counted-in = omega (arith, k .size-of-row, ltb-false count (length (k .row .bytes)) (k .within-count));
+        in-log = rw (k .place-of-row) (s .within);
+        not-many = omega (arith, size, s .not-many);
+        counted-in = omega (arith, size, ltb-false count (length (k .row .bytes)) (k .within-count));
         one-spent = ap (λ (x : Met). x .spent) e ∙ k .one-spent;
         goes-on = λ go w h. rw (k .not-deep, k .not-spent, k .row-held, k .within-count) (ap more (h ∙ ap go (sym bytes)));
       }

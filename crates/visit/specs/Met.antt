@@ -21,7 +21,7 @@ metOf log nest left kind count score =
 
 -- how a walk ends that ends with a look-up
 abbrev pub endOf : Look → End
-endOf (Found first size) = Done
+endOf (Found b) = Done
 endOf (Refused why) = Stopped why
 
 abbrev pub answerOf : Met → Walked

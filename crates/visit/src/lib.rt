@@ -1,4 +1,5 @@
 // One visit of a walk: a block looked up, and what is read of it, in two runs of sectors that are read as one, as in `reader`.
+use block::Block;
 use entry::Entry;
 use log::Look;
 use refusal::Refusal;
@@ -7,9 +8,8 @@ ghost use mathlib.Core.Path.{_≡_};
 ghost use Prim.Native.Nat.{_+_, _*_, _≤_, _<_, _^_};
 ghost use lib.ListN.{length, drop};
 ghost use Rattle.sector.specs.Sector.{filled};
-ghost use Rattle.block.specs.Block.{partsOf};
-ghost use Rattle.block.specs.Log.{sectors, joined};
-ghost use Rattle.reader.specs.Reader.{bytesAt};
+ghost use Rattle.block.specs.Block.{Inside};
+ghost use Rattle.block.specs.Log.{sectors, joined, bytesOf};
 ghost use Rattle.tree.specs.Tree.{typeAt, countAt};
 ghost use Rattle.visit.specs.Visit.{more};
 ghost use Rattle.visit.specs.Met.{metOf, answerOf};
@@ -37,31 +37,24 @@ pub fn entry_bytes<'a>(
     log: &'a [u8],
     end: SectorNumber,
     waiting: &'a [u8],
-    first: SectorNumber,
-    size: usize,
+    b: Block,
     i: usize,
 ) -> [u8; 40]
-    requires { ⌜ (end .0 ≤ sectors (length (now log))) × (first .0 + partsOf size ≤ end .0 + sectors (length (now waiting))) × (i < 2 ^ 32) ⌝ }
-    ensures { λ r. ⌜ r ≡ filled 40 (drop (40 * i) (bytesAt (joined (end .0) (now (log .entry)) (now (waiting .entry))) (first .0) size)) ⌝ }
+    requires { ⌜ (end .0 ≤ sectors (length (now log))) × Inside (end .0 + sectors (length (now waiting))) b × (i < 2 ^ 32) ⌝ }
+    ensures { λ r. ⌜ r ≡ filled 40 (drop (40 * i) (bytesOf (joined (end .0) (now (log .entry)) (now (waiting .entry))) b)) ⌝ }
 {
     let mut d = [0u8; 40];
-    tree::read_part(log, end, waiting, first, size, 40 * i, &mut d);
+    tree::read_part(log, end, waiting, b, 40 * i, &mut d);
     d
 }
 
 // A root, padded.
-pub fn root_bytes<'a>(
-    log: &'a [u8],
-    end: SectorNumber,
-    waiting: &'a [u8],
-    first: SectorNumber,
-    size: usize,
-) -> [u8; 300]
-    requires { ⌜ (end .0 ≤ sectors (length (now log))) × (first .0 + partsOf size ≤ end .0 + sectors (length (now waiting))) ⌝ }
-    ensures { λ r. ⌜ r ≡ filled 300 (drop 0 (bytesAt (joined (end .0) (now (log .entry)) (now (waiting .entry))) (first .0) size)) ⌝ }
+pub fn root_bytes<'a>(log: &'a [u8], end: SectorNumber, waiting: &'a [u8], b: Block) -> [u8; 300]
+    requires { ⌜ (end .0 ≤ sectors (length (now log))) × Inside (end .0 + sectors (length (now waiting))) b ⌝ }
+    ensures { λ r. ⌜ r ≡ filled 300 (drop 0 (bytesOf (joined (end .0) (now (log .entry)) (now (waiting .entry))) b)) ⌝ }
 {
     let mut d = [0u8; 300];
-    tree::read_part(log, end, waiting, first, size, 0, &mut d);
+    tree::read_part(log, end, waiting, b, 0, &mut d);
     d
 }
 
@@ -129,7 +122,7 @@ pub fn answer(m: Met) -> Walked
 {
     let look = m.look;
     match look {
-        Look::Found { first, size } => Walked {
+        Look::Found(b) => Walked {
             visits: m.spent,
             end: End::Done,
         },

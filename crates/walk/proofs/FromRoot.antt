@@ -10,7 +10,8 @@ use Rattle.refusal.specs.declared.Refusal.{Refusal}
 use Rattle.refusal.specs.declared.Refusal.the-variants.{LogLength, Entry as IllFormed, Allowance}
 use Rattle.kind.specs.Kind.{longest}
 use Rattle.sector.specs.Sector.{filled}
-use Rattle.reader.specs.Reader.{bytesAt}
+use Rattle.block.specs.declared.Block.{Block}
+use Rattle.block.specs.Log.{bytesOf}
 use Rattle.reader.proofs.Pieces.{length-bytes}
 use Rattle.log.specs.declared.Look.the-variants.{Refused}
 use Rattle.entry.specs.Root.{rootWellFormed, rootScore}
@@ -26,21 +27,17 @@ use Rattle.visit.proofs.Visits.{Known, refused-known, spent-within}
 
 -- ---- the directory block of a root
 
--- what goes on below it
-abbrev belowTop : Bytes → ℕ → Bytes → Walked
-belowTop log left b = visitDirectory (left + left + 2) log 1 b (left - 1)
-
 pub top-refused : (log score : Bytes) (left : ℕ) {m : Met} → m ≡ metOf log 1 left 2 longest score → {why : Refusal} → m .look ≡ Refused why → {r : Walked} → r ≡ answerOf m
     → (r .visits ≤ left) × (r ≡ walkTop log score left)
 unfolding walkTop
 top-refused log score left {m} e {why} d a =
-    (rw a (spent-within log 1 left 2 longest score m e), a ∙ refused-known log 1 left 2 longest score m e why d (belowTop log left))
+    (rw a (spent-within log 1 left 2 longest score m e), a ∙ refused-known log 1 left 2 longest score m e why d _)
 
-pub top-found : {log score : Bytes} {left first size spent : ℕ} → Known log 1 left 2 longest score first size spent → (w : Walked)
-    → (w .visits ≤ left - 1) × ((g : ℕ) → (left - 1) + (left - 1) + 2 ≤ g → w ≡ visitDirectory g log 1 (bytesAt log first size) (left - 1))
+pub top-found : {log score : Bytes} {left : ℕ} {b : Block} {spent : ℕ} → Known log 1 left 2 longest score b spent → (w : Walked)
+    → (w .visits ≤ left - 1) × ((g : ℕ) → (left - 1) + (left - 1) + 2 ≤ g → w ≡ visitDirectory g log 1 (bytesOf log b) (left - 1))
     → (more w .visits ≤ left) × (more w ≡ walkTop log score left)
 unfolding walkTop
-top-found {log} {score} {left} K w k = (omega (arith, K .some-left, k .0), K .goes-on (belowTop log left) w (k .1 (left + left + 2) (omega arith)))
+top-found {log} {score} {left} K w k = (omega (arith, K .some-left, k .0), K .goes-on _ w (k .1 _ (omega arith)))
 
 -- ---- the root
 
@@ -53,22 +50,22 @@ pub root-refused : (log score : Bytes) (left : ℕ) {m : Met} → m ≡ metOf lo
 unfolding walkRoot
 root-refused log score left {m} e {why} d a = a ∙ refused-known log 0 left 1 300 score m e why d (belowRoot log left)
 
-module _ {log score : Bytes} {left first size spent : ℕ} (K : Known log 0 left 1 300 score first size spent) {b : Bytes}
-    (eb : b ≡ filled 300 (drop 0 (bytesAt log first size))) {f : Bool} (ef : f ≡ rootWellFormed b) where
-  root-as-read : b ≡ paddedTo 300 (bytesAt log first size)
-  root-as-read = eb ∙ sym (root-padded (bytesAt log first size) (omega (arith, length-bytes log first size, K .counted-in)))
+module _ {log score : Bytes} {left : ℕ} {b : Block} {spent : ℕ} (K : Known log 0 left 1 300 score b spent) {x : Bytes}
+    (ex : x ≡ filled 300 (drop 0 (bytesOf log b))) {f : Bool} (ef : f ≡ rootWellFormed x) where
+  root-as-read : x ≡ paddedTo 300 (bytesOf log b)
+  root-as-read = ex ∙ sym (root-padded (bytesOf log b) (omega (arith, length-bytes log b (K .in-log .1), K .counted-in)))
 
-  well-formed-as-read : rootWellFormed (paddedTo 300 (bytesAt log first size)) ≡ f
+  well-formed-as-read : rootWellFormed (paddedTo 300 (bytesOf log b)) ≡ f
   well-formed-as-read = ap rootWellFormed (sym root-as-read) ∙ sym ef
 
   pub ill-formed-root : f ≡ false → walked 1 (Stopped IllFormed) ≡ walkRoot log score left
   unfolding walkRoot
   ill-formed-root z = K .goes-on (belowRoot log left) (walked 0 (Stopped IllFormed)) (rw (well-formed-as-read, z))
 
-  pub root-found : f ≡ true → (w : Walked) → w ≡ walkTop log (take 20 (drop 258 b)) (left - 1) → more w ≡ walkRoot log score left
+  pub root-found : f ≡ true → (w : Walked) → w ≡ walkTop log (take 20 (drop 258 x)) (left - 1) → more w ≡ walkRoot log score left
   unfolding walkRoot
   root-found z w ew =
-      K .goes-on (belowRoot log left) w (rw (well-formed-as-read, z) (ew ∙ ap (λ (x : Bytes). walkTop log (rootScore x) (left - 1)) root-as-read))
+      K .goes-on (belowRoot log left) w (rw (well-formed-as-read, z) (ew ∙ ap (λ (y : Bytes). walkTop log (rootScore y) (left - 1)) root-as-read))
 
 -- ---- the tests of a walk
 

@@ -39,10 +39,10 @@ fn walk_top<'a>(
 {
     let m = visit::visit(log, end, waiting, 1, left, 2, LONGEST, score);
     let look = m.look;
-    let Look::Found { first, size } = look else {
+    let Look::Found(b) = look else {
         return visit::answer(m);
     };
-    visit::one_more(descent::visit_directory(log, end, waiting, first, size, 1, left - 1))
+    visit::one_more(descent::visit_directory(log, end, waiting, b, 1, left - 1))
 }
 
 // Visits a root, and what is below it. The score of the root before it isn't followed.
@@ -58,10 +58,10 @@ fn walk_root<'a>(
 {
     let m = visit::visit(log, end, waiting, 0, left, 1, 300, score);
     let look = m.look;
-    let Look::Found { first, size } = look else {
+    let Look::Found(b) = look else {
         return visit::answer(m);
     };
-    let root = visit::root_bytes(log, end, waiting, first, size);
+    let root = visit::root_bytes(log, end, waiting, b);
     if !entry::is_root(&root) {
         return Walked {
             visits: 1,

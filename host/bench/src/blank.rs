@@ -3,7 +3,7 @@
 use boundary::{serve, Refusal, Session};
 use plain::random::Random;
 
-use crate::log::{read_message, time, write_message, SYNC};
+use crate::log::{read_message, time, write_message, DATE, SYNC};
 
 const BLOCK: usize = 8192;
 const BLOCKS: usize = 100;
@@ -29,6 +29,7 @@ pub fn run(lengths: &[usize]) {
                 let served = serve(
                     Session::Greeted,
                     message,
+                    &DATE,
                     &mut log,
                     &mut waiting,
                     &mut reply,

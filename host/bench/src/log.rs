@@ -1,5 +1,5 @@
-//! Storing and reading blocks by scan, beside an ordinary Rust log with the same checks and the same
-//! bytes. A sync comes after every ten writes.
+//! Storing and reading dated blocks by scan, beside an ordinary Rust log with the same checks and the
+//! same bytes. A sync comes after every ten writes.
 
 use boundary::{serve, Refusal, Session};
 use plain::log as ordinary;
@@ -9,12 +9,14 @@ use std::time::Instant;
 const BLOCK: usize = 8192;
 const BLOCKS: usize = 1000;
 /// The sectors of a block, and of the log that the absent block is looked for in.
-const PARTS: usize = BLOCK.div_ceil(403);
+const PARTS: usize = BLOCK.div_ceil(389);
 const SOUND: usize = 20_000;
 /// The writes before a sync, and the sectors of the waiting part.
 const BATCH: usize = 10;
 const WAITING: usize = 256;
 const DATA: u8 = 13;
+/// The date of each block.
+pub const DATE: [u8; 8] = *b"20261116";
 const ROUNDS: usize = 5;
 
 /// Seconds that ours and the ordinary log took, of several rounds the median of the ratio's.
@@ -46,7 +48,7 @@ pub fn run() {
         log.fill(0);
         other.fill(0);
         let mut ask = |log: &mut [u8], waiting: &mut [u8], message: &[u8]| {
-            serve(Session::Greeted, message, log, waiting, &mut reply).outcome
+            serve(Session::Greeted, message, &DATE, log, waiting, &mut reply).outcome
         };
         let ours = time(|| {
             for batch in messages.chunks(BATCH) {
@@ -58,7 +60,7 @@ pub fn run() {
         let theirs = time(|| {
             for batch in blocks.chunks(BATCH) {
                 for b in batch {
-                    let stored = ordinary::store(&other, &mut others, DATA, b);
+                    let stored = ordinary::store(&other, &mut others, DATE, DATA, b);
                     assert!(matches!(stored, ordinary::Stored::New(_)));
                 }
                 assert_eq!(ordinary::settle(&mut other, &mut others), Ok(()));
@@ -114,7 +116,7 @@ pub fn run() {
         measured[3].bytes = 10 * whole;
     }
     println!(
-        "\nby scan: {BLOCKS} different blocks of {BLOCK} bytes, a log of {} bytes, a sync after every {BATCH} writes; \
+        "\nby scan: {BLOCKS} different dated blocks of {BLOCK} bytes, a log of {} bytes, a sync after every {BATCH} writes; \
          waiting: read with the last {BATCH} not settled; a block that is absent from {} sound sectors",
         log.len(),
         SOUND / PARTS * PARTS

@@ -8,6 +8,8 @@ extern "C" {
         session: u8,
         message: *const u8,
         message_len: usize,
+        date: *const u8,
+        date_len: usize,
         log: *mut u8,
         log_len: usize,
         waiting: *mut u8,

@@ -53,6 +53,8 @@ pub enum Refusal {
     Pad,
     /// An allowance over the limit.
     Allowance,
+    /// A date that isn't eight decimal digits.
+    Date,
     /// An ill-formed card, or one that is too long.
     Card,
     /// An ill-formed query.
@@ -60,8 +62,8 @@ pub enum Refusal {
 }
 
 impl Refusal {
-    /// All of them, in the order of their numbers: 1 to 23, 25 and 26. The doubt is at sector 0.
-    pub const ALL: [Refusal; 25] = [
+    /// All of them, in the order of their numbers, 1 to 26. The doubt is at sector 0.
+    pub const ALL: [Refusal; 26] = [
         Refusal::Frame,
         Refusal::Buffer,
         Refusal::LogLength,
@@ -85,6 +87,7 @@ impl Refusal {
         Refusal::Spent,
         Refusal::Pad,
         Refusal::Allowance,
+        Refusal::Date,
         Refusal::Card,
         Refusal::Query,
     ];
@@ -115,9 +118,15 @@ impl Refusal {
             Refusal::Spent => 21,
             Refusal::Pad => 22,
             Refusal::Allowance => 23,
+            Refusal::Date => 24,
             Refusal::Card => 25,
             Refusal::Query => 26,
         }
+    }
+
+    /// Whether a message that is refused so gets no reply.
+    pub fn is_silent(self) -> bool {
+        matches!(self.number(), 1..=4 | 24)
     }
 
     /// The log's first doubtful sector, where that is why.
@@ -168,8 +177,7 @@ mod tests {
     #[test]
     fn numbers_and_back() {
         assert_eq!(Refusal::of(0), Ok(()));
-        let numbers = (1..=23).chain([25, 26]);
-        for (number, refusal) in numbers.zip(Refusal::ALL) {
+        for (number, refusal) in (1..).zip(Refusal::ALL) {
             assert_eq!(refusal.number(), number);
             assert_eq!(Refusal::with_sector(number, 0), Err(refusal));
         }
@@ -192,7 +200,7 @@ mod tests {
     #[test]
     #[should_panic = "no refusal's number"]
     fn a_number_that_no_refusal_has() {
-        let _ = Refusal::of(24);
+        let _ = Refusal::of(27);
     }
 
     #[test]

@@ -24,10 +24,12 @@ const DOUBT_AT: &[u8] = b"why=12 at=";
 
 /// Answers one request. The reply stands at the front of `reply`, its length in the first two bytes;
 /// an appended block in `waiting`, until a sync moves what is there into `log`. A waiting part begins
-/// all zeros, and each request is lent the one that the last request left.
+/// all zeros, and each request is lent the one that the last request left. An appended block gets
+/// `date`, which is eight decimal digits with any message.
 pub fn serve(
     session: Session,
     message: &[u8],
+    date: &[u8],
     log: &mut [u8],
     waiting: &mut [u8],
     reply: &mut [u8],
@@ -44,6 +46,8 @@ pub fn serve(
             number,
             message.as_ptr(),
             message.len(),
+            date.as_ptr(),
+            date.len(),
             log.as_mut_ptr(),
             log.len(),
             waiting.as_mut_ptr(),

@@ -10,7 +10,14 @@ fn ask(log: &mut [u8], waiting: &mut [u8], kind: u8, body: &[u8]) {
     let size = (body.len() + 2) as u16;
     let message = [&size.to_be_bytes()[..], &[kind, 9], body].concat();
     let mut reply = vec![0; 57_348];
-    let served = serve(Session::Greeted, &message, log, waiting, &mut reply);
+    let served = serve(
+        Session::Greeted,
+        &message,
+        b"20261116",
+        log,
+        waiting,
+        &mut reply,
+    );
     assert_eq!(served.outcome, Ok(()));
 }
 

@@ -40,6 +40,7 @@ fn a_block_of_the_same_score_with_other_bytes_is_refused() {
         let served = serve(
             Session::Greeted,
             &message,
+            b"20261116",
             &mut log,
             &mut waiting,
             &mut reply,

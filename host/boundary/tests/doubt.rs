@@ -4,6 +4,10 @@
 use boundary::{fill, locate, serve, sha1, walk, Filled, Refusal, Run, Session, Walked};
 
 const SECTOR: usize = 512;
+/// Bytes in a dated label.
+const LABEL: usize = 110;
+/// The sectors of the longest block.
+const PARTS: usize = 148;
 
 fn message(kind: u8, body: &[u8]) -> Vec<u8> {
     let size = (body.len() + 2) as u16;
@@ -17,7 +21,14 @@ fn ask(log: &mut [u8], message: &[u8]) -> (Result<(), Refusal>, Vec<u8>) {
 
 fn ask_both(log: &mut [u8], waiting: &mut [u8], message: &[u8]) -> (Result<(), Refusal>, Vec<u8>) {
     let mut reply = vec![0xee; 57_348];
-    let served = serve(Session::Greeted, message, log, waiting, &mut reply);
+    let served = serve(
+        Session::Greeted,
+        message,
+        b"20261116",
+        log,
+        waiting,
+        &mut reply,
+    );
     let size = 2 + usize::from(reply[0]) * 256 + usize::from(reply[1]);
     assert!(reply[size..].iter().all(|byte| *byte == 0xee));
     reply.truncate(size);
@@ -26,7 +37,7 @@ fn ask_both(log: &mut [u8], waiting: &mut [u8], message: &[u8]) -> (Result<(), R
 
 /// Stores a block and settles it.
 fn write(log: &mut [u8], kind: u8, data: &[u8]) -> [u8; 20] {
-    let mut waiting = vec![0; 143 * SECTOR];
+    let mut waiting = vec![0; PARTS * SECTOR];
     let score = write_waiting(log, &mut waiting, kind, data);
     let synced = ask_both(log, &mut waiting, &message(16, b""));
     assert_eq!(synced, (Ok(()), vec![0, 2, 17, 9]));
@@ -84,7 +95,7 @@ fn the_papers_reply() {
 #[test]
 fn everywhere_the_same() {
     let mut log = vec![0; 30 * SECTOR];
-    let leaf = write(&mut log, 13, &[5; 800]);
+    let leaf = write(&mut log, 13, &[5; 700]);
     let lost = sha1(b"lost");
     let files = [entry(&leaf), entry(&lost)];
     let top = root(&mut log, &files.concat());
@@ -122,7 +133,7 @@ fn everywhere_the_same() {
 #[test]
 fn past_many_sectors() {
     const BLOCKS: usize = 521;
-    let sector = 143 * BLOCKS;
+    let sector = PARTS * BLOCKS;
     let mut log = vec![0; (sector + 9) * SECTOR];
     let mut block = vec![7; 57_344];
     for number in 0..BLOCKS {
@@ -135,7 +146,7 @@ fn past_many_sectors() {
     let refusal = Err(Refusal::NotKnown { sector });
     let (outcome, reply) = ask(&mut log, &read(13, &never));
     assert_eq!(outcome, refusal);
-    assert!(reply.ends_with(b"why=12 at=00012307"));
+    assert!(reply.ends_with(b"why=12 at=00012d34"));
     let file = entry(&never);
     assert_eq!(locate(&log, &[], &[0], &file, 0).map(|_| ()), refusal);
     let (outcome, visits) = (refusal, 1);
@@ -150,7 +161,7 @@ fn past_many_sectors() {
 fn in_both_parts() {
     let mut log = vec![0; 30 * SECTOR];
     let mut waiting = vec![0; 6 * SECTOR];
-    let leaf = write(&mut log, 13, &[5; 800]);
+    let leaf = write(&mut log, 13, &[5; 700]);
     let lost = sha1(b"lost");
     let next = write_waiting(&mut log, &mut waiting, 13, &[6; 500]);
     let files = [entry(&leaf), entry(&next), entry(&lost)];
@@ -163,12 +174,12 @@ fn in_both_parts() {
         locate(log, waiting, &[0; 9], &files[file], offset)
     };
     let settled = Run::Log {
-        at: 96 + 3,
+        at: LABEL + 3,
         length: 6,
     };
     assert_eq!(run(&log, &waiting, 0, 3), Ok(settled));
     let waits = Run::Waiting {
-        at: 96 + 3,
+        at: LABEL + 3,
         length: 6,
     };
     assert_eq!(run(&log, &waiting, 1, 3), Ok(waits));

@@ -4,6 +4,7 @@ use boundary::Session::{self, Closed, Fresh, Greeted};
 use boundary::{crc32, serve, sha1, Refusal, MOST_SECTORS, MOST_WAITING};
 
 const REPLY: usize = 57_348;
+const DATE: &[u8] = b"20261116";
 
 /// A log, its waiting part and a reply buffer, with the session that the last request left.
 struct Archive {
@@ -31,10 +32,15 @@ impl Archive {
 
     /// The number of the answer. The reply buffer is filled anew before.
     fn ask(&mut self, message: &[u8]) -> u8 {
+        self.ask_on(DATE, message)
+    }
+
+    fn ask_on(&mut self, date: &[u8], message: &[u8]) -> u8 {
         self.reply.fill(0xee);
         let served = serve(
             self.session,
             message,
+            date,
             &mut self.log,
             &mut self.waiting,
             &mut self.reply,
@@ -223,7 +229,7 @@ fn refusals_by_order() {
 #[test]
 fn a_history_with_damage() {
     let mut a = Archive::greeted(12);
-    let blocks: [&[u8]; 3] = [&[1; 404], &[2; 10], &[3; 403]];
+    let blocks: [&[u8]; 3] = [&[1; 390], &[2; 10], &[3; 389]];
     for b in blocks {
         assert_eq!(a.ask(&write(13, 1, b)), 0);
     }
@@ -247,10 +253,10 @@ fn a_history_with_damage() {
         assert_eq!(a.answer(), message(13, 1, b));
     }
     assert_eq!(a.ask(&write(13, 1, blocks[0])), 0, "stored again");
-    let first = b"rec=00000006\n";
-    assert_eq!(&a.waiting[..13], first, "after the changed sectors");
+    let first = b"date=20261116\nrec=00000006\n";
+    assert!(a.waiting.starts_with(first), "after the changed sectors");
     a.sync();
-    assert_eq!(&a.log[512 * 6..512 * 6 + 13], first);
+    assert!(a.log[512 * 6..].starts_with(first));
     assert_eq!(a.ask(&read(13, 1, sha1(blocks[0]), 999)), 0, "healed");
     assert_eq!(a.answer(), message(13, 1, blocks[0]));
     assert_eq!(
@@ -265,8 +271,8 @@ fn a_history_with_damage() {
 fn sector_bytes() {
     let mut a = Archive::greeted(1);
     assert_eq!(a.ask(&write(2, 1, b"abc")), 0);
-    let label = b"rec=00000000\npart=0000\nof=0001\ntype=02\nsize=0003\nscore=a9993e364706816aba3e25717850c26c9cd0d89d\n";
-    let body = [&label[..], b"abc", &[0; 400]].concat();
+    let label = b"date=20261116\nrec=00000000\npart=0000\nof=0001\ntype=02\nsize=0003\nscore=a9993e364706816aba3e25717850c26c9cd0d89d\n";
+    let body = [&label[..], b"abc", &[0; 386]].concat();
     let check = format!("crc={:08x}\n", crc32(&body));
     let sector = [&body[..], check.as_bytes()].concat();
     assert_eq!(a.waiting[..512], sector);
@@ -284,7 +290,8 @@ fn what_waits_is_held() {
     let settled = a.log.clone();
     let waits = [5; 1000];
     assert_eq!(a.ask(&write(13, 2, &waits)), 0);
-    assert_eq!(&a.waiting[..13], b"rec=00000001\n", "behind the log's");
+    let first = b"date=20261116\nrec=00000001\n";
+    assert!(a.waiting.starts_with(first), "behind the log's");
     let both = a.waiting.clone();
     for m in [
         write(13, 3, &waits),
@@ -316,8 +323,8 @@ fn no_room_in_either_part() {
     assert_eq!((&a.log, &a.waiting), (&full.0, &full.1));
     a.sync();
     assert_eq!(a.ask(&write(13, 2, b"ninth")), 0);
-    assert_eq!(a.ask(&write(13, 2, &[9; 4 * 403])), 14, "three are left");
-    assert_eq!(a.ask(&write(13, 2, &[9; 3 * 403])), 0);
+    assert_eq!(a.ask(&write(13, 2, &[9; 4 * 389])), 14, "three are left");
+    assert_eq!(a.ask(&write(13, 2, &[9; 3 * 389])), 0);
     assert_eq!(a.ask(&write(13, 2, b"thirteenth")), 14);
     a.sync();
     assert_eq!(a.ask(&write(13, 2, b"thirteenth")), 14);
@@ -325,4 +332,98 @@ fn no_room_in_either_part() {
     none.waiting.clear();
     assert_eq!(none.ask(&write(13, 1, b"x")), 14, "nothing is lent to wait");
     none.sync();
+}
+
+/// 24 for every message, after 4 and before 5: no reply, and all stays as it was.
+#[test]
+fn dates_that_are_none() {
+    let bad: [&[u8]; 8] = [
+        b"",
+        b"2026111",
+        b"202611160",
+        b"2026111a",
+        b"2026111/",
+        b"2026111:",
+        b"\xb2026111",
+        b"20261116\n",
+    ];
+    let mut a = Archive::greeted(2);
+    assert_eq!(a.ask(&write(13, 1, b"waits")), 0);
+    let before = (a.log.clone(), a.waiting.clone());
+    for date in bad {
+        for m in [
+            HELLO.to_vec(),
+            write(13, 2, b"x"),
+            read(13, 2, sha1(b"waits"), 9),
+            message(2, 2, b""),
+            message(6, 2, b""),
+            message(16, 2, b""),
+            message(99, 2, b""),
+            write(99, 2, &[0; 57_345]),
+        ] {
+            a.session = Greeted;
+            assert_eq!(a.ask_on(date, &m), 24, "{date:?} {m:02x?}");
+            assert!(a.untouched() && a.session == Greeted);
+            a.session = Closed;
+            assert_eq!(a.ask_on(date, &m), 4, "4 before 24");
+            assert!(a.untouched());
+        }
+        assert_eq!((&a.log, &a.waiting), (&before.0, &before.1));
+    }
+    a.session = Greeted;
+    for date in [b"00000000", b"99999999", b"20240230"] {
+        assert_eq!(a.ask_on(date, &message(2, 2, b"")), 0);
+    }
+    assert_eq!(a.ask_on(b"", b""), 1, "1 before 24");
+}
+
+/// A duplicate of any date is a duplicate: the block keeps the date of its write, through a sync too.
+#[test]
+fn a_block_keeps_its_date() {
+    let mut a = Archive::greeted(4);
+    assert_eq!(a.ask_on(b"19991231", &write(13, 1, b"first")), 0);
+    let waits = a.waiting.clone();
+    assert!(waits.starts_with(b"date=19991231\nrec=00000000\n"));
+    assert_eq!(a.ask_on(b"20000101", &write(13, 1, b"first")), 0);
+    assert_eq!(a.waiting, waits);
+    assert_eq!(a.ask_on(b"20000102", &message(16, 1, b"")), 0);
+    assert_eq!(a.log[..512], waits[..512]);
+    assert_eq!(a.ask_on(b"20000103", &write(13, 1, b"first")), 0);
+    assert!(a.waiting.iter().all(|b| *b == 0));
+    assert_eq!(a.ask_on(b"20000103", &write(2, 1, b"first")), 0);
+    assert!(a.waiting.starts_with(b"date=20000103\nrec=00000001\n"));
+}
+
+/// The sector that the earlier program wrote for this block, without a date.
+fn first_edition(sector: usize, data: &[u8]) -> Vec<u8> {
+    let score: String = sha1(data).iter().map(|b| format!("{b:02x}")).collect();
+    let size = data.len();
+    let label =
+        format!("rec={sector:08x}\npart=0000\nof=0001\ntype=0d\nsize={size:04x}\nscore={score}\n");
+    let mut body = [label.as_bytes(), data].concat();
+    body.resize(499, 0);
+    let check = format!("crc={:08x}\n", crc32(&body));
+    [&body[..], check.as_bytes()].concat()
+}
+
+/// A log that was written before goes on: its blocks are held, and are duplicates.
+#[test]
+fn a_log_of_the_first_edition_goes_on() {
+    let mut a = Archive::greeted(4);
+    let (one, two) = ([7; 403], b"two");
+    a.log[..512].copy_from_slice(&first_edition(0, &one));
+    a.log[512..1024].copy_from_slice(&first_edition(1, two));
+    let before = a.log.clone();
+    assert_eq!(a.ask(&read(13, 1, sha1(&one), 403)), 0);
+    assert_eq!(a.answer(), message(13, 1, &one));
+    assert_eq!(a.ask(&write(13, 1, &one)), 0);
+    a.sync();
+    assert_eq!(a.log, before, "a duplicate");
+    assert_eq!(a.ask(&read(13, 1, [9; 20], 1)), 11, "all is sound");
+    assert_eq!(a.ask(&write(13, 1, &[8; 403])), 0);
+    a.sync();
+    assert_eq!(a.log[..1024], before[..1024]);
+    assert!(a.log[1024..].starts_with(b"date=20261116\nrec=00000002\npart=0000\nof=0002\n"));
+    assert_eq!(a.ask(&read(13, 1, sha1(&[8; 403]), 403)), 0);
+    assert_eq!(a.answer(), message(13, 1, &[8; 403]));
 }

@@ -5,6 +5,7 @@ use std::path::Path;
 
 use boundary::Refusal;
 
+use crate::date::{self, Dates};
 use crate::format::Score;
 use crate::hex;
 use crate::status::Failure;
@@ -121,6 +122,11 @@ impl Arguments {
         };
         let kind = value.to_str().and_then(kind);
         kind.ok_or_else(|| Failure::refused_about(Refusal::BlockType, value))
+    }
+
+    /// The dates of what is stored, by `--date` if it is given.
+    pub fn dates(&self) -> Result<Dates, Failure> {
+        Dates::choose(self.value("--date").map(date::parse).transpose()?)
     }
 
     /// The score at a place.

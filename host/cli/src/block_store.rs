@@ -6,6 +6,7 @@ use std::path::Path;
 use boundary::{fill, sha1, Refusal};
 
 use crate::contents;
+use crate::date::Dates;
 use crate::escape;
 use crate::format::{sectors_of, Score};
 use crate::progress::Progress;
@@ -34,8 +35,13 @@ pub struct Subject<'a> {
 }
 
 impl BlockStore {
-    pub fn open(path: &Path, adopt: bool, streams: &mut Streams) -> Result<BlockStore, Failure> {
-        let mut log = Writer::open(path, adopt, streams)?;
+    pub fn open(
+        path: &Path,
+        adopt: bool,
+        dates: Dates,
+        streams: &mut Streams,
+    ) -> Result<BlockStore, Failure> {
+        let mut log = Writer::open(path, adopt, streams)?.dated(dates);
         Ok(BlockStore {
             client: Client::greet_on_disk(&mut log, streams)?,
             log,

@@ -4,13 +4,15 @@ use std::ops::Range;
 
 use boundary::{sound_at, Refusal};
 
-use crate::format::{self, Score, PAYLOAD, SECTOR};
+use crate::format::{self, Date, Score, SECTOR};
 
 /// A sound block.
 #[derive(Clone, Copy, Debug, PartialEq, Eq)]
 pub struct Block {
     pub kind: u8,
     pub size: usize,
+    /// None in the first edition.
+    pub date: Option<Date>,
     pub score: Score,
 }
 
@@ -32,12 +34,17 @@ pub fn pieces(log: &[u8]) -> Result<Vec<Piece>, Refusal> {
     let mut next = 0;
     while next < used {
         let size = sound_at(log, next)?;
-        let label = format::label(&log[next * SECTOR..(next + 1) * SECTOR]);
-        match (size, label, pieces.last_mut()) {
+        let sector = &log[next * SECTOR..(next + 1) * SECTOR];
+        match (size, format::label(sector), pieces.last_mut()) {
             (1.., Some((kind, score)), _) => {
-                let block = Some(Block { kind, size, score });
-                let count = format::sectors_of(size);
-                pieces.push(piece(next, count, block));
+                let block = Block {
+                    kind,
+                    size,
+                    date: format::date(sector),
+                    score,
+                };
+                let count = parts(sector, size);
+                pieces.push(piece(next, count, Some(block)));
                 next += count;
             }
             (_, _, Some(before)) if before.block.is_none() => {
@@ -76,14 +83,19 @@ pub fn find(log: &[u8], kind: u8, score: &Score) -> Option<Range<usize>> {
             return None;
         }
         let size = sound_at(log, at).ok().filter(|size| *size > 0)?;
-        Some(at..at + format::sectors_of(size))
+        Some(at..at + parts(sector, size))
     })
+}
+
+/// The sectors of a sound block of so many bytes, by its first.
+fn parts(first: &[u8], size: usize) -> usize {
+    size.div_ceil(format::payload(first).len())
 }
 
 /// The bytes of the sound block of so many bytes that starts at a sector.
 pub fn data(log: &[u8], sector: usize, size: usize) -> Vec<u8> {
     let sectors = log[sector * SECTOR..].chunks_exact(SECTOR);
-    let payloads = sectors.flat_map(|sector| &sector[format::LABEL..format::LABEL + PAYLOAD]);
+    let payloads = sectors.flat_map(|sector| &sector[format::payload(sector)]);
     payloads.take(size).copied().collect()
 }
 
@@ -106,7 +118,14 @@ mod tests {
         assert_eq!(find(&log, 2, &long), Some(4..7));
         assert_eq!(find(&log, 1, &long), None);
         assert_eq!(data(&log, 4, 1000), [7; 1000]);
-        let block = |kind, size, score| Some(Block { kind, size, score });
+        let block = |kind, size, score| {
+            Some(Block {
+                kind,
+                size,
+                date: Some(crate::date::NO_DAY),
+                score,
+            })
+        };
         let first = piece(0, 3, block(13, 1000, long));
         let rest = [
             piece(3, 1, block(13, 5, short)),
@@ -131,7 +150,7 @@ mod tests {
     fn the_first_doubtful_one() {
         let mut log = vec![0; 12 * SECTOR];
         let mut client = Client::greet(&mut log).unwrap();
-        for length in [5, 1000, 403, 404] {
+        for length in [5, 1000, 389, 390] {
             client.write(&mut log, 13, &vec![7; length]).unwrap();
         }
         assert_eq!(first_doubtful(&pieces(&log).unwrap()), None);

@@ -47,10 +47,10 @@ pub const COMMANDS: [Command; 15] = [
     },
     Command {
         name: "put",
-        usage: "LOG [FILE...] [--type T] [--adopt]",
+        usage: "LOG [FILE...] [--type T] [--date YYYYMMDD] [--adopt]",
         summary: "store each file as a block, print its score",
         details: help::PUT,
-        syntax: syntax(&["--adopt"], &["--type"], &["LOG"], usize::MAX),
+        syntax: syntax(&["--adopt"], &["--type", "--date"], &["LOG"], usize::MAX),
         run: put::run,
     },
     Command {
@@ -63,12 +63,12 @@ pub const COMMANDS: [Command; 15] = [
     },
     Command {
         name: "serve",
-        usage: "LOG [--read-only | [--wait SECONDS] [--adopt]] [--handshake]",
+        usage: "LOG [--read-only | [--wait SECONDS] [--date YYYYMMDD] [--adopt]] [--handshake]",
         summary: "answer Venti messages from standard input",
         details: help::SERVE,
         syntax: syntax(
             &["--adopt", "--read-only", "--handshake"],
-            &["--wait"],
+            &["--wait", "--date"],
             &["LOG"],
             1,
         ),
@@ -121,18 +121,18 @@ pub const COMMANDS: [Command; 15] = [
     },
     Command {
         name: "put-file",
-        usage: "LOG FILE [--adopt]",
+        usage: "LOG FILE [--date YYYYMMDD] [--adopt]",
         summary: "store a file of any size, print its entry",
         details: help::PUT_FILE,
-        syntax: syntax(&["--adopt"], &[], &["LOG", "FILE"], 2),
+        syntax: syntax(&["--adopt"], &["--date"], &["LOG", "FILE"], 2),
         run: put_file::run,
     },
     Command {
         name: "save",
-        usage: "LOG FILE... [--adopt]",
+        usage: "LOG FILE... [--date YYYYMMDD] [--adopt]",
         summary: "store files under a root, print its score",
         details: help::SAVE,
-        syntax: syntax(&["--adopt"], &[], &["LOG", "FILE"], usize::MAX),
+        syntax: syntax(&["--adopt"], &["--date"], &["LOG", "FILE"], usize::MAX),
         run: save::run,
     },
     Command {
@@ -166,11 +166,11 @@ pub const COMMANDS: [Command; 15] = [
     },
     Command {
         name: "demo",
-        usage: "",
+        usage: "[--date YYYYMMDD]",
         summary: "show it all in a temporary folder",
         details: help::DEMO,
-        syntax: syntax(&[], &[], &[], 0),
-        run: |_, streams| demo::run(run, streams),
+        syntax: syntax(&[], &["--date"], &[], 0),
+        run: |arguments, streams| demo::run(run, arguments, streams),
     },
 ];
 

@@ -115,10 +115,10 @@ mod tests {
         let mut log = vec![0; 40 * SECTOR];
         let mut client = Client::greet(&mut log).unwrap();
         let page = [0; 64];
-        for stored in [1, 402, 403, 404, 805, 806, 807, 1000] {
+        for stored in [1, 388, 389, 390, 777, 778, 779, 1000] {
             let block: Vec<u8> = (0..stored).map(|i| (i * 7 + stored) as u8 | 1).collect();
             let score = client.write(&mut log, 13, &block).unwrap();
-            for size in [1, 402, 403, 404, 806, 807, 999, 1000] {
+            for size in [1, 388, 389, 390, 778, 779, 999, 1000] {
                 let entry = file(size, &score);
                 let mut bytes = vec![0xaa; 1200];
                 let filled = fill(&log, &[], &entry, 0, &mut bytes);

@@ -1,7 +1,7 @@
 //! `demo`: the registry's story: four donors, one of them never tested, one card damaged, and who may give.
 
 use std::env;
-use std::ffi::OsString;
+use std::ffi::{OsStr, OsString};
 use std::fs::{self, OpenOptions};
 use std::io;
 use std::os::unix::fs::FileExt;
@@ -9,6 +9,7 @@ use std::path::{Path, PathBuf};
 
 use boundary::Refusal;
 
+use crate::arguments::Arguments;
 use crate::format::SECTOR;
 use crate::hex;
 use crate::status::{Failure, CLAIM_FAILED, DONE, PARTLY, VERDICT_NOT_KNOWN};
@@ -59,12 +60,14 @@ An unreadable card is no answer: it may be a yes or a no. DO NOT READ IT AS ABSE
 /// Runs a command, tells what fails and gives the status.
 type Run = fn(&[OsString], &mut Streams) -> u8;
 
-pub fn run(run: Run, streams: &mut Streams) -> Result<u8, Failure> {
+pub fn run(run: Run, arguments: &Arguments, streams: &mut Streams) -> Result<u8, Failure> {
+    arguments.dates()?;
     let folder = Folder::new()?;
     let mut demo = Demo {
         folder: &folder.path,
         streams,
         run,
+        date: arguments.value("--date").and_then(OsStr::to_str),
         claims: 0,
     };
     demo.play()?;
@@ -80,6 +83,8 @@ struct Demo<'a, 'b> {
     folder: &'a Path,
     streams: &'a mut Streams<'b>,
     run: Run,
+    /// What is saved gets this date, where one is given.
+    date: Option<&'a str>,
     claims: usize,
 }
 
@@ -201,6 +206,10 @@ impl Demo<'_, '_> {
 
     /// Runs a command in this process; shows it as one would type it, and its answer.
     fn command(&mut self, words: &[&str]) -> Result<Answer, Failure> {
+        let mut words = words.to_vec();
+        if let (["save", ..], Some(date)) = (&words[..], self.date) {
+            words.extend(["--date", date]);
+        }
         let is_file =
             |word: &str| word == LOG || word == BACK || CARDS.iter().any(|(name, _)| word == *name);
         let in_folder = |word: &&str| match is_file(word) {
@@ -223,7 +232,7 @@ impl Demo<'_, '_> {
         let (out, err) = (text(out), text(err));
         let shown = format!(
             "  $ skywimple {}\n{}",
-            typed(words),
+            typed(&words),
             indented(&(out.clone() + &err))
         );
         self.streams.answer(shown.as_bytes())?;

@@ -15,8 +15,11 @@ synced together, as many as have room in 256 sectors, and their scores printed t
 held already is not stored twice; one that is damaged is stored again, which heals it.
 A file that is refused or cannot be read is told on standard error, the others are stored all the
 same; the status is that of the first failure.
-  --type T   root, dir, ptr1 to ptr7, data (the default), or the type's number
-  --adopt    take a log without a good mark as it is, and mark it
+A block is stored with the date of today, in UTC, or of SOURCE_DATE_EPOCH where that is set; one that
+is held already keeps the date that it has.
+  --type T         root, dir, ptr1 to ptr7, data (the default), or the type's number
+  --date YYYYMMDD  the date: eight decimal digits, any that you like
+  --adopt          take a log without a good mark as it is, and mark it
 ";
 
 pub const GET: &str = "\
@@ -51,6 +54,8 @@ told there.
                   a sync. Nothing is ever written: a block that is not held, or not marked yet, is
                   refused with 14 (no room)
   --wait SECONDS  how long another writer may still hold the log before it is status 75 (default 0)
+  --date YYYYMMDD the date of the blocks that are stored, eight decimal digits; without it each has the
+                  day in UTC on which its write came, or that of SOURCE_DATE_EPOCH where it is set
   --handshake     begin with the opening lines of the protocol: send `venti-02-skywimple` and wait for
                   the client's, at most 1,024 bytes and 5 s, before the log is opened; else status 76
   --adopt         take a log without a good mark as it is, and mark it
@@ -78,12 +83,13 @@ then the first doubtful sector is told on standard error, with its byte in the f
 
 pub const LIST: &str = "\
 Prints a line for each sound block, in the log's order: the sector where it starts, its type, its
-size in bytes and its score; and a line for each run of doubtful sectors: the first, how many, and
-the byte of the file where they begin. The status is 0, or 32 if any sector is doubtful.
+size in bytes, its date and its score; and a line for each run of doubtful sectors: the first, how
+many, and the byte of the file where they begin. The date is that of the write that stored the block,
+as its writer gave it; a block that was stored before blocks had dates has none, and shows -. The status is 0, or 32 if any sector is doubtful.
 A doubtful run can be restored from a copy of the log while no writer runs, with its sector and count:
   dd if=COPY of=LOG bs=512 skip=SECTOR seek=SECTOR count=COUNT conv=notrunc,fsync
-  --json     prints JSON, an object on each line: sector, type, size and score of a block; sector,
-             count and byte of a doubtful run
+  --json     prints JSON, an object on each line: sector, type, size, date (null where it has none)
+             and score of a block; sector, count and byte of a doubtful run
   --adopt    take a log without a good mark as it is, and mark it
 ";
 
@@ -116,7 +122,8 @@ Stores FILE, or standard input (`-`), as a tree: leaves of 57,344 bytes, over th
 all of it is on disk and reads back from the file as it was, prints the entry, 80 hex digits, which
 `read` and `search` take. Where the log is full (14), what was stored stays, and the same command goes
 on from there. What comes from standard input is taken into memory first.
-  --adopt    take a log without a good mark as it is, and mark it
+  --date YYYYMMDD  the date of the blocks that are stored (see put)
+  --adopt          take a log without a good mark as it is, and mark it
 ";
 
 pub const SAVE: &str = "\
@@ -128,7 +135,8 @@ feed in it or is not UTF-8, or if a FILE is a folder. The same files in the same
 root; what is stored already is not stored twice.
 The root's type is `skywimple save`. Its directory block has one entry, a directory, of which the first
 file has the names of the others, in their order, each ended by a line feed.
-  --adopt    take a log without a good mark as it is, and mark it
+  --date YYYYMMDD  the date of the blocks that are stored (see put); what is held keeps its own
+  --adopt          take a log without a good mark as it is, and mark it
 ";
 
 pub const RESTORE: &str = "\
@@ -184,4 +192,5 @@ Saves the cards of four donors, one of whom nobody tested for the antigen, and a
 sector is damaged: the card in it is unreadable, and never a no. What can be restored is, and saving the
 cards again heals it. Each step is checked; if one does not go as said, the status is 1. The folder is
 removed at the end.
+  --date YYYYMMDD  the date of the blocks that are stored (see put)
 ";

@@ -4,7 +4,7 @@ use std::io;
 
 use crate::arguments::Arguments;
 use crate::blocks::{self, Block, Piece};
-use crate::format::{kind_name, SECTOR};
+use crate::format::{kind_name, Date, SECTOR};
 use crate::hex;
 use crate::reader;
 use crate::status::{Failure, DONE, VERDICT_NOT_KNOWN};
@@ -28,13 +28,15 @@ pub fn run(arguments: &Arguments, streams: &mut Streams) -> Result<u8, Failure> 
     })
 }
 
-/// Sector, type, size and score; of doubtful sectors their count, and the byte where they begin.
+/// Sector, type, size, date and score; of doubtful sectors their count, and the byte where they begin.
 fn text(piece: &Piece) -> String {
     let Piece { sector, count, .. } = piece;
     match piece.block {
-        Some(Block { kind, size, score }) => {
-            let (kind, score) = (kind_name(kind), hex::encode(&score));
-            format!("{sector:>8}  {kind:8}  {size:>5}  {score}")
+        Some(block) => {
+            let Block { size, .. } = block;
+            let (kind, score) = (kind_name(block.kind), hex::encode(&block.score));
+            let date = digits(block.date).unwrap_or("-".to_string());
+            format!("{sector:>8}  {kind:8}  {size:>5}  {date:8}  {score}")
         }
         None => {
             let byte = sector * SECTOR;
@@ -43,13 +45,22 @@ fn text(piece: &Piece) -> String {
     }
 }
 
+/// A date as it is read.
+fn digits(date: Option<Date>) -> Option<String> {
+    date.map(|date| String::from_utf8_lossy(&date).into_owned())
+}
+
 /// The same as a JSON object. No value needs escapes.
 fn json(piece: &Piece) -> String {
     let Piece { sector, count, .. } = piece;
     match piece.block {
-        Some(Block { kind, size, score }) => {
-            let (kind, score) = (kind_name(kind), hex::encode(&score));
-            format!(r#"{{"sector":{sector},"type":"{kind}","size":{size},"score":"{score}"}}"#)
+        Some(block) => {
+            let Block { size, .. } = block;
+            let (kind, score) = (kind_name(block.kind), hex::encode(&block.score));
+            let date = digits(block.date).map_or("null".to_string(), |date| format!(r#""{date}""#));
+            format!(
+                r#"{{"sector":{sector},"type":"{kind}","size":{size},"date":{date},"score":"{score}"}}"#
+            )
         }
         None => {
             let byte = sector * SECTOR;

@@ -8,6 +8,7 @@ mod card_text;
 mod closed;
 mod command;
 mod contents;
+mod date;
 mod demo;
 mod disk;
 mod doubt;

@@ -22,6 +22,7 @@ const UNSETTLED: &str = "Store again what no score was printed for: it may not b
 
 pub fn run(arguments: &Arguments, streams: &mut Streams) -> Result<u8, Failure> {
     let kind = arguments.kind()?;
+    let dates = arguments.dates()?;
     let standard_input = [OsStr::new("-").to_os_string()];
     let files = match &arguments.words[1..] {
         [] => &standard_input[..],
@@ -32,7 +33,8 @@ pub fn run(arguments: &Arguments, streams: &mut Streams) -> Result<u8, Failure> 
         [file] if file == "-" => Some(read_block(file, streams.input)),
         _ => None,
     };
-    let mut log = Writer::open(arguments.path(0), arguments.flag("--adopt"), streams)?;
+    let log = Writer::open(arguments.path(0), arguments.flag("--adopt"), streams)?;
+    let mut log = log.dated(dates);
     let mut client = Client::greet_on_disk(&mut log, streams)?;
 
     let mut status = DONE;

@@ -15,13 +15,14 @@ use crate::tree_writer::FILE;
 
 pub fn run(arguments: &Arguments, streams: &mut Streams) -> Result<u8, Failure> {
     let (path, file) = (arguments.path(0), arguments.path(1));
+    let dates = arguments.dates()?;
     let (name, mut source) = source(file, streams)?;
     let doing = format!("storing {}", name.display());
     let subject = Subject {
         name,
         doing: &doing,
     };
-    let mut log = BlockStore::open(path, arguments.flag("--adopt"), streams)?;
+    let mut log = BlockStore::open(path, arguments.flag("--adopt"), dates, streams)?;
     let written = log.write(&FILE, &mut *source, subject, streams)?;
     log.finish(streams)?;
     let log = reader::read(path, false, streams)?;

@@ -22,13 +22,14 @@ const DIRECTORY_NAME: &str = "the directory";
 
 pub fn run(arguments: &Arguments, streams: &mut Streams) -> Result<u8, Failure> {
     let path = arguments.path(0);
+    let dates = arguments.dates()?;
     let files = &arguments.words[1..];
     let names = checked_names(files)?;
     files
         .iter()
         .try_for_each(|file| is_readable(file.as_ref()))?;
 
-    let mut log = BlockStore::open(path, arguments.flag("--adopt"), streams)?;
+    let mut log = BlockStore::open(path, arguments.flag("--adopt"), dates, streams)?;
     let mut written = Vec::new();
     for (at, file) in files.iter().enumerate() {
         let doing = format!("file {} of {}, {}", at + 1, files.len(), file.display());

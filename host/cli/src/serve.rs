@@ -7,6 +7,7 @@ use std::time::Duration;
 use boundary::Session;
 
 use crate::arguments::Arguments;
+use crate::date::Dates;
 use crate::handshake;
 use crate::interrupt::Held;
 use crate::progress::Progress;
@@ -25,7 +26,11 @@ const UNSETTLED: &str = "Store again what no sync was answered for: it may not b
 /// How the log is opened.
 enum Access {
     ReadOnly,
-    Write { wait: Duration, adopt: bool },
+    Write {
+        wait: Duration,
+        adopt: bool,
+        dates: Dates,
+    },
 }
 
 pub fn run(arguments: &Arguments, streams: &mut Streams) -> Result<u8, Failure> {
@@ -57,11 +62,17 @@ fn access(arguments: &Arguments) -> Result<Access, Failure> {
     let wait = arguments.number("--wait")?;
     if !arguments.flag("--read-only") {
         let wait = Duration::from_secs(wait.unwrap_or(0));
-        return Ok(Access::Write { wait, adopt });
+        let dates = arguments.dates()?;
+        return Ok(Access::Write { wait, adopt, dates });
     }
     if adopt {
         return Err(Failure::usage(
             "--read-only writes nothing, so --adopt has no place beside it",
+        ));
+    }
+    if arguments.value("--date").is_some() {
+        return Err(Failure::usage(
+            "--read-only writes nothing, so --date has no place beside it",
         ));
     }
     if wait.is_some() {
@@ -75,7 +86,10 @@ fn access(arguments: &Arguments) -> Result<Access, Failure> {
 fn open(path: &Path, access: Access, streams: &mut Streams) -> Result<Box<dyn Answers>, Failure> {
     Ok(match access {
         Access::ReadOnly => Box::new(Reader::open(path, streams)?),
-        Access::Write { wait, adopt } => Box::new(Writer::open_within(wait, path, adopt, streams)?),
+        Access::Write { wait, adopt, dates } => {
+            let log = Writer::open_within(wait, path, adopt, streams)?;
+            Box::new(log.dated(dates))
+        }
     })
 }
 
@@ -126,7 +140,7 @@ fn talk(
         session = served.session;
         appended += served.appended;
         requests += 1;
-        let silent = served.outcome.err().filter(|refusal| refusal.number() <= 4);
+        let silent = served.outcome.err().filter(|refusal| refusal.is_silent());
         if let Some(refusal) = silent {
             let words = words::refusal(refusal);
             streams.tell(&format!("message {requests} was not answered: {words}"));

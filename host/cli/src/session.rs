@@ -2,6 +2,7 @@
 
 use boundary::{serve, Refusal, Session};
 
+use crate::date::NO_DAY;
 use crate::format::Score;
 use crate::status::Failure;
 use crate::streams::Streams;
@@ -87,13 +88,14 @@ impl Client {
         served.outcome.map_err(Failure::refused)
     }
 
-    /// Stores a block of at most 65,529 bytes in a log in memory, and settles it. Gives its score.
+    /// Stores a block of at most 65,529 bytes in a log in memory, with no day's date, and settles it.
+    /// Gives its score.
     #[cfg(test)]
     pub fn write(&mut self, log: &mut [u8], kind: u8, data: &[u8]) -> Result<Score, Refusal> {
         let mut waiting = vec![0; boundary::MOST_WAITING * crate::format::SECTOR];
         let mut ask = |message: &[u8]| {
             let reply = &mut self.reply;
-            serve(self.session, message, log, &mut waiting, reply).outcome
+            serve(self.session, message, &NO_DAY, log, &mut waiting, reply).outcome
         };
         ask(&write_message(kind, data))?;
         ask(&SYNC)?;
@@ -114,7 +116,8 @@ impl Client {
 
     /// Asks of a log with nothing waiting, and gives the reply's body.
     fn ask(&mut self, log: &mut [u8], message: &[u8]) -> Result<&[u8], Refusal> {
-        let served = serve(self.session, message, log, &mut [], &mut self.reply);
+        let reply = &mut self.reply;
+        let served = serve(self.session, message, &NO_DAY, log, &mut [], reply);
         self.session = served.session;
         served.outcome?;
         Ok(&whole_reply(&self.reply)[4..])

@@ -11,9 +11,11 @@ use second::account::Account;
 use second::ledger::{Origin, Prediction};
 use second::message::{whole, Lent};
 
+use crate::date::Dates;
 use crate::failing::{quietly, Folder};
 use crate::faults::{on_failing_disk, on_good_disk, How, Lost, Random};
-use crate::format::SECTOR;
+use crate::format::{used, Date, SECTOR};
+use crate::mark::{self, Mark};
 use crate::reader::{self, Reader};
 use crate::session::{whole_reply, Answers, REPLY, SYNC};
 use crate::status::Failure;
@@ -24,6 +26,7 @@ const ROUNDS: u64 = 400;
 /// How often a log is opened while the disk may fail.
 const LIVES: usize = 4;
 const SECTORS: usize = 96;
+const DATE: Date = *b"20261116";
 const WAITING: usize = MOST_WAITING * SECTOR;
 
 fn hello() -> Vec<u8> {
@@ -50,12 +53,14 @@ fn ask(log: &mut dyn Answers, session: Session, message: &[u8]) -> Result<(u8, V
 
 /// Opens the log and sends messages until a step fails. What was answered, the ledger takes as well.
 fn live(path: &Path, messages: &[Vec<u8>], account: &mut Account) -> Result<(), Failure> {
-    let mut writer = quietly(|streams| Writer::open(path, false, streams))?;
+    let writer = quietly(|streams| Writer::open(path, false, streams))?;
+    let mut writer = writer.dated(Dates::Fixed(DATE));
     let greeted = Origin::After(account.ledger.sessions().len());
-    account.request(Origin::Fresh, &hello(), REPLY);
+    account.request(Origin::Fresh, &hello(), Some(&DATE), REPLY);
     for message in messages {
         let answer = ask(&mut writer, Session::Greeted, message)?;
-        let Prediction { number, reply, .. } = account.request(greeted, message, REPLY);
+        let Prediction { number, reply, .. } =
+            account.request(greeted, message, Some(&DATE), REPLY);
         assert_eq!(answer, (number, reply));
     }
     Ok(())
@@ -74,7 +79,7 @@ fn check(path: &Path, blocks: &[Vec<u8>], account: &Account) -> (usize, bool) {
     let mut ledger = account.ledger.clone();
     let greeted = Origin::After(ledger.sessions().len());
     let mut predict = |origin, message: &[u8]| -> Prediction {
-        ledger.request(origin, message, REPLY, account.lent())
+        ledger.request(origin, message, Some(&DATE), REPLY, account.lent())
     };
     predict(Origin::Fresh, &hello());
     let mut reader = quietly(|streams| Reader::open(path, streams)).unwrap();
@@ -87,6 +92,22 @@ fn check(path: &Path, blocks: &[Vec<u8>], account: &Account) -> (usize, bool) {
     }
     let held = numbers.iter().filter(|number| **number == 0).count();
     (held, numbers.contains(&12))
+}
+
+/// A log that was begun before blocks had dates: these blocks, of the first edition.
+fn begin_undated(path: &Path, blocks: &[Vec<u8>], account: &mut Account) {
+    account.request(Origin::Fresh, &hello(), None, REPLY);
+    let writes = blocks.iter().map(|block| write(block));
+    for message in writes.chain([SYNC.to_vec()]) {
+        let answer = account.request(Origin::After(0), &message, None, REPLY);
+        assert_eq!(answer.number, 0);
+    }
+    fs::write(path, account.log()).unwrap();
+    let marked = Mark {
+        sectors: SECTORS,
+        used: used(account.log()),
+    };
+    fs::write(mark::path_of(path), marked.text()).unwrap();
 }
 
 /// Some groups of some blocks, with a sync after each.
@@ -104,7 +125,7 @@ fn messages(blocks: &[Vec<u8>], random: &mut Random) -> Vec<Vec<u8>> {
 #[test]
 fn torn_writes() {
     let rounds = env::var("TORN_ROUNDS").map_or(ROUNDS, |rounds| rounds.parse().unwrap());
-    let blocks = [1, 300, 403, 404, 900, 1209, 2000].map(|length| vec![length as u8 | 1; length]);
+    let blocks = [1, 300, 389, 390, 900, 1167, 2000].map(|length| vec![length as u8 | 1; length]);
     let (mut stops, mut doubts) = (0, 0);
     for seed in 0..rounds {
         let mut random = Random(seed);
@@ -116,6 +137,10 @@ fn torn_writes() {
             log: SECTORS * SECTOR,
             waiting: Some(WAITING),
         });
+        if random.below(2) == 0 {
+            let count = random.below(blocks.len());
+            begin_undated(&path, &blocks[..count], &mut account);
+        }
         for _ in 0..LIVES {
             let messages = messages(&blocks, &mut random);
             let how = [How::Before, How::Half, How::After, How::Forgets][random.below(4)];

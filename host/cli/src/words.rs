@@ -138,6 +138,11 @@ const REFUSALS: [Words; Refusal::ALL.len()] = [
         "Ask with --allowance 1000000 or less.",
     ),
     words(
+        "no date",
+        "a date is eight decimal digits",
+        "This is a mistake in the program; please report it.",
+    ),
+    words(
         "not a card",
         "a card is at most 4,096 bytes of lines NAME=present or NAME=absent, each name once, in rising order",
         "Write the card again, one name to a line, and store it.",

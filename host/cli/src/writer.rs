@@ -9,9 +9,10 @@ use std::time::Duration;
 
 use boundary::{Refusal, Session, MOST_WAITING};
 
+use crate::date::Dates;
 use crate::disk;
 use crate::escape;
-use crate::format::{used, BLANK, MOST_DATA, PAYLOAD, SECTOR};
+use crate::format::{used, BLANK, MOST_PARTS, SECTOR};
 use crate::held;
 use crate::lock;
 use crate::log_file::{fits, is_file, load};
@@ -36,11 +37,13 @@ pub struct Writer {
     /// The waiting part, and how many of its sectors are used.
     waiting: Vec<u8>,
     waits: usize,
+    /// The dates of the blocks that are stored.
+    dates: Dates,
 }
 
 /// The sectors that are lent behind the used part, where the file has so many: a waiting part that is
 /// full, and the longest block. So a write that finds no room finds none in the file.
-const ROOM: usize = MOST_WAITING + MOST_DATA.div_ceil(PAYLOAD);
+const ROOM: usize = MOST_WAITING + MOST_PARTS;
 
 impl Writer {
     /// Opens a log that fits its mark. With `adopt`, a log without a good mark gets one.
@@ -80,12 +83,18 @@ impl Writer {
             bytes: Vec::new(),
             waiting: vec![0; MOST_WAITING * SECTOR],
             waits: 0,
+            dates: Dates::Today,
         };
         log.begin(loaded)?;
         if mark.is_none() {
             streams.tell(&log.adopted());
         }
         Ok(log)
+    }
+
+    /// The same log, whose new blocks get these dates.
+    pub fn dated(self, dates: Dates) -> Writer {
+        Writer { dates, ..self }
     }
 
     /// Has on disk what was read, and a mark that says so, before anything is answered.
@@ -131,7 +140,7 @@ impl Writer {
 
     /// Whether any block has room in the waiting part.
     pub fn takes_any(&self) -> bool {
-        self.waits + MOST_DATA.div_ceil(PAYLOAD) <= MOST_WAITING
+        self.waits + MOST_PARTS <= MOST_WAITING
     }
 
     /// The whole log's bytes, as they were read and written since.
@@ -153,8 +162,9 @@ impl Writer {
         message: &[u8],
         reply: &mut [u8],
     ) -> Result<boundary::Served, Failure> {
+        let date = self.dates.now()?;
         let (log, waiting) = (&mut self.bytes, &mut self.waiting);
-        let served = boundary::serve(session, message, log, waiting, reply);
+        let served = boundary::serve(session, message, &date, log, waiting, reply);
         self.waits = used(&self.waiting);
         self.keep()?;
         Ok(served)
@@ -315,6 +325,7 @@ mod tests {
     use super::*;
     use crate::failing::{quietly, Folder};
     use crate::faults::on_good_disk;
+    use crate::format::{MOST_DATA, PAYLOAD};
     use crate::session::Client;
 
     /// A long log is lent up to the room for what comes, and on as it is filled, to its last sector.
@@ -325,19 +336,19 @@ mod tests {
             assert_eq!(folder.run("init", &["--sectors", "2000"]), 0);
             quietly(|streams| {
                 let mut log = Writer::open(&folder.log(), false, streams).unwrap();
-                assert_eq!(log.bytes.len(), 399 * SECTOR);
+                assert_eq!(log.bytes.len(), 404 * SECTOR);
                 assert!(log.bytes.capacity() < 500 * SECTOR);
                 let mut client = Client::greet_on_disk(&mut log, streams).unwrap();
                 for block in 0..13 {
                     let block = vec![block; MOST_DATA];
                     let stored = client.store(&mut log, 13, &block, streams).unwrap();
                     assert!(stored.is_ok());
-                    assert_eq!(log.bytes.len(), 2000.min(log.used + 399) * SECTOR);
+                    assert_eq!(log.bytes.len(), 2000.min(log.used + 404) * SECTOR);
                 }
                 let full = client.store(&mut log, 13, &[13; MOST_DATA], streams);
                 assert_eq!(full.unwrap(), Err(Refusal::NoRoom));
-                assert_eq!(log.sectors(), (2000, 13 * 143));
-                let rest = vec![14; (2000 - 13 * 143) * PAYLOAD];
+                assert_eq!(log.sectors(), (2000, 13 * 148));
+                let rest = vec![14; (2000 - 13 * 148) * PAYLOAD];
                 assert!(client.store(&mut log, 13, &rest, streams).unwrap().is_ok());
                 log.settle().unwrap();
                 assert_eq!(log.sectors(), (2000, 2000));

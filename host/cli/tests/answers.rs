@@ -37,7 +37,7 @@ fn storing_again_heals() {
     ];
     for (name, damage) in kinds {
         let place = Place::with_log(12);
-        let blocks = [block(1, 400), block(2, 900), block(3, 10)];
+        let blocks = [block(1, 380), block(2, 900), block(3, 10)];
         let scores = [0, 1, 2].map(|i| place.put(&blocks[i]));
         place.damage(|log| damage(&mut log[2 * SECTOR..3 * SECTOR]));
         place.not_known(&scores[1]);
@@ -211,7 +211,7 @@ fn long_blocks() {
         let put = place.feed(&["put", "log"], &block(8, length));
         put.fails(10, "standard input: block too long (10)");
     }
-    assert_eq!(place.file("log.mark"), mark(300, 143).as_bytes());
+    assert_eq!(place.file("log.mark"), mark(300, 148).as_bytes());
 }
 
 /// Files that are refused or missing are told; all others are stored.

@@ -62,9 +62,9 @@ fn a_map_of_any_width() {
 fn a_map_of_a_larger_log() {
     let place = Place::with_log(1000);
     for seed in 0..10 {
-        place.put(&block(seed, 40_000));
+        place.put(&block(seed, 38_900));
     }
-    let used = 10 * 40_000_usize.div_ceil(403);
+    let used = 10 * 38_900_usize.div_ceil(PAYLOAD);
     place.damage(|log| log[500 * SECTOR] ^= 1);
     let answer = place.run(&["report", "log", "--map", "--width", "10"]);
     let text = answer.with(32).text();
@@ -191,21 +191,21 @@ fn a_list() {
     let scores = [0, 2].map(|seed| score(&block(seed, [500, 1000, 50][seed])));
     let answer = place.run(&["list", "log"]).with(32);
     let lines = [
-        format!("       0  data        500  {}\n", scores[0]),
+        format!("       0  data        500  20261116  {}\n", scores[0]),
         "       2  doubtful      3  sectors, from byte 1024 on\n".to_string(),
-        format!("       5  data         50  {}\n", scores[1]),
+        format!("       5  data         50  20261116  {}\n", scores[1]),
     ];
     assert_eq!(answer.text() + "\n", lines.concat());
     assert_eq!(answer.err, "");
     let answer = place.run(&["list", "log", "--json"]).with(32);
     let lines = [
         format!(
-            r#"{{"sector":0,"type":"data","size":500,"score":"{}"}}"#,
+            r#"{{"sector":0,"type":"data","size":500,"date":"20261116","score":"{}"}}"#,
             scores[0]
         ),
         r#"{"sector":2,"count":3,"byte":1024}"#.to_string(),
         format!(
-            r#"{{"sector":5,"type":"data","size":50,"score":"{}"}}"#,
+            r#"{{"sector":5,"type":"data","size":50,"date":"20261116","score":"{}"}}"#,
             scores[1]
         ),
     ];

@@ -52,7 +52,7 @@ fn a_sync_means_that_it_is_stored() {
     let mut server = place.serve();
     assert_eq!(server.ask(&HELLO), HELLO_REPLY);
     let mut end = 0;
-    for (tag, length) in [1, 403, 404, 5000].into_iter().enumerate() {
+    for (tag, length) in [1, 389, 390, 5000].into_iter().enumerate() {
         let before = place.file("log");
         let pair = [block(tag, length), block(tag + 10, length)];
         for data in &pair {
@@ -65,7 +65,7 @@ fn a_sync_means_that_it_is_stored() {
         assert_eq!(place.file("log.mark"), mark(64, end).as_bytes());
         place.not_held(&score(&pair[0]));
         server.sync();
-        end += 2 * length.div_ceil(403);
+        end += 2 * length.div_ceil(PAYLOAD);
         assert_eq!(place.file("log.mark"), mark(64, end).as_bytes());
         for data in &pair {
             place.reads(&score(data), data);
@@ -142,17 +142,17 @@ fn a_waiting_part_that_is_full() {
     let sectors = 1500;
     let place = Place::with_log(sectors);
     let mut server = place.greeted(&[]);
-    let lengths = [57_344, 1, 20_000, 403, 404, 57_344, 50_000];
+    let lengths = [57_344, 1, 20_000, 389, 390, 57_344, 50_000];
     let (mut used, mut stored) = (0, Vec::new());
     for (seed, length) in lengths.into_iter().cycle().enumerate() {
-        let data = block(seed, length.min((sectors - used) * 403));
+        let data = block(seed, length.min((sectors - used) * PAYLOAD));
         assert_eq!(server.ask(&write_message(1, &data)), write_reply(1, &data));
-        used += data.len().div_ceil(403);
+        used += data.len().div_ceil(PAYLOAD);
         stored.push(data);
         if used == sectors {
             break;
         }
-        let long = block(9000 + seed, (sectors - used) * 403 + 1);
+        let long = block(9000 + seed, (sectors - used) * PAYLOAD + 1);
         if long.len() <= 57_344 {
             let reply = server.ask(&write_message(2, &long));
             assert_eq!(reply, error_reply(2, 14));
@@ -350,7 +350,7 @@ fn damage_found_while_a_block_waits() {
 #[test]
 fn what_was_damaged_meanwhile_and_has_no_room() {
     let (place, mut server, blocks) = running();
-    let rest = block(9, 6 * 403);
+    let rest = block(9, 6 * PAYLOAD);
     server.store(1, &rest);
     place.damage(|log| log[SECTOR] ^= 1);
     assert_eq!(

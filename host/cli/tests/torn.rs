@@ -106,7 +106,7 @@ impl History {
         // Who was killed does not listen.
         let _ = server.input.as_mut().expect("open").write_all(message);
         let reply = server.reply()?;
-        let right = self.account.request(origin, message, REPLY);
+        let right = self.account.request(origin, message, Some(&DATE), REPLY);
         assert_eq!((reply, 0), (right.reply, right.number));
         Some(())
     }
@@ -116,7 +116,7 @@ impl History {
         let mut ledger = self.account.ledger.clone();
         let greeted = Origin::After(ledger.sessions().len());
         let mut predict = |origin, message: &[u8]| -> Prediction {
-            ledger.request(origin, message, REPLY, self.account.lent())
+            ledger.request(origin, message, Some(&DATE), REPLY, self.account.lent())
         };
         predict(Origin::Fresh, &HELLO);
         let mut server = self.place.greeted(&["--read-only"]);

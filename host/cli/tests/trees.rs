@@ -83,7 +83,7 @@ fn a_file_with_a_lost_pointer_block() {
         let place = Place::with_log(40);
         let (entry, _) = file(&place);
         let log = place.file("log");
-        let label = String::from_utf8_lossy(&log[sector * SECTOR..][..96]).into_owned();
+        let label = String::from_utf8_lossy(&log[sector * SECTOR..][..110]).into_owned();
         let lost = label.lines().last().unwrap().replace("score=", "");
         place.damage(|log| log[sector * SECTOR + 90] ^= 1);
         let answer = place.run(&["read", "log", &hex(&entry)]).with(12);

@@ -14,6 +14,7 @@ pub trait Archive {
         &mut self,
         session: Session,
         message: &[u8],
+        date: &[u8],
         log: &mut [u8],
         waiting: &mut [u8],
         reply: &mut [u8],
@@ -94,11 +95,12 @@ impl Archive for Second {
         &mut self,
         session: Session,
         message: &[u8],
+        date: &[u8],
         log: &mut [u8],
         waiting: &mut [u8],
         reply: &mut [u8],
     ) -> (u8, Session) {
-        second::request::serve(session, message, log, Some(waiting), reply)
+        second::request::serve(session, message, Some(date), log, Some(waiting), reply)
     }
 
     fn report(&mut self, log: &[u8], buffer: &mut [u8]) -> Result<usize, u8> {

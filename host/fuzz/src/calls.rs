@@ -7,7 +7,8 @@ use second::sha1::ZERO_SCORE;
 use second::Session;
 
 use crate::archive::Archive;
-use crate::compare::{buffer, hex, number, Compare, Parts, Trace};
+use crate::compare::{buffer, hex, number, Asked, Compare, Parts, Trace};
+use crate::dates;
 use crate::messages::Pool;
 use crate::random::Random;
 
@@ -133,8 +134,14 @@ pub fn limits(
         let sync = whole(16, 0, &[]);
         for message in [pool.write(random), pool.read(random), sync] {
             trace.note(|| format!("message of {}: {}", message.len(), hex(&message)));
+            let asked = Asked {
+                session: Session::Ready,
+                message: &message,
+                date: &dates::lent(random),
+                reply_len: LEAST_REPLY,
+            };
             let lent = (&mut tested, &mut second);
-            compare.request(archive, Session::Ready, &message, LEAST_REPLY, lent, None)?;
+            compare.request(archive, asked, lent, None)?;
         }
         let Parts { log, waiting } = &tested;
         let mut text = ([0; 128], [0; 128]);

@@ -2,11 +2,12 @@
 
 use second::log::write;
 use second::query::{Choice, List, Term};
-use second::sector::{sectors_for, SECTOR};
+use second::sector::SECTOR;
 use second::sha1::{sha1, Score};
 
 use crate::archive::Archive;
 use crate::compare::{hex, number, Compare, Parts, Trace};
+use crate::dates;
 use crate::random::Random;
 use crate::shape::Shape;
 
@@ -85,10 +86,11 @@ struct Shelf {
 impl Shelf {
     /// Stores a block, unless it is one of the holes, and gives its score.
     fn store(&mut self, random: &mut Random, kind: u8, data: &[u8]) -> Score {
-        let sectors = sectors_for(data.len());
+        let edition = dates::edition(random);
+        let sectors = edition.sectors_for(data.len());
         let room = self.used + sectors <= self.log.len() / SECTOR;
         if room && !random.percent(3) {
-            write(&mut self.log, self.used, kind, data);
+            write(&mut self.log, self.used, edition, kind, data);
             self.used += sectors;
         }
         sha1(data)
@@ -96,7 +98,7 @@ impl Shelf {
 
     /// An entry for a file of these bytes.
     fn file(&mut self, random: &mut Random, bytes: &[u8]) -> Vec<u8> {
-        let dsize = random.pick(&[7, 40, 403, 404, 1000, 4096, 57_344]);
+        let dsize = random.pick(&[7, 40, 389, 390, 403, 404, 1000, 4096, 57_344]);
         let dsize = dsize.max(bytes.len().div_ceil(20)).max(1);
         let mut scores: Vec<Score> = Vec::new();
         for leaf in bytes.chunks(dsize) {

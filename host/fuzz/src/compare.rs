@@ -23,6 +23,15 @@ impl Trace {
     }
 }
 
+/// What is asked in one request, besides the log and its waiting part.
+#[derive(Clone, Copy)]
+pub struct Asked<'a> {
+    pub session: Session,
+    pub message: &'a [u8],
+    pub date: &'a [u8],
+    pub reply_len: usize,
+}
+
 /// A log and its waiting part.
 #[derive(Clone, Debug, PartialEq, Eq)]
 pub struct Parts {
@@ -55,21 +64,25 @@ impl Compare {
         }
     }
 
-    /// One request, with a reply buffer of this length. `lent` are the parts of the archive under test
-    /// and those of the second program.
+    /// One request. `lent` are the parts of the archive under test and those of the second program.
     pub fn request(
         &mut self,
         archive: &mut dyn Archive,
-        session: Session,
-        message: &[u8],
-        reply_len: usize,
+        asked: Asked,
         lent: (&mut Parts, &mut Parts),
         expected: Option<&Prediction>,
     ) -> Result<Session, String> {
+        let Asked {
+            session,
+            message,
+            date,
+            reply_len,
+        } = asked;
         let (tested, right) = lent;
         let (number, after) = archive.serve(
             session,
             message,
+            date,
             &mut tested.log,
             &mut tested.waiting,
             &mut self.tested[..reply_len],
@@ -77,6 +90,7 @@ impl Compare {
         let second = second::request::serve(
             session,
             message,
+            Some(date),
             &mut right.log,
             Some(&mut right.waiting),
             &mut self.second[..reply_len],
@@ -118,17 +132,19 @@ impl Compare {
         result
     }
 
-    /// A request of the base, with no waiting part: the second program against the ledger alone.
-    pub fn base_request(
+    /// A request of the earlier program, with no waiting part or no date: the second program against
+    /// the ledger alone.
+    pub fn earlier_request(
         &mut self,
         session: Session,
         message: &[u8],
+        date: Option<&[u8]>,
         reply_len: usize,
-        log: &mut [u8],
+        (log, waiting): (&mut [u8], Option<&mut [u8]>),
         expected: &Prediction,
     ) -> Result<Session, String> {
         let reply = &mut self.second[..reply_len];
-        let second = second::request::serve(session, message, log, None, reply);
+        let second = second::request::serve(session, message, date, log, waiting, reply);
         self.requests[usize::from(second.0)] += 1;
         let written = self.written();
         let result = against_ledger(expected, second, &self.second[..written]);

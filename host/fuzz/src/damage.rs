@@ -93,7 +93,7 @@ fn undo_lost(account: &Account, before: &[u8], log: &mut [u8]) {
 fn within_four(random: &mut Random, sector: &mut [u8]) {
     let start = match random.below(4) {
         0 => random.between(CHECK - 4, SECTOR - 4),
-        1 => random.below(96),
+        1 => random.below(110),
         _ => random.below(SECTOR - 3),
     };
     let count = random.between(1, 4);

@@ -4,7 +4,7 @@ use second::message::whole;
 use second::sector::SECTOR;
 use second::sha1::{sha1, ZERO_SCORE};
 use second::tree::{Place, Run};
-use second::{Refusal, Session};
+use second::{Edition, Refusal, Session};
 
 use crate::archive::{Archive, Second};
 use crate::under_test;
@@ -12,6 +12,10 @@ use crate::under_test;
 const HELLO: [u8; 13] = [0, 0x0b, 4, 0, 0, 2, 0x30, 0x32, 0, 0, 0, 0, 0];
 
 pub const SYNC: [u8; 4] = [0, 2, 16, 9];
+
+/// The date of the examples, and the edition of their blocks.
+pub const DATE: &[u8] = b"20261116";
+pub const DATED: Edition = Edition::Second(*b"20261116");
 
 /// Tries an example on both programs.
 pub fn on_both(example: fn(&mut dyn Archive)) {
@@ -27,7 +31,7 @@ pub fn ask_waiting(
     message: &[u8],
 ) -> (u8, Vec<u8>) {
     let mut reply = vec![0xaa; 57_348];
-    let (number, session) = archive.serve(Session::Ready, message, log, waiting, &mut reply);
+    let (number, session) = archive.serve(Session::Ready, message, DATE, log, waiting, &mut reply);
     assert_eq!(session, Session::Ready);
     let size = usize::from(reply[0]) * 256 + usize::from(reply[1]) + 2;
     assert!(reply[size..].iter().all(|&byte| byte == 0xaa));
@@ -63,7 +67,8 @@ fn read(kind: u8, data: &[u8], count: u16) -> Vec<u8> {
 fn ping_after_hello() {
     on_both(|archive| {
         let mut reply = vec![0; 57_348];
-        let (number, session) = archive.serve(Session::Fresh, &HELLO, &mut [], &mut [], &mut reply);
+        let (number, session) =
+            archive.serve(Session::Fresh, &HELLO, DATE, &mut [], &mut [], &mut reply);
         assert_eq!((number, session), (0, Session::Ready));
         assert_eq!(reply[..8], [0, 6, 5, 0, 0, 0, 0, 0]);
         assert_eq!(ask(archive, &mut [], &[0, 2, 2, 7]), (0, vec![0, 2, 3, 7]));
@@ -98,8 +103,10 @@ fn reads_and_writes_byte_by_byte() {
         let mut log = vec![0; SECTOR];
         let answer = serve(&mut log, "00090e010d000000616263");
         assert_eq!(answer, (0, format!("00160f01{ABC}")));
-        let label = format!("rec=00000000\npart=0000\nof=0001\ntype=0d\nsize=0003\nscore={ABC}\n");
-        let sector = [label.as_bytes(), b"abc", &[0; 400], b"crc=567f5e05\n"].concat();
+        let label = format!(
+            "date=20261116\nrec=00000000\npart=0000\nof=0001\ntype=0d\nsize=0003\nscore={ABC}\n"
+        );
+        let sector = [label.as_bytes(), b"abc", &[0; 386], b"crc=45e75732\n"].concat();
         assert_eq!(log, sector);
         let answer = serve(&mut [], "00060e070d000000");
         assert_eq!(answer, (0, format!("00160f07{ZERO}")));
@@ -155,7 +162,7 @@ fn refusal_12() {
 #[test]
 fn sectors_of_blocks() {
     on_both(|archive| {
-        for (size, sectors) in [(403, 1), (404, 2), (57_344, 143)] {
+        for (size, sectors) in [(389, 1), (390, 2), (57_344, 148)] {
             let data = vec![7; size];
             let mut log = vec![0; (sectors - 1) * SECTOR];
             assert_eq!(ask(archive, &mut log, &write(13, &data)).0, 14);
@@ -165,12 +172,12 @@ fn sectors_of_blocks() {
             assert_eq!(archive.sound_at(&log, sectors), Ok(0));
             let last = &log[(sectors - 1) * SECTOR..];
             let of = format!("part={:04x}\nof={sectors:04x}\n", sectors - 1);
-            assert_eq!(last[13..13 + of.len()], *of.as_bytes());
-            let payload = size - (sectors - 1) * 403;
-            assert!(last[96..96 + payload].iter().all(|&byte| byte == 7));
-            assert!(last[96 + payload..499].iter().all(|&byte| byte == 0));
+            assert_eq!(last[27..27 + of.len()], *of.as_bytes());
+            let payload = size - (sectors - 1) * 389;
+            assert!(last[110..110 + payload].iter().all(|&byte| byte == 7));
+            assert!(last[110 + payload..499].iter().all(|&byte| byte == 0));
         }
-        let mut log = vec![0; 144 * SECTOR];
+        let mut log = vec![0; 149 * SECTOR];
         assert_eq!(ask(archive, &mut log, &write(13, &[7; 57_345])).0, 10);
         assert!(log.iter().all(|&byte| byte == 0));
     });
@@ -249,8 +256,8 @@ fn second_then_second() {
         let file = entry(9, 9216, &sha1(&high));
         let run = Run {
             place: Place::Log,
-            start: 96,
-            len: 403,
+            start: 110,
+            len: 389,
         };
         let page = [0; 10];
         assert_eq!(archive.locate(&log, &[], &page, &file, 4096), Ok(run));
@@ -273,7 +280,14 @@ fn pads_of_messages() {
                 message[at] = byte;
                 let error = [0, 10, 1, 9, 0, 6, b'w', b'h', b'y', b'=', b'0', b'6'];
                 assert_eq!(ask(archive, &mut log, &message), (6, error.to_vec()));
-                let answer = archive.serve(Session::Fresh, &message, &mut log, &mut [], &mut reply);
+                let answer = archive.serve(
+                    Session::Fresh,
+                    &message,
+                    DATE,
+                    &mut log,
+                    &mut [],
+                    &mut reply,
+                );
                 assert_eq!(answer, (6, Session::Fresh));
                 let kind = if message[2] == 12 { 24 } else { 4 };
                 message[kind] = 0;
@@ -371,8 +385,10 @@ fn runs_of_a_file() {
         let run = |place, start, len| Ok(Run { place, start, len });
         let page = [0; 300];
         for (offset, expected) in [
-            (0, run(Place::Log, 96, 403)),
-            (499, run(Place::Log, 704, 1)),
+            (0, run(Place::Log, 110, 389)),
+            (388, run(Place::Log, 498, 1)),
+            (389, run(Place::Log, 512 + 110, 111)),
+            (499, run(Place::Log, 512 + 220, 1)),
             (500, run(Place::Page, 0, 300)),
             (900, run(Place::Page, 0, 100)),
             (1000, no(17)),
@@ -404,7 +420,7 @@ fn a_file_into_a_buffer() {
             (ended, buffer)
         };
         let leaf = [&data[..], &[0; 524]].concat();
-        for (offset, size) in [(0, 1000), (0, 1001), (399, 7), (499, 2), (999, 9), (3, 0)] {
+        for (offset, size) in [(0, 1000), (0, 1001), (385, 7), (499, 2), (999, 9), (3, 0)] {
             let right = &leaf[offset..(offset + size).min(1000)];
             let filled = fill(archive, &log, &file, offset as u64, size);
             assert_eq!(filled, (Ok(()), right.to_vec()));
@@ -430,7 +446,9 @@ fn sizes_of_logs() {
         let mut reply = vec![0; 57_348];
         let mut log = vec![0; 1_048_577 * SECTOR];
         let greet = |archive: &mut dyn Archive, log: &mut [u8], reply: &mut [u8]| {
-            archive.serve(Session::Fresh, &HELLO, log, &mut [], reply).0
+            archive
+                .serve(Session::Fresh, &HELLO, DATE, log, &mut [], reply)
+                .0
         };
         assert_eq!(greet(archive, &mut log, &mut reply), 3);
         assert_eq!(archive.walk(&log, &[], &ZERO_SCORE, 9), (no(3), 0));

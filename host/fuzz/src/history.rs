@@ -9,9 +9,10 @@ use second::sector::SECTOR;
 use second::Session;
 
 use crate::archive::Archive;
-use crate::compare::{buffer, hex, Compare, Parts, Trace, LONGEST_REPLY};
+use crate::compare::{buffer, hex, Asked, Compare, Parts, Trace, LONGEST_REPLY};
 use crate::crash::crashed;
 use crate::damage::{damaged, describe};
+use crate::dates;
 use crate::messages::{hello, Pool};
 use crate::random::Random;
 use crate::sham_ledger;
@@ -29,6 +30,8 @@ struct History<'a> {
     /// none is lent.
     tested: Parts,
     second: Parts,
+    /// How many of the next requests are the earlier program's, without a date.
+    undated: usize,
 }
 
 pub fn run(
@@ -59,6 +62,10 @@ pub fn run(
         account: Account::new(lent),
         tested: blank.clone(),
         second: blank,
+        undated: match random.below(3) {
+            0 => random.between(1, 14),
+            _ => 0,
+        },
     };
     for _ in 0..random.between(10, 36) {
         match random.below(100) {
@@ -90,6 +97,15 @@ impl History<'_> {
         (origin, message)
     }
 
+    /// The date of the next request, none while they are the earlier program's.
+    fn date(&mut self, random: &mut Random) -> Option<Vec<u8>> {
+        if self.undated > 0 {
+            self.undated -= 1;
+            return None;
+        }
+        Some(dates::lent(random))
+    }
+
     fn request(
         &mut self,
         random: &mut Random,
@@ -99,37 +115,48 @@ impl History<'_> {
     ) -> Result<(), String> {
         let session = self.account.ledger.session(origin);
         let reply_len = reply_len(random);
+        let date = self.date(random);
         trace.note(|| {
             format!(
-                "{origin:?} ({session:?}), reply buffer {reply_len}, message of {}: {}",
+                "{origin:?} ({session:?}), {}, reply buffer {reply_len}, message of {}: {}",
+                shown(&date),
                 message.len(),
                 hex(message)
             )
         });
-        let expected = self.account.request(origin, message, reply_len);
+        let told = sham_ledger::date(self.archive.broken(), date.as_deref());
+        let expected = self.account.request(origin, message, told, reply_len);
         if let (Effect::Adds, Some(row)) = (expected.effect, self.account.ledger.rows().last()) {
             let stored = (row.kind, row.data.clone(), row.score);
             self.pool.stored.push(stored);
         }
-        let Some(waiting) = self.account.waiting() else {
-            let log = &mut self.second.log;
-            self.compare
-                .base_request(session, message, reply_len, log, &expected)?;
-            self.tested.log.copy_from_slice(&self.second.log);
-            let right = self.account.log();
-            return buffer("the log against the ledger's", &self.second.log, right);
+        match (&date, self.account.waiting().is_some()) {
+            (Some(date), true) => {
+                let asked = Asked {
+                    session,
+                    message,
+                    date,
+                    reply_len,
+                };
+                let lent = (&mut self.tested, &mut self.second);
+                self.compare
+                    .request(self.archive, asked, lent, Some(&expected))?
+            }
+            (_, waits) => {
+                let Parts { log, waiting } = &mut self.second;
+                let lent = (&mut log[..], waits.then_some(&mut waiting[..]));
+                let date = date.as_deref();
+                let after = self
+                    .compare
+                    .earlier_request(session, message, date, reply_len, lent, &expected)?;
+                self.tested = self.second.clone();
+                after
+            }
         };
-        self.compare.request(
-            self.archive,
-            session,
-            message,
-            reply_len,
-            (&mut self.tested, &mut self.second),
-            Some(&expected),
-        )?;
         let log = self.account.log();
         buffer("the log against the ledger's", &self.tested.log, log)?;
         let what = "the waiting part against the ledger's";
+        let waiting = self.account.waiting().unwrap_or(&[]);
         buffer(what, &self.tested.waiting, waiting)
     }
 
@@ -191,8 +218,13 @@ impl History<'_> {
     fn crash(&mut self, random: &mut Random, trace: &mut Trace) {
         if self.account.waiting().is_none() || random.percent(40) {
             let (origin, message) = self.message(random);
-            trace.note(|| format!("{origin:?}, never answered: {}", hex(&message)));
-            self.account.begin(origin, &message, LEAST_REPLY);
+            let date = self.date(random);
+            trace.note(|| {
+                let date = shown(&date);
+                format!("{origin:?}, {date}, never answered: {}", hex(&message))
+            });
+            self.account
+                .begin(origin, &message, date.as_deref(), LEAST_REPLY);
         }
         let mut left = crashed(random, &self.account);
         let waiting = waiting_len(random, self.account.log().len() >= LARGE_LOG * SECTOR);
@@ -206,6 +238,14 @@ impl History<'_> {
         self.account
             .crash(&left.log, &left.whole, &left.torn, waiting);
         self.lend_anew();
+    }
+}
+
+/// A date as it stands in a trace.
+fn shown(date: &Option<Vec<u8>>) -> String {
+    match date {
+        None => "undated".to_string(),
+        Some(date) => format!("date \"{}\"", date.escape_ascii()),
     }
 }
 

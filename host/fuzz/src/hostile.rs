@@ -4,11 +4,12 @@
 use second::kind::KINDS;
 use second::log::MOST_WAITING;
 use second::message::{whole, LEAST_REPLY};
-use second::sector::{check, encode, sectors_for, Label, CHECK, PAYLOAD, SECTOR};
-use second::Session;
+use second::sector::{check, encode, Label, CHECK, SECTOR};
+use second::{Edition, Session};
 
 use crate::archive::Archive;
-use crate::compare::{buffer, hex, number, Compare, Parts, Trace};
+use crate::compare::{buffer, hex, number, Asked, Compare, Parts, Trace};
+use crate::dates;
 use crate::messages::Pool;
 use crate::random::Random;
 
@@ -30,14 +31,14 @@ pub fn run(
             _ => pool.message(random),
         };
         trace.note(|| format!("message of {}: {}", message.len(), hex(&message)));
-        compare.request(
-            archive,
-            Session::Ready,
-            &message,
-            LEAST_REPLY,
-            (&mut tested, &mut second),
-            None,
-        )?;
+        let asked = Asked {
+            session: Session::Ready,
+            message: &message,
+            date: &dates::lent(random),
+            reply_len: LEAST_REPLY,
+        };
+        let lent = (&mut tested, &mut second);
+        compare.request(archive, asked, lent, None)?;
     }
     for _ in 0..2 {
         let entry = leaf_entry(random, &pool);
@@ -136,16 +137,17 @@ fn sectors_laid(random: &mut Random, pool: &mut Pool, trace: &mut Trace) -> Vec<
     while at < used {
         let (data, score) = pool.blocks[random.below(pool.blocks.len())].clone();
         let kind = random.pick(&pool.kinds);
+        let edition = dates::edition(random);
         pool.stored.push((kind, data.clone(), score));
         let choice = random.below(12);
         trace.note(|| format!("sector {at}: piece {choice}, {} bytes", data.len()));
         let piece = match choice {
-            0..=3 => honest(at, kind, &data),
-            4..=8 => lying(random, pool, at, kind, &data),
+            0..=3 => honest(at, edition, kind, &data),
+            4..=8 => lying(random, pool, at, edition, kind, &data),
             9 => vec![[0; SECTOR]],
             10 => vec![garbage(random)],
             _ => {
-                let mut piece = honest(at, kind, &data);
+                let mut piece = honest(at, edition, kind, &data);
                 piece[0].rotate_right(random.between(1, SECTOR - 1));
                 piece
             }
@@ -178,16 +180,17 @@ fn refit(sector: &mut [u8; SECTOR]) {
 }
 
 /// The labels and payloads of a block.
-fn parts(at: usize, kind: u8, data: &[u8]) -> Vec<(Label, Vec<u8>)> {
+fn parts(at: usize, edition: Edition, kind: u8, data: &[u8]) -> Vec<(Label, Vec<u8>)> {
     let head = Label {
+        edition,
         rec: at as u32,
         part: 0,
-        of: sectors_for(data.len()) as u16,
+        of: edition.sectors_for(data.len()) as u16,
         kind,
         size: data.len() as u16,
         score: second::sha1::sha1(data),
     };
-    data.chunks(PAYLOAD)
+    data.chunks(edition.payload())
         .enumerate()
         .map(|(part, payload)| {
             let part = part as u16;
@@ -203,16 +206,26 @@ fn sectors(parts: &[(Label, Vec<u8>)]) -> Vec<[u8; SECTOR]> {
         .collect()
 }
 
-fn honest(at: usize, kind: u8, data: &[u8]) -> Vec<[u8; SECTOR]> {
-    sectors(&parts(at, kind, data))
+fn honest(at: usize, edition: Edition, kind: u8, data: &[u8]) -> Vec<[u8; SECTOR]> {
+    sectors(&parts(at, edition, kind, data))
 }
 
+/// How many lies there are.
+const LIES: usize = 19;
+
 /// A block with one lie, in one of its sectors or in all.
-fn lying(random: &mut Random, pool: &Pool, at: usize, kind: u8, data: &[u8]) -> Vec<[u8; SECTOR]> {
-    let mut parts = parts(at, kind, data);
+fn lying(
+    random: &mut Random,
+    pool: &Pool,
+    at: usize,
+    edition: Edition,
+    kind: u8,
+    data: &[u8],
+) -> Vec<[u8; SECTOR]> {
+    let mut parts = parts(at, edition, kind, data);
     let one = random.below(parts.len());
     let all = random.percent(60);
-    let lie = random.below(16);
+    let lie = random.below(LIES);
     let step = random.pick(&[1, 0xffff]);
     let other = random.pick(&KINDS);
     let odd = random.pick(&[0, 10, 11, 12, 14, 255]);
@@ -221,7 +234,8 @@ fn lying(random: &mut Random, pool: &Pool, at: usize, kind: u8, data: &[u8]) -> 
         1 => second::sha1::ZERO_SCORE,
         _ => pool.score(random).0,
     };
-    let size = random.pick(&[0, 1, 402, 403, 404, 57_344, 57_345, 65_535]);
+    let size = random.pick(&[0, 1, 389, 390, 403, 404, 57_344, 57_345, 65_535]);
+    let neighbour = dates::other(random, edition);
     if lie == 8 {
         // One sector more than the size needs, or one less.
         if random.percent(50) {
@@ -249,8 +263,16 @@ fn lying(random: &mut Random, pool: &Pool, at: usize, kind: u8, data: &[u8]) -> 
             8 => label.of = count as u16,
             9 => label.score[i % 20] ^= 1,
             10 => {
-                payload.resize(PAYLOAD, 0);
-                payload[PAYLOAD - 1] ^= random.mark();
+                let room = edition.payload();
+                payload.resize(room, 0);
+                payload[room - 1] ^= random.mark();
+            }
+            12 => label.edition = neighbour,
+            13 => {
+                label.edition = match edition {
+                    Edition::First => neighbour,
+                    Edition::Second(_) => Edition::First,
+                }
             }
             11 => {
                 let at = random.below(payload.len().max(1));
@@ -262,22 +284,24 @@ fn lying(random: &mut Random, pool: &Pool, at: usize, kind: u8, data: &[u8]) -> 
     }
     let mut sectors = sectors(&parts);
     for (i, sector) in sectors.iter_mut().enumerate() {
-        if lie < 12 || (!all && i != one) {
+        if lie < 14 || (!all && i != one) {
             continue;
         }
+        let lines = &mut sector[edition.front()..edition.label()];
         match lie {
-            12 => sector[..96].make_ascii_uppercase(),
-            13 => {
+            14 => lines.make_ascii_uppercase(),
+            15 => {
                 // Capital digits, the names as they are.
-                for digit in sector[55..95].iter_mut() {
+                for digit in lines[55..95].iter_mut() {
                     digit.make_ascii_uppercase();
                 }
             }
-            14 => {
+            16 => {
                 let any = random.below(96);
                 let at = random.pick(&[0, 3, 12, 22, 30, 38, 48, 95, any]);
-                sector[at] = random.pick(b" \r\n=0aR");
+                lines[at] = random.pick(b" \r\n=0aR");
             }
+            17 => dates::spoil(random, sector),
             _ => {
                 sector[CHECK..].make_ascii_uppercase();
                 continue;

@@ -2,12 +2,13 @@
 
 use second::log::{write, MOST_WAITING};
 use second::message::{whole, LEAST_REPLY};
-use second::sector::{sectors_for, SECTOR};
+use second::sector::SECTOR;
 use second::sha1::{sha1, Score, ZERO_SCORE};
 use second::Session;
 
 use crate::archive::Archive;
-use crate::compare::{hex, number, Compare, Parts, Trace};
+use crate::compare::{hex, number, Asked, Compare, Parts, Trace};
+use crate::dates;
 use crate::random::Random;
 use crate::shape::Shape;
 
@@ -19,11 +20,13 @@ pub fn run(
     random: &mut Random,
     trace: &mut Trace,
 ) -> Result<(), String> {
-    let mut log = vec![0; 440 * SECTOR];
+    let mut log = vec![0; 450 * SECTOR];
     let mut used = 0;
+    let mut editions = [0; 4].map(|_| dates::edition(random)).into_iter();
     let mut store = |kind: u8, data: &[u8]| -> Score {
-        write(&mut log, used, kind, data);
-        used += sectors_for(data.len());
+        let edition = editions.next().expect("one for each block");
+        write(&mut log, used, edition, kind, data);
+        used += edition.sectors_for(data.len());
         sha1(data)
     };
 
@@ -108,7 +111,13 @@ fn walk_and_read(
     let never = whole(12, 9, &[&random.score()[..], &[13, 0, 0, 9]].concat());
     trace.note(|| format!("message of {}: {}", never.len(), hex(&never)));
     let mut second = lent.clone();
+    let asked = Asked {
+        session: Session::Ready,
+        message: &never,
+        date: &dates::lent(random),
+        reply_len: LEAST_REPLY,
+    };
     let lent = (&mut lent, &mut second);
-    compare.request(archive, Session::Ready, &never, LEAST_REPLY, lent, None)?;
+    compare.request(archive, asked, lent, None)?;
     Ok(())
 }

@@ -12,6 +12,9 @@ mod compare;
 mod crash;
 mod damage;
 #[cfg(test)]
+mod dated;
+mod dates;
+#[cfg(test)]
 mod examples;
 mod history;
 mod hostile;
@@ -21,6 +24,7 @@ mod plain_log;
 mod progress;
 mod random;
 mod sham_cards;
+mod sham_dates;
 mod sham_doubt;
 mod sham_ledger;
 mod sham_texts;
@@ -50,7 +54,7 @@ const HELP: &str = "\
 fuzz [--seed S] [--cases N] [--seconds T] [--case I] [--only PART] [--plain | --sham NAME | --shams]
 
 Compares an archive with the second program and with the ledger: random histories with damage,
-hostile logs, trees, calls and cards. A case that fails is printed step by step, with the words that repeat
+hostile logs, trees, calls and cards, with blocks of both editions. A case that fails is printed step by step, with the words that repeat
 it, and the status is 1.
   --seed S     the random numbers' seed (default 1)
   --cases N    how many cases (default 20000)

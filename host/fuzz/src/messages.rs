@@ -5,6 +5,7 @@ use second::sector::{encode, Label};
 use second::sha1::{sha1, Score, ZERO_SCORE};
 
 use crate::collision;
+use crate::dates;
 use crate::random::Random;
 
 /// The data and block types that a case plays with: few, so that they meet again.
@@ -15,8 +16,9 @@ pub struct Pool {
     pub stored: Vec<(u8, Vec<u8>, Score)>,
 }
 
-const SIZES: [usize; 16] = [
-    1, 2, 11, 20, 40, 402, 403, 404, 500, 805, 806, 807, 1000, 1208, 1209, 1210,
+const SIZES: [usize; 20] = [
+    1, 2, 11, 20, 388, 389, 390, 403, 404, 500, 777, 778, 779, 806, 807, 1000, 1167, 1168, 1209,
+    1210,
 ];
 
 impl Pool {
@@ -177,6 +179,7 @@ pub fn data(random: &mut Random) -> Vec<u8> {
         }
         2 => {
             let label = Label {
+                edition: dates::edition(random),
                 rec: random.below(8) as u32,
                 part: 0,
                 of: 1,
@@ -185,7 +188,7 @@ pub fn data(random: &mut Random) -> Vec<u8> {
                 score: sha1(b"hello world"),
             };
             data = encode(&label, b"hello world").to_vec();
-            data.truncate(random.pick(&[96, 107, 403, 512]));
+            data.truncate(random.pick(&[96, 107, 110, 121, 389, 403, 512]));
         }
         _ => {}
     }

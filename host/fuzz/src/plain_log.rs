@@ -5,7 +5,7 @@ use plain::log::{read, settle, store, Refused, Stored};
 use second::message::{accept, read_reply, refusal, sync_reply, write_reply, Lent, Request};
 use second::query::Value;
 use second::tree::Run;
-use second::{Refusal, Score, Session};
+use second::{Edition, Refusal, Score, Session};
 
 use crate::archive::{Archive, Second};
 
@@ -16,6 +16,7 @@ impl Archive for PlainLog {
         &mut self,
         session: Session,
         message: &[u8],
+        date: &[u8],
         log: &mut [u8],
         waiting: &mut [u8],
         reply: &mut [u8],
@@ -24,7 +25,7 @@ impl Archive for PlainLog {
             log: log.len(),
             waiting: Some(waiting.len()),
         };
-        let answer = match accept(session, message, reply.len(), lent) {
+        let answer = match accept(session, message, Some(date), reply.len(), lent) {
             Ok(Request::Read { kind, score, count }) => {
                 let mut data = vec![0; count];
                 match read(log, waiting, kind, &score, &mut data) {
@@ -33,7 +34,11 @@ impl Archive for PlainLog {
                     Err(Refused::NotKnown(sector)) => Err(Refusal::not_known(sector)),
                 }
             }
-            Ok(Request::Write { kind, data }) => match store(log, waiting, kind, data) {
+            Ok(Request::Write {
+                edition: Edition::Second(date),
+                kind,
+                data,
+            }) => match store(log, waiting, date, kind, data) {
                 Stored::New(score) | Stored::Held(score) => Ok(write_reply(message[3], &score)),
                 Stored::Refused(number) => Err(Refusal::from(number)),
             },
@@ -42,7 +47,7 @@ impl Archive for PlainLog {
                 Err(Refused::Number(number)) => Err(Refusal::from(number)),
                 Err(Refused::NotKnown(sector)) => Err(Refusal::not_known(sector)),
             },
-            _ => return Second.serve(session, message, log, waiting, reply),
+            _ => return Second.serve(session, message, date, log, waiting, reply),
         };
         let (number, text) = match answer {
             Ok(text) => (0, text),

@@ -4,7 +4,7 @@ use std::collections::BTreeSet;
 
 use second::ledger::{Ledger, Origin};
 use second::message::{whole, Lent, LEAST_REPLY};
-use second::Session;
+use second::{Edition, Session};
 
 use crate::crash::Left;
 use crate::shams::Broken;
@@ -21,8 +21,14 @@ pub fn before_stop(broken: Option<Broken>, ledger: &mut Ledger) {
             waiting: Some(0),
         };
         let sync = whole(16, 0, &[]);
-        ledger.request(Origin::After(ready), &sync, LEAST_REPLY, lent);
+        ledger.request(Origin::After(ready), &sync, None, LEAST_REPLY, lent);
     }
+}
+
+/// The date that a request is told with: a ledger that keeps none is never told a lawful one.
+pub fn date(broken: Option<Broken>, date: Option<&[u8]>) -> Option<&[u8]> {
+    let forgets = broken == Some(Broken::LedgerForgetsDates);
+    date.filter(|date| !forgets || Edition::of(Some(date)).is_err())
 }
 
 /// After damage was told: a ledger that adds the sectors to those told before.

@@ -1,13 +1,12 @@
 //! What the shams are made with.
 
+use second::edition::dated;
 use second::kind::lawful;
 use second::log::{Block, Contents};
 use second::message::{number, refusal};
-use second::sector::{
-    blank, check, fits, label, sectors_for, Label, CHECK, LABEL, PAYLOAD, SECTOR,
-};
+use second::sector::{blank, check, fits, label, payload, Label, CHECK, SECTOR};
 use second::sha1::sha1;
-use second::Session;
+use second::{Edition, Session};
 
 use crate::archive::{Archive, Second};
 
@@ -17,23 +16,38 @@ pub fn refuse(refused: u8, message: &[u8], reply: &mut [u8]) {
     reply[..text.len()].copy_from_slice(&text);
 }
 
-/// Serves on altered copies of both parts and takes over what was written.
+/// Serves on copies of both parts whose sectors are altered, and takes over what was written.
 pub fn serve_altered(
     alter: impl Fn(&mut [u8]),
     session: Session,
     message: &[u8],
+    date: &[u8],
+    log: &mut [u8],
+    waiting: &mut [u8],
+    reply: &mut [u8],
+) -> (u8, Session) {
+    let alter = |part: &mut [u8]| part.chunks_exact_mut(SECTOR).for_each(&alter);
+    serve_on_copies(alter, session, message, date, log, waiting, reply)
+}
+
+/// The same, where each part is altered as a whole.
+pub fn serve_on_copies(
+    alter: impl Fn(&mut [u8]),
+    session: Session,
+    message: &[u8],
+    date: &[u8],
     log: &mut [u8],
     waiting: &mut [u8],
     reply: &mut [u8],
 ) -> (u8, Session) {
     let altered = |part: &[u8]| {
         let mut copy = part.to_vec();
-        copy.chunks_exact_mut(SECTOR).for_each(&alter);
+        alter(&mut copy);
         copy
     };
     let before = (altered(log), altered(waiting));
     let mut copy = before.clone();
-    let answer = Second.serve(session, message, &mut copy.0, &mut copy.1, reply);
+    let answer = Second.serve(session, message, date, &mut copy.0, &mut copy.1, reply);
     for (part, copy, before) in [(log, copy.0, before.0), (waiting, copy.1, before.1)] {
         for at in 0..part.len() {
             if copy[at] != before[at] {
@@ -55,7 +69,8 @@ pub fn refit(sector: &mut [u8]) {
 /// Writes the label of a sector whose check fits in small letters.
 pub fn lower_label(sector: &mut [u8]) {
     if fits(sector) {
-        sector[..LABEL].make_ascii_lowercase();
+        let edition = dated(sector).map_or(Edition::First, Edition::Second);
+        sector[..edition.label()].make_ascii_lowercase();
         refit(sector);
     }
 }
@@ -110,6 +125,7 @@ pub struct Tests {
     pub count: bool,
     pub kind: bool,
     pub agreement: bool,
+    pub date: bool,
     pub rest: bool,
     pub check: bool,
     pub score: bool,
@@ -122,6 +138,7 @@ impl Tests {
         count: true,
         kind: true,
         agreement: true,
+        date: true,
         rest: true,
         check: true,
         score: true,
@@ -133,19 +150,20 @@ fn sound_at(log: &[u8], first: usize, tests: Tests) -> Option<Block> {
     let sector = |at: usize| log.get(at * SECTOR..(at + 1) * SECTOR);
     let head = label(sector(first)?)?;
     let block = Block {
+        edition: head.edition,
         kind: head.kind,
         score: head.score,
         first,
         size: usize::from(head.size),
     };
     let good = (!tests.place || head.rec as usize == first)
-        && (!tests.count || usize::from(head.of) == sectors_for(block.size))
+        && (!tests.count || usize::from(head.of) == block.sectors())
         && (!tests.kind || lawful(head.kind))
         && (1..=57_344).contains(&block.size);
     if !good {
         return None;
     }
-    for part in 0..sectors_for(block.size) {
+    for part in 0..block.sectors() {
         let sector = sector(first + part)?;
         let mut expected = Label {
             part: part as u16,
@@ -155,15 +173,18 @@ fn sound_at(log: &[u8], first: usize, tests: Tests) -> Option<Block> {
         if !tests.parts {
             expected.part = found.part;
         }
+        if !tests.date && found.edition.front() == head.edition.front() {
+            expected.edition = found.edition;
+        }
         if !tests.agreement {
             let part = expected.part;
             expected = Label { part, ..found };
         }
-        let here = (block.size - part * PAYLOAD).min(PAYLOAD);
-        let rest = &sector[CHECK - PAYLOAD + here..CHECK];
+        let payload = payload(sector, head.edition);
+        let here = (block.size - part * payload.len()).min(payload.len());
         if found != expected
             || (tests.check && !fits(sector))
-            || (tests.rest && rest.iter().any(|&byte| byte != 0))
+            || (tests.rest && payload[here..].iter().any(|&byte| byte != 0))
         {
             return None;
         }

@@ -2,9 +2,9 @@
 
 use second::log::{joined, used, write_in, Contents, Lookup, MOST_WAITING};
 use second::message::{accept, sync_reply, whole, Lent, Request, LEAST_REPLY};
-use second::sector::{sectors_for, SECTOR};
+use second::sector::SECTOR;
 use second::tree::{Place, Run};
-use second::{Refusal, Session};
+use second::{Edition, Refusal, Session};
 
 use crate::archive::{Archive, Second};
 use crate::sham_tools::refuse;
@@ -24,6 +24,7 @@ pub fn serve(
     broken: Broken,
     session: Session,
     message: &[u8],
+    date: &[u8],
     log: &mut [u8],
     waiting: &mut [u8],
     reply: &mut [u8],
@@ -32,8 +33,8 @@ pub fn serve(
         log: log.len(),
         waiting: Some(waiting.len()),
     };
-    match accept(session, message, reply.len(), lent) {
-        Ok(Request::Sync) => Some(sync(broken, session, message, log, waiting, reply)),
+    match accept(session, message, Some(date), reply.len(), lent) {
+        Ok(Request::Sync) => Some(sync(broken, session, message, date, log, waiting, reply)),
         Ok(Request::Goodbye) if broken == Broken::GoodbyeSettles => {
             settle(log, waiting);
             None
@@ -49,11 +50,10 @@ pub fn serve(
                 }
                 _ => return None,
             };
-            Some(Second.serve(session, message, log, waiting, reply))
+            Some(Second.serve(session, message, date, log, waiting, reply))
         }
-        Ok(Request::Write { kind, data }) if WRITES.contains(&broken) => {
-            let block = (kind, data);
-            Some(write(broken, session, message, log, waiting, reply, block))
+        Ok(Request::Write { .. }) if WRITES.contains(&broken) => {
+            Some(write(broken, session, message, date, log, waiting, reply))
         }
         Err(3) => {
             let kept = match broken {
@@ -62,7 +62,8 @@ pub fn serve(
                 _ => return None,
             };
             let kept = kept.min(waiting.len());
-            Some(Second.serve(session, message, log, &mut waiting[..kept], reply))
+            let waiting = &mut waiting[..kept];
+            Some(Second.serve(session, message, date, log, waiting, reply))
         }
         _ => None,
     }
@@ -72,6 +73,7 @@ fn sync(
     broken: Broken,
     session: Session,
     message: &[u8],
+    date: &[u8],
     log: &mut [u8],
     waiting: &mut [u8],
     reply: &mut [u8],
@@ -97,7 +99,7 @@ fn sync(
         }
         _ => {}
     }
-    let answer = Second.serve(session, message, log, waiting, reply);
+    let answer = Second.serve(session, message, date, log, waiting, reply);
     match broken {
         Broken::SyncForgetsLastSector if answer.0 == 0 && waits > 0 => {
             let end = used(log) * SECTOR;
@@ -117,17 +119,19 @@ fn write(
     broken: Broken,
     session: Session,
     message: &[u8],
+    date: &[u8],
     log: &mut [u8],
     waiting: &mut [u8],
     reply: &mut [u8],
-    (kind, data): (u8, &[u8]),
 ) -> (u8, Session) {
+    let edition = Edition::of(Some(date)).expect("a date");
+    let (kind, data) = (message[4], &message[8..]);
     if broken == Broken::WritesToTheLog {
-        return second::request::serve(session, message, log, None, reply);
+        return second::request::serve(session, message, Some(date), log, None, reply);
     }
     let (settled, waits) = (used(log), used(waiting));
-    let answer = Second.serve(session, message, log, waiting, reply);
-    let sectors = sectors_for(data.len());
+    let answer = Second.serve(session, message, date, log, waiting, reply);
+    let sectors = edition.sectors_for(data.len());
     let room_in_log = log.len() / SECTOR >= settled + sectors;
     let room_waiting = waiting.len() / SECTOR >= waits + sectors;
     let accepts = match broken {
@@ -135,18 +139,19 @@ fn write(
         Broken::RoomForgetsWaiting => room_in_log && room_waiting,
         Broken::SettlesWhenFull if answer.0 == 14 && !room_waiting => {
             settle(log, waiting);
-            return Second.serve(session, message, log, waiting, reply);
+            return Second.serve(session, message, date, log, waiting, reply);
         }
         _ => false,
     };
     if answer.0 == 14 && accepts {
-        write_in(&mut waiting[waits * SECTOR..], settled + waits, kind, data);
+        let room = &mut waiting[waits * SECTOR..];
+        write_in(room, settled + waits, edition, kind, data);
         let text = second::message::write_reply(message[3], &second::sha1::sha1(data));
         reply[..text.len()].copy_from_slice(&text);
         return (0, session);
     }
     if broken == Broken::WaitingNumberedFromZero && used(waiting) > waits {
-        write_in(&mut waiting[waits * SECTOR..], waits, kind, data);
+        write_in(&mut waiting[waits * SECTOR..], waits, edition, kind, data);
     }
     answer
 }
@@ -154,7 +159,8 @@ fn write(
 /// Settles what waits, with a request of its own.
 fn settle(log: &mut [u8], waiting: &mut [u8]) {
     let mut reply = vec![0; LEAST_REPLY];
-    Second.serve(Session::Ready, &whole(16, 0, &[]), log, waiting, &mut reply);
+    let (sync, date) = (whole(16, 0, &[]), b"00000000");
+    Second.serve(Session::Ready, &sync, date, log, waiting, &mut reply);
 }
 
 /// Whether a read finds a block that lies across the border.

@@ -1,14 +1,15 @@
 //! Shams: the second program with one rule broken each. The fuzzer has to catch them all.
 
 use second::log::{joined, shaped_at, used, write_in, Contents};
-use second::message::{accept, read_reply, write_reply, Lent, Request};
+use second::message::{accept, read_reply, silent, write_reply, Lent, Request};
 use second::query::Value;
-use second::sector::{sectors_for, SECTOR};
+use second::sector::SECTOR;
 use second::tree::Run;
-use second::{Refusal, Score, Session};
+use second::{Edition, Refusal, Score, Session};
 
 use crate::archive::{Archive, Second};
 use crate::sham_cards;
+use crate::sham_dates;
 use crate::sham_doubt;
 use crate::sham_texts::{no_overlong, no_surrogate, no_zero, not_cut_off, not_past_end};
 use crate::sham_tools::{
@@ -59,6 +60,7 @@ broken! {
     ReportWithoutCountTest,
     ReportWithoutTypeTest,
     ReportWithoutAgreementTest,
+    ReportWithoutDateTest,
     ReportWithoutRestTest,
     ReportWithoutCheckTest,
     ReportWithoutScoreTest,
@@ -141,6 +143,26 @@ broken! {
     DamagedCardNotKnown,
     CardDropsDoubt,
     CardReadInLogAlone,
+    DateBeforeClosed,
+    DateAfterType,
+    NoDateAnswered,
+    SevenDigitsAccepted,
+    LongDateAccepted,
+    LetterInDateAccepted,
+    EmptyDateAccepted,
+    DateAskedOfWritesAlone,
+    DateDropped,
+    DateIsIdentity,
+    DuplicateRedated,
+    RoomByFirstEdition,
+    RunByFirstEdition,
+    RunBehindFirstLabel,
+    TwoDatesSound,
+    TwoEditionsSound,
+    NoDateInLabelAccepted,
+    FirstEditionForgotten,
+    DatedTakenAsFirst,
+    LedgerForgetsDates,
 }
 
 /// The second program with a rule broken.
@@ -166,11 +188,11 @@ fn restore(log: &mut [u8], waiting: &mut [u8], before: &(Vec<u8>, Vec<u8>)) {
 }
 
 /// Appends a block that is held already, if the waiting part has room.
-fn append(log: &[u8], waiting: &mut [u8], kind: u8, data: &[u8]) {
+fn append(log: &[u8], waiting: &mut [u8], edition: Edition, kind: u8, data: &[u8]) {
     let waits = used(waiting);
-    if waiting.len() / SECTOR - waits >= sectors_for(data.len()) {
+    if waiting.len() / SECTOR - waits >= edition.sectors_for(data.len()) {
         let first = used(log) + waits;
-        write_in(&mut waiting[waits * SECTOR..], first, kind, data);
+        write_in(&mut waiting[waits * SECTOR..], first, edition, kind, data);
     }
 }
 
@@ -272,12 +294,18 @@ impl Archive for Sham {
         &mut self,
         session: Session,
         message: &[u8],
+        date: &[u8],
         log: &mut [u8],
         waiting: &mut [u8],
         reply: &mut [u8],
     ) -> (u8, Session) {
+        let broken = self.broken;
         if let Some(answer) =
-            sham_waiting::serve(self.broken, session, message, log, waiting, reply)
+            sham_waiting::serve(broken, session, message, date, log, waiting, reply)
+        {
+            return answer;
+        }
+        if let Some(answer) = sham_dates::serve(broken, session, message, date, log, waiting, reply)
         {
             return answer;
         }
@@ -285,22 +313,22 @@ impl Archive for Sham {
             log: log.len(),
             waiting: Some(waiting.len()),
         };
-        let request = accept(session, message, reply.len(), lent);
+        let request = accept(session, message, Some(date), reply.len(), lent);
         match self.broken {
             Broken::NoCheckTest => {
-                return serve_altered(refit, session, message, log, waiting, reply);
+                return serve_altered(refit, session, message, date, log, waiting, reply);
             }
             Broken::CapitalHexAccepted => {
-                return serve_altered(lower_label, session, message, log, waiting, reply);
+                return serve_altered(lower_label, session, message, date, log, waiting, reply);
             }
             _ if request == Err(6) => {
                 let patched = self.patched(message);
-                return Second.serve(session, &patched, log, waiting, reply);
+                return Second.serve(session, &patched, date, log, waiting, reply);
             }
             _ => {}
         }
         let before = (log.to_vec(), waiting.to_vec());
-        let right = Second.serve(session, message, log, waiting, reply);
+        let right = Second.serve(session, message, date, log, waiting, reply);
         let stored = *log != before.0 || *waiting != before.1;
         let answer = match request {
             Ok(request) => self.answer(right, request, message, log, waiting, reply),
@@ -312,7 +340,7 @@ impl Archive for Sham {
                 let open = session == Session::Fresh;
                 return (right.0, if open { session } else { right.1 });
             }
-            Broken::ErrorTagZero if right.0 > 4 => reply[3] = 0,
+            Broken::ErrorTagZero if !silent(right.0) => reply[3] = 0,
             Broken::RefusalChangesSession if right.0 > 4 => return (right.0, Session::Closed),
             Broken::RefusesEverything if request.is_ok() => {
                 refuse(7, message, reply);
@@ -331,8 +359,15 @@ impl Archive for Sham {
                 }
             }
             Broken::DuplicateAppended => {
-                if let (Ok(Request::Write { kind, data }), 0, false) = (request, right.0, stored) {
-                    append(log, waiting, kind, data);
+                if let Ok(Request::Write {
+                    edition,
+                    kind,
+                    data,
+                }) = request
+                {
+                    if right.0 == 0 && !stored {
+                        append(log, waiting, edition, kind, data);
+                    }
                 }
                 return answer;
             }
@@ -364,6 +399,7 @@ impl Archive for Sham {
                 agreement: false,
                 ..all
             },
+            Broken::ReportWithoutDateTest => Tests { date: false, ..all },
             Broken::ReportWithoutRestTest => Tests { rest: false, ..all },
             Broken::ReportWithoutCheckTest => Tests {
                 check: false,
@@ -419,6 +455,7 @@ impl Archive for Sham {
             }
         };
         let answer = sham_waiting::locate(answer, log, self.broken);
+        let answer = sham_dates::locate(answer, (log, waiting), self.broken);
         sham_trees::locate(answer, page, entry, offset, self.broken)
     }
 

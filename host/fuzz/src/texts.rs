@@ -5,6 +5,7 @@ use second::message::whole;
 use second::Session;
 
 use crate::archive::{Archive, Second};
+use crate::examples::DATE;
 use crate::under_test;
 
 /// Texts, and whether each is well-formed.
@@ -79,7 +80,7 @@ fn hello(version: &[u8], uid: &[u8]) -> Vec<u8> {
 fn greet(archive: &mut dyn Archive, session: Session, version: &[u8], uid: &[u8]) -> u8 {
     let mut reply = [0xaa; 57_348];
     let message = hello(version, uid);
-    let (number, after) = archive.serve(session, &message, &mut [], &mut [], &mut reply);
+    let (number, after) = archive.serve(session, &message, DATE, &mut [], &mut [], &mut reply);
     if number != 0 {
         assert_eq!(after, session);
         assert_eq!(
@@ -184,6 +185,7 @@ fn crypto_and_codec_are_any_bytes() {
         let (number, _) = archive.serve(
             Session::Fresh,
             &whole(4, 9, &body),
+            DATE,
             &mut [],
             &mut [],
             &mut reply,

@@ -2,11 +2,12 @@
 
 use second::kind::KINDS;
 use second::log::write;
-use second::sector::{sectors_for, SECTOR};
+use second::sector::SECTOR;
 use second::sha1::{sha1, Score, ZERO_SCORE};
 
 use crate::archive::Archive;
 use crate::compare::{buffer, hex, number, Compare, Parts, Trace};
+use crate::dates;
 use crate::random::Random;
 use crate::shape::Shape;
 
@@ -93,11 +94,12 @@ impl Forest {
         } else {
             kind
         };
-        let sectors = sectors_for(data.len());
+        let edition = dates::edition(random);
+        let sectors = edition.sectors_for(data.len());
         let room = self.used + sectors <= self.log.len() / SECTOR;
         let hole = random.percent(4);
         if room && !hole && !data.is_empty() && !self.held.contains(&(kind, score)) {
-            write(&mut self.log, self.used, kind, data);
+            write(&mut self.log, self.used, edition, kind, data);
             self.used += sectors;
             self.held.push((kind, score));
         }
@@ -199,7 +201,7 @@ impl Forest {
             dsize: if directory {
                 random.pick(&[40, 80, 120, 400, 57_320])
             } else {
-                random.pick(&[1, 7, 40, 402, 403, 404, 807, 1024, 57_344])
+                random.pick(&[1, 7, 40, 389, 390, 403, 404, 778, 779, 807, 1024, 57_344])
             },
             directory,
             depth: random.pick(&[0, 0, 0, 1, 1, 2, 2, 3, 7]),
@@ -225,7 +227,7 @@ impl Forest {
             let block = shape.bytes(&inner, 40);
             inner = sha1(&block);
             if self.used < self.log.len() / SECTOR {
-                write(&mut self.log, self.used, 2, &block);
+                write(&mut self.log, self.used, dates::edition(random), 2, &block);
                 self.held.push((2, inner));
                 self.used += 1;
             }
@@ -280,7 +282,7 @@ impl Forest {
         trace: &mut Trace,
     ) -> Result<(), String> {
         let (entry, offset) = self.place(random);
-        let mut page = vec![0; random.pick(&[1, 7, 403, 1024, 4000])];
+        let mut page = vec![0; random.pick(&[1, 7, 389, 403, 1024, 4000])];
         match random.below(30) {
             0 => page.clear(),
             1 => {
@@ -304,7 +306,7 @@ impl Forest {
         trace: &mut Trace,
     ) -> Result<(), String> {
         let (entry, offset) = self.place(random);
-        let length = random.pick(&[0, 1, 7, 403, 1024, 4000]);
+        let length = random.pick(&[0, 1, 7, 389, 403, 1024, 4000]);
         trace.note(|| format!("fill {length} bytes of {} from {offset} on", hex(&entry)));
         let mut tested = vec![0xaa; length];
         let mut second = tested.clone();

@@ -30,6 +30,7 @@ impl Archive for Proved {
         &mut self,
         session: Session,
         message: &[u8],
+        date: &[u8],
         log: &mut [u8],
         waiting: &mut [u8],
         reply: &mut [u8],
@@ -39,7 +40,7 @@ impl Archive for Proved {
             Session::Ready => proved::Session::Greeted,
             Session::Closed => proved::Session::Closed,
         };
-        let served = proved::serve(before, message, log, waiting, reply);
+        let served = proved::serve(before, message, date, log, waiting, reply);
         let after = match served.session {
             proved::Session::Fresh => Session::Fresh,
             proved::Session::Greeted => Session::Ready,

@@ -5,10 +5,10 @@ use second::message::whole;
 use second::sector::SECTOR;
 use second::sha1::{sha1, ZERO_SCORE};
 use second::tree::{Place, Run};
-use second::{Refusal, Session};
+use second::{Edition, Refusal, Session};
 
 use crate::archive::Archive;
-use crate::examples::{ask_waiting, on_both, SYNC};
+use crate::examples::{ask_waiting, on_both, DATE, DATED, SYNC};
 
 fn block(data: &[u8]) -> Vec<u8> {
     whole(14, 9, &[&[13, 0, 0, 0], data].concat())
@@ -33,10 +33,10 @@ fn is_blank(part: &[u8]) -> bool {
 fn a_write_waits_until_the_sync() {
     on_both(|archive| {
         let (mut log, mut waiting) = (vec![0; 4 * SECTOR], vec![0; 2 * SECTOR]);
-        write(&mut log, 0, 13, b"settled");
+        write(&mut log, 0, Edition::First, 13, b"settled");
         let before = log.clone();
         let mut after = log.clone();
-        write(&mut after, 1, 13, b"one");
+        write(&mut after, 1, DATED, 13, b"one");
         assert_eq!(ask(archive, &mut log, &mut waiting, &block(b"one")), 0);
         for data in [&b"settled"[..], b"one", b""] {
             assert_eq!(ask(archive, &mut log, &mut waiting, &read(data)), 0);
@@ -83,7 +83,7 @@ fn a_sync_of_any_sectors() {
         waiting[2 * SECTOR - 1] = 7;
         for (sectors, number) in [(2, 14), (3, 0), (4, 0)] {
             let mut log = vec![0; sectors * SECTOR];
-            write(&mut log, 0, 13, b"settled");
+            write(&mut log, 0, Edition::First, 13, b"settled");
             let before = (log.clone(), waiting.clone());
             let mut waiting = waiting.clone();
             assert_eq!(ask(archive, &mut log, &mut waiting, &SYNC), number);
@@ -107,7 +107,14 @@ fn lengths_of_the_waiting_part() {
             let mut waiting = lent.clone();
             let mut reply = vec![0; 57_348];
             let message = read(b"");
-            let answer = archive.serve(Session::Ready, &message, &mut [], &mut waiting, &mut reply);
+            let answer = archive.serve(
+                Session::Ready,
+                &message,
+                DATE,
+                &mut [],
+                &mut waiting,
+                &mut reply,
+            );
             assert_eq!(answer, (number, Session::Ready));
             assert_eq!(waiting, lent);
             let absent = match (number, sectors) {
@@ -141,7 +148,7 @@ fn a_block_across_the_border() {
     on_both(|archive| {
         let data: Vec<u8> = (0..1000).map(|at| at as u8).collect();
         let mut whole = vec![0; 3 * SECTOR];
-        write(&mut whole, 0, 13, &data);
+        write(&mut whole, 0, DATED, 13, &data);
         let entry = entry(1000, &sha1(&data));
         for border in 0..=3 {
             let mut log = whole[..border * SECTOR].to_vec();
@@ -155,10 +162,10 @@ fn a_block_across_the_border() {
                 };
                 let run = Run {
                     place,
-                    start: number * SECTOR + 96,
-                    len: [403, 403, 194][sector],
+                    start: number * SECTOR + 110,
+                    len: [389, 389, 222][sector],
                 };
-                let offset = 403 * sector as u64;
+                let offset = 389 * sector as u64;
                 let answer = archive.locate(&log, &waiting, &[0], &entry, offset);
                 assert_eq!(answer, Ok(run));
             }
@@ -183,15 +190,18 @@ fn parts_that_do_not_belong_together() {
     on_both(|archive| {
         let mut log = vec![0; 6 * SECTOR];
         let mut waiting = vec![0; 5 * SECTOR];
-        write(&mut log, 0, 13, b"one");
-        write_in(&mut waiting[SECTOR..], 1, 13, b"two");
+        write(&mut log, 0, DATED, 13, b"one");
+        write_in(&mut waiting[SECTOR..], 1, DATED, 13, b"two");
         assert_eq!(ask(archive, &mut log, &mut waiting, &read(b"one")), 0);
         let not_known = ask_waiting(archive, &mut log, &mut waiting, &read(b"two"));
         assert_eq!(not_known.0, 12);
         assert!(not_known.1.ends_with(b"why=12 at=00000001"));
         assert_eq!(ask(archive, &mut log, &mut waiting, &block(b"two")), 0);
         assert_eq!(ask(archive, &mut log, &mut waiting, &read(b"two")), 0);
-        assert_eq!(&waiting[2 * SECTOR..2 * SECTOR + 13], b"rec=00000003\n");
+        assert_eq!(
+            &waiting[2 * SECTOR..2 * SECTOR + 27],
+            b"date=20261116\nrec=00000003\n"
+        );
         let walked = archive.walk(&log, &waiting, &ZERO_SCORE, 1);
         assert_eq!(walked, (Err(16.into()), 1));
     });

@@ -1,15 +1,17 @@
 //! The log in ordinary Rust: blocks in labelled, checked sectors, found by looking through them. New
-//! ones wait in a second run of sectors until they are moved behind the others.
+//! ones get a date and wait in a second run of sectors until they are moved behind the others. Blocks
+//! of the first edition, which have no date, are read as well.
 
 use crate::crc32::crc32;
 use crate::sha1::sha1;
 
 pub type Score = [u8; 20];
+/// Eight decimal digits.
+pub type Date = [u8; 8];
 
 const SECTOR: usize = 512;
-const LABEL: usize = 96;
-const PAYLOAD: usize = 403;
-const CHECK: usize = LABEL + PAYLOAD;
+/// The bytes before the check.
+const CHECK: usize = 499;
 const MOST_SECTORS: usize = 1_048_576;
 const MOST_WAITING: usize = 256;
 const MOST_DATA: usize = 57_344;
@@ -20,7 +22,12 @@ const ZERO_SCORE: Score = [
     0xaf, 0xd8, 0x07, 0x09,
 ];
 
-/// The places of the label's values.
+/// The line of a date, before the lines of the label that both editions have.
+const DATE_LINE: usize = DATE + 9;
+const LINES_LENGTH: usize = 96;
+
+/// The place of the date's digits, and of the lines' values behind the date.
+const DATE: usize = 5;
 const REC: usize = 4;
 const PART: usize = 18;
 const OF: usize = 26;
@@ -28,8 +35,8 @@ const KIND: usize = 36;
 const SIZE: usize = 44;
 const SCORE: usize = 55;
 
-/// A label with all its values still to be filled in.
-const LINES: &[u8; LABEL] = b"rec=--------\npart=----\nof=----\ntype=--\nsize=----\n\
+/// The lines with all their values still to be filled in.
+const LINES: &[u8; LINES_LENGTH] = b"rec=--------\npart=----\nof=----\ntype=--\nsize=----\n\
     score=----------------------------------------\n";
 
 /// What became of data to be stored.
@@ -52,10 +59,58 @@ pub enum Refused {
     NotKnown(usize),
 }
 
-/// A sound block's place.
-struct Block {
-    first: usize,
-    size: usize,
+/// A label that is filled in for one part of a block after the other.
+struct Label {
+    text: Vec<u8>,
+    /// The bytes of the line of its date, if it has one.
+    front: usize,
+}
+
+impl Label {
+    fn new(date: Option<Date>, first: usize, kind: u8, size: usize, score: &Score) -> Label {
+        let mut text = Vec::with_capacity(DATE_LINE + LINES_LENGTH);
+        if let Some(date) = date {
+            text.extend_from_slice(b"date=");
+            text.extend_from_slice(&date);
+            text.push(b'\n');
+        }
+        let front = text.len();
+        text.extend_from_slice(LINES);
+        let mut label = Label { text, front };
+        let count = label.sectors_for(size) as u16;
+        label.put(REC, &(first as u32).to_be_bytes());
+        label.put(OF, &count.to_be_bytes());
+        label.put(KIND, &[kind]);
+        label.put(SIZE, &(size as u16).to_be_bytes());
+        label.put(SCORE, score);
+        label
+    }
+
+    fn put(&mut self, at: usize, value: &[u8]) {
+        put(&mut self.text, self.front + at, value);
+    }
+
+    /// The same label for another part.
+    fn of_part(&mut self, part: usize) -> &[u8] {
+        self.put(PART, &(part as u16).to_be_bytes());
+        &self.text
+    }
+
+    /// The bytes of payload behind it.
+    fn payload(&self) -> usize {
+        CHECK - self.text.len()
+    }
+
+    fn sectors_for(&self, size: usize) -> usize {
+        size.div_ceil(self.payload())
+    }
+}
+
+/// The date of a sector that begins with the line of one.
+fn date_of(sector: &[u8]) -> Option<Date> {
+    let line = sector[..DATE_LINE].strip_prefix(b"date=")?;
+    let date = Date::try_from(line.strip_suffix(b"\n")?).ok()?;
+    date.iter().all(u8::is_ascii_digit).then_some(date)
 }
 
 /// The used part of a log and the sectors that wait, as one log.
@@ -89,8 +144,8 @@ impl<'a> Joined<'a> {
     }
 }
 
-/// Appends data to the sectors that wait, unless it is held.
-pub fn store(log: &[u8], waiting: &mut [u8], kind: u8, data: &[u8]) -> Stored {
+/// Appends data with a date to the sectors that wait, unless it is held.
+pub fn store(log: &[u8], waiting: &mut [u8], date: Date, kind: u8, data: &[u8]) -> Stored {
     if !well_sized(log, waiting) {
         return Stored::Refused(3);
     }
@@ -118,12 +173,13 @@ pub fn store(log: &[u8], waiting: &mut [u8], kind: u8, data: &[u8]) -> Stored {
     }
     let first = joined.used();
     let waits = first - joined.settled.len() / SECTOR;
-    let needed = data.len().div_ceil(PAYLOAD);
+    let label = Label::new(Some(date), first, kind, data.len(), &score);
+    let needed = label.sectors_for(data.len());
     let rest = &mut waiting[waits * SECTOR..];
     if rest.len() / SECTOR < needed || log.len() / SECTOR < first + needed {
         return Stored::Refused(14);
     }
-    append(rest, first, kind, &score, data);
+    append(rest, label, data);
     Stored::New(score)
 }
 
@@ -181,15 +237,18 @@ fn lawful(kind: u8) -> bool {
 }
 
 /// The first sound block of a type and score; data is then its bytes.
-fn find(log: Joined, kind: u8, score: &Score, data: &mut Vec<u8>) -> Option<Block> {
+fn find(log: Joined, kind: u8, score: &Score, data: &mut Vec<u8>) -> Option<usize> {
     let mut wanted = *LINES;
     put(&mut wanted, KIND, &[kind]);
     put(&mut wanted, SCORE, score);
+    let named = |sector: &[u8]| {
+        let front = if sector[0] == b'd' { DATE_LINE } else { 0 };
+        let lines = &sector[front..];
+        lines[SCORE..LINES_LENGTH] == wanted[SCORE..] && lines[KIND..SIZE] == wanted[KIND..SIZE]
+    };
     log.sectors()
         .enumerate()
-        .filter(|(_, sector)| {
-            sector[SCORE..LABEL] == wanted[SCORE..] && sector[KIND..SIZE] == wanted[KIND..SIZE]
-        })
+        .filter(|(_, sector)| named(sector))
         .find_map(|(first, _)| sound(log, first, data))
 }
 
@@ -199,7 +258,7 @@ fn first_doubtful(log: Joined, data: &mut Vec<u8>) -> Option<usize> {
     let mut at = 0;
     while at < used {
         match sound(log, at, data) {
-            Some(block) => at = block.first + block.size.div_ceil(PAYLOAD),
+            Some(sectors) => at += sectors,
             None => return Some(at),
         }
     }
@@ -213,59 +272,48 @@ fn used(log: &[u8]) -> usize {
         .map_or(0, |last| last + 1)
 }
 
-/// The sound block that starts at a sector; data is then its bytes.
-fn sound(log: Joined, first: usize, data: &mut Vec<u8>) -> Option<Block> {
-    let label = &log.sector(first)?[..LABEL];
-    let [kind] = take(label, KIND)?;
-    let size = usize::from(u16::from_be_bytes(take(label, SIZE)?));
-    let score: Score = take(label, SCORE)?;
-    let count = size.div_ceil(PAYLOAD);
+/// How many sectors the sound block has that starts at one; data is then its bytes.
+fn sound(log: Joined, first: usize, data: &mut Vec<u8>) -> Option<usize> {
+    let head = log.sector(first)?;
+    let date = date_of(head);
+    let lines = &head[date.map_or(0, |_| DATE_LINE)..];
+    let [kind] = take(lines, KIND)?;
+    let size = usize::from(u16::from_be_bytes(take(lines, SIZE)?));
+    let score: Score = take(lines, SCORE)?;
     if !lawful(kind) || !(1..=MOST_DATA).contains(&size) {
         return None;
     }
 
-    let mut expected = block_label(first, kind, size, &score);
+    let mut label = Label::new(date, first, kind, size, &score);
+    let count = label.sectors_for(size);
     data.clear();
     for part in 0..count {
         let sector = log.sector(first + part)?;
-        put(&mut expected, PART, &(part as u16).to_be_bytes());
-        if sector[..LABEL] != expected || sector[CHECK..] != check_line(&sector[..CHECK]) {
+        let payload = sector[..CHECK].strip_prefix(label.of_part(part))?;
+        if sector[CHECK..] != check_line(&sector[..CHECK]) {
             return None;
         }
-        data.extend_from_slice(&sector[LABEL..CHECK]);
+        data.extend_from_slice(payload);
     }
     if data[size..].iter().any(|&byte| byte != 0) {
         return None;
     }
     data.truncate(size);
-    (sha1(data) == score).then_some(Block { first, size })
+    (sha1(data) == score).then_some(count)
 }
 
-/// Writes a block's sectors to the front of the blank ones, which start at sector `first`.
-fn append(rest: &mut [u8], first: usize, kind: u8, score: &Score, data: &[u8]) {
-    let mut label = block_label(first, kind, data.len(), score);
-    let parts = data.chunks(PAYLOAD).enumerate();
+/// Writes a block's sectors to the front of the blank ones.
+fn append(rest: &mut [u8], mut label: Label, data: &[u8]) {
+    let parts = data.chunks(label.payload()).enumerate();
     for ((part, payload), sector) in parts.zip(rest.chunks_exact_mut(SECTOR)) {
-        put(&mut label, PART, &(part as u16).to_be_bytes());
-        sector[..LABEL].copy_from_slice(&label);
-        sector[LABEL..LABEL + payload.len()].copy_from_slice(payload);
-        sector[LABEL + payload.len()..CHECK].fill(0);
+        let label = label.of_part(part);
+        sector[..label.len()].copy_from_slice(label);
+        let room = &mut sector[label.len()..CHECK];
+        room[..payload.len()].copy_from_slice(payload);
+        room[payload.len()..].fill(0);
         let line = check_line(&sector[..CHECK]);
         sector[CHECK..].copy_from_slice(&line);
     }
-}
-
-/// The label of a block's first part.
-fn block_label(first: usize, kind: u8, size: usize, score: &Score) -> [u8; LABEL] {
-    let mut label = *LINES;
-    put(&mut label, REC, &(first as u32).to_be_bytes());
-    put(&mut label, PART, &[0, 0]);
-    let count = size.div_ceil(PAYLOAD) as u16;
-    put(&mut label, OF, &count.to_be_bytes());
-    put(&mut label, KIND, &[kind]);
-    put(&mut label, SIZE, &(size as u16).to_be_bytes());
-    put(&mut label, SCORE, score);
-    label
 }
 
 fn check_line(checked: &[u8]) -> [u8; SECTOR - CHECK] {

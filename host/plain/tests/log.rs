@@ -1,6 +1,6 @@
 //! The log beside the second program's: the same answers and the same bytes in both parts.
 
-use plain::log::{read, settle, store, Refused, Stored};
+use plain::log::{read, settle, store, Date, Refused, Stored};
 use plain::random::Random;
 use plain::sha1::sha1;
 use second::message::whole;
@@ -15,10 +15,11 @@ struct Twin {
 
 impl Twin {
     /// Its number and reply.
-    fn ask(&mut self, message: &[u8]) -> (u8, Vec<u8>) {
+    fn ask(&mut self, message: &[u8], date: Option<&[u8]>) -> (u8, Vec<u8>) {
         let mut reply = vec![0; 57_348];
         let waiting = Some(&mut self.waiting[..]);
-        let (number, _) = serve(Session::Ready, message, &mut self.log, waiting, &mut reply);
+        let log = &mut self.log;
+        let (number, _) = serve(Session::Ready, message, date, log, waiting, &mut reply);
         let size = second::message::number(&reply[..2]) + 2;
         reply.truncate(size);
         (number, reply)
@@ -38,15 +39,25 @@ fn same_as_second() {
             waiting: waiting.clone(),
         };
         let pool: Vec<Vec<u8>> = (0..5).map(|_| bytes.bytes(below(1300))).collect();
+        // some blocks of the first edition
+        for _ in 0..below(4) {
+            let data = &pool[below(5)];
+            twin.ask(&whole(14, 0, &[&[13, 0, 0, 0], &data[..]].concat()), None);
+            twin.ask(&whole(16, 0, &[]), None);
+        }
+        log.copy_from_slice(&twin.log);
+        waiting.copy_from_slice(&twin.waiting);
         for _ in 0..30 {
+            let date = format!("2026{:04}", below(3));
+            let date: Date = date.as_bytes().try_into().unwrap();
             let kind = [1, 2, 13, 13, 9, 12][below(6)];
             let data = &pool[below(5)];
             let count = if below(4) == 0 { below(1300) } else { 1300 };
             match below(9) {
                 0..=2 => {
                     let message = whole(14, 0, &[&[kind, 0, 0, 0], &data[..]].concat());
-                    let (number, _) = twin.ask(&message);
-                    match store(&log, &mut waiting, kind, data) {
+                    let (number, _) = twin.ask(&message, Some(&date));
+                    match store(&log, &mut waiting, date, kind, data) {
                         Stored::New(score) | Stored::Held(score) => {
                             assert_eq!((number, score), (0, sha1(data)));
                         }
@@ -54,7 +65,7 @@ fn same_as_second() {
                     }
                 }
                 3 => {
-                    let (number, _) = twin.ask(&whole(16, 0, &[]));
+                    let (number, _) = twin.ask(&whole(16, 0, &[]), Some(&date));
                     let settled = match number {
                         0 => Ok(()),
                         number => Err(Refused::Number(number)),
@@ -74,7 +85,8 @@ fn same_as_second() {
                 _ => {
                     let score = sha1(data);
                     let end = [kind, 0, (count >> 8) as u8, count as u8];
-                    let (number, reply) = twin.ask(&whole(12, 0, &[&score[..], &end].concat()));
+                    let asked = whole(12, 0, &[&score[..], &end].concat());
+                    let (number, reply) = twin.ask(&asked, Some(&date));
                     let mut out = vec![0; count];
                     match read(&log, &waiting, kind, &score, &mut out) {
                         Ok(size) => {

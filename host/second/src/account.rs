@@ -40,11 +40,17 @@ impl Account {
         }
     }
 
-    /// Takes the next message.
-    pub fn request(&mut self, origin: Origin, message: &[u8], reply_len: usize) -> Prediction {
+    /// Takes the next message, with its date or without one.
+    pub fn request(
+        &mut self,
+        origin: Origin,
+        message: &[u8],
+        date: Option<&[u8]>,
+        reply_len: usize,
+    ) -> Prediction {
         let settled = self.ledger.settled_rows().len();
         let lent = self.lent();
-        let prediction = self.ledger.request(origin, message, reply_len, lent);
+        let prediction = self.ledger.request(origin, message, date, reply_len, lent);
         for row in &self.ledger.settled_rows()[settled..] {
             put(&mut self.log, row.first, row);
         }
@@ -74,9 +80,15 @@ impl Account {
     }
 
     /// A message that is never answered: its row waits to be written, if it adds one.
-    pub fn begin(&mut self, origin: Origin, message: &[u8], reply_len: usize) -> Prediction {
+    pub fn begin(
+        &mut self,
+        origin: Origin,
+        message: &[u8],
+        date: Option<&[u8]>,
+        reply_len: usize,
+    ) -> Prediction {
         let lent = self.lent();
-        self.ledger.begin(origin, message, reply_len, lent)
+        self.ledger.begin(origin, message, date, reply_len, lent)
     }
 
     /// The sectors of the waiting rows, each with its number in the log.
@@ -156,5 +168,6 @@ impl Account {
 
 /// Writes a row's sectors from a place on.
 fn put(part: &mut [u8], place: usize, row: &Row) {
-    write_in(&mut part[place * SECTOR..], row.first, row.kind, &row.data);
+    let room = &mut part[place * SECTOR..];
+    write_in(room, row.first, row.edition, row.kind, &row.data);
 }

@@ -3,17 +3,20 @@
 use std::collections::BTreeSet;
 use std::ops::Range;
 
+use crate::edition::Edition;
 use crate::message::{
     accept, hello_reply, ping_reply, read_reply, refusal, sync_reply, write_reply, Lent, Request,
 };
 use crate::refusal::Refusal;
-use crate::sector::{sectors_for, SECTOR};
+use crate::sector::SECTOR;
 use crate::sha1::{sha1, Score, ZERO_SCORE};
 use crate::Session;
 
 /// A block that was stored.
 #[derive(Clone, Debug)]
 pub struct Row {
+    /// With its date, if it has one.
+    pub edition: Edition,
     pub kind: u8,
     pub score: Score,
     pub data: Vec<u8>,
@@ -24,7 +27,7 @@ pub struct Row {
 impl Row {
     /// The sectors that it covers.
     pub fn sectors(&self) -> Range<usize> {
-        self.first..self.first + sectors_for(self.data.len())
+        self.first..self.first + self.edition.sectors_for(self.data.len())
     }
 }
 
@@ -127,15 +130,16 @@ impl Ledger {
         self.settled = self.rows.len();
     }
 
-    /// Takes the next message.
+    /// Takes the next message, with its date or without one.
     pub fn request(
         &mut self,
         origin: Origin,
         message: &[u8],
+        date: Option<&[u8]>,
         reply_len: usize,
         lent: Lent,
     ) -> Prediction {
-        let prediction = self.begin(origin, message, reply_len, lent);
+        let prediction = self.begin(origin, message, date, reply_len, lent);
         if lent.waiting.is_none() || prediction.effect == Effect::Settles {
             self.settled = self.rows.len();
         }
@@ -148,11 +152,12 @@ impl Ledger {
         &mut self,
         origin: Origin,
         message: &[u8],
+        date: Option<&[u8]>,
         reply_len: usize,
         lent: Lent,
     ) -> Prediction {
         let before = self.session(origin);
-        let answer = accept(before, message, reply_len, lent)
+        let answer = accept(before, message, date, reply_len, lent)
             .map_err(Refusal::from)
             .and_then(|request| self.answer(before, request, message[3], lent));
         let (number, reply, session, effect) = match answer {
@@ -193,7 +198,11 @@ impl Ledger {
                     None => 11.into(),
                 }),
             },
-            Request::Write { kind, data } => {
+            Request::Write {
+                edition,
+                kind,
+                data,
+            } => {
                 let score = sha1(data);
                 let row = self.first_intact(kind, &score);
                 if data.is_empty() || row.is_some_and(|row| row.data == data) {
@@ -202,29 +211,30 @@ impl Ledger {
                 if row.is_some() || score == ZERO_SCORE {
                     return Err(15.into());
                 }
-                self.add(kind, score, data, lent)?;
+                let row = Row {
+                    edition,
+                    kind,
+                    score,
+                    data: data.to_vec(),
+                    first: self.end(),
+                };
+                self.add(row, lent)?;
                 Ok((write_reply(tag, &score), session, Effect::Adds))
             }
         }
     }
 
     /// Adds a row that starts at the end, or 14.
-    fn add(&mut self, kind: u8, score: Score, data: &[u8], lent: Lent) -> Result<(), u8> {
-        let first = self.end();
-        let sectors = sectors_for(data.len());
-        let left_in_log = (lent.log / SECTOR).saturating_sub(first);
+    fn add(&mut self, row: Row, lent: Lent) -> Result<(), u8> {
+        let sectors = row.sectors().len();
+        let left_in_log = (lent.log / SECTOR).saturating_sub(row.first);
         let left_waiting = lent.waiting.map_or(usize::MAX, |waiting| {
             (waiting / SECTOR).saturating_sub(self.waiting_sectors())
         });
         if left_in_log < sectors || left_waiting < sectors {
             return Err(14);
         }
-        self.rows.push(Row {
-            kind,
-            score,
-            data: data.to_vec(),
-            first,
-        });
+        self.rows.push(row);
         Ok(())
     }
 

@@ -7,6 +7,7 @@
 pub mod account;
 pub mod card;
 pub mod crc32;
+pub mod edition;
 pub mod kind;
 pub mod ledger;
 pub mod log;
@@ -23,6 +24,7 @@ pub mod utf8;
 pub mod walk;
 pub mod zeros;
 
+pub use edition::{Date, Edition};
 pub use message::Session;
 pub use refusal::Refusal;
 pub use sha1::Score;

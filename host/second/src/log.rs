@@ -1,8 +1,9 @@
 //! The log and its waiting part: sound blocks, the used part, doubtful sectors, look-up and storing.
 
+use crate::edition::Edition;
 use crate::kind::lawful;
 use crate::refusal::Refusal;
-use crate::sector::{blank, encode, fits, label, sectors_for, Label, LABEL, PAYLOAD, SECTOR};
+use crate::sector::{blank, encode, fits, label, payload, Label, SECTOR};
 use crate::sha1::{sha1, Score, ZERO_SCORE};
 
 /// The most sectors a log may have.
@@ -15,6 +16,8 @@ pub const MOST_DATA: usize = 57_344;
 /// A block's place in the log and what its label says.
 #[derive(Clone, Copy, Debug, PartialEq, Eq)]
 pub struct Block {
+    /// All its sectors have this one, and this date.
+    pub edition: Edition,
     pub kind: u8,
     pub score: Score,
     /// Its first sector.
@@ -26,14 +29,14 @@ pub struct Block {
 impl Block {
     /// The sectors it takes.
     pub fn sectors(&self) -> usize {
-        sectors_for(self.size)
+        self.edition.sectors_for(self.size)
     }
 
     /// Its data.
     pub fn data(&self, log: &[u8]) -> Vec<u8> {
-        let mut data = Vec::with_capacity(self.sectors() * PAYLOAD);
+        let mut data = Vec::new();
         for part in 0..self.sectors() {
-            data.extend(payload(sector(log, self.first + part)));
+            data.extend(payload(sector(log, self.first + part), self.edition));
         }
         data.truncate(self.size);
         data
@@ -62,15 +65,12 @@ pub fn sector(log: &[u8], number: usize) -> &[u8] {
     &log[number * SECTOR..(number + 1) * SECTOR]
 }
 
-fn payload(sector: &[u8]) -> &[u8] {
-    &sector[LABEL..LABEL + PAYLOAD]
-}
-
 /// The block that starts at a sector and is sound but for its SHA-1, which isn't looked at.
 pub fn shaped_at(log: &[u8], first: usize) -> Option<Block> {
     let head = label(sector(log, first))?;
     let size = usize::from(head.size);
     let block = Block {
+        edition: head.edition,
         kind: head.kind,
         score: head.score,
         first,
@@ -78,9 +78,9 @@ pub fn shaped_at(log: &[u8], first: usize) -> Option<Block> {
     };
     let lawful = head.rec as usize == first
         && (1..=MOST_DATA).contains(&size)
-        && usize::from(head.of) == sectors_for(size)
+        && usize::from(head.of) == block.sectors()
         && lawful(head.kind)
-        && first + sectors_for(size) <= log.len() / SECTOR;
+        && first + block.sectors() <= log.len() / SECTOR;
     if !lawful {
         return None;
     }
@@ -90,8 +90,9 @@ pub fn shaped_at(log: &[u8], first: usize) -> Option<Block> {
         if label(sector) != Some(expected) || !fits(sector) {
             return None;
         }
-        let here = (size - usize::from(part) * PAYLOAD).min(PAYLOAD);
-        if payload(sector)[here..].iter().any(|&byte| byte != 0) {
+        let payload = payload(sector, head.edition);
+        let here = (size - usize::from(part) * payload.len()).min(payload.len());
+        if payload[here..].iter().any(|&byte| byte != 0) {
             return None;
         }
     }
@@ -185,18 +186,19 @@ impl Contents {
 }
 
 /// Writes a block's sectors from a sector on. There must be room.
-pub fn write(log: &mut [u8], first: usize, kind: u8, data: &[u8]) {
-    write_in(&mut log[first * SECTOR..], first, kind, data);
+pub fn write(log: &mut [u8], first: usize, edition: Edition, kind: u8, data: &[u8]) {
+    write_in(&mut log[first * SECTOR..], first, edition, kind, data);
 }
 
 /// Writes a block's sectors to the front of some room, numbered from a sector on.
-pub fn write_in(room: &mut [u8], first: usize, kind: u8, data: &[u8]) {
+pub fn write_in(room: &mut [u8], first: usize, edition: Edition, kind: u8, data: &[u8]) {
     let score = sha1(data);
-    for (part, payload) in data.chunks(PAYLOAD).enumerate() {
+    for (part, payload) in data.chunks(edition.payload()).enumerate() {
         let label = Label {
+            edition,
             rec: first as u32,
             part: part as u16,
-            of: sectors_for(data.len()) as u16,
+            of: edition.sectors_for(data.len()) as u16,
             kind,
             size: data.len() as u16,
             score,

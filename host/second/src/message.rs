@@ -1,5 +1,6 @@
-//! Messages: their parts, the tests 1 to 10, the replies.
+//! Messages: their parts, the tests 1 to 10 with 24 among them, the replies.
 
+use crate::edition::Edition;
 use crate::kind::lawful;
 use crate::log::{well_lent, MOST_DATA};
 use crate::refusal::Refusal;
@@ -19,7 +20,7 @@ pub enum Session {
     Closed,
 }
 
-/// A request that passed tests 1 to 10.
+/// A request that passed the tests.
 #[derive(Clone, Copy, Debug, PartialEq, Eq)]
 pub enum Request<'a> {
     Hello,
@@ -32,6 +33,8 @@ pub enum Request<'a> {
         count: usize,
     },
     Write {
+        /// In which a new block is written.
+        edition: Edition,
         kind: u8,
         data: &'a [u8],
     },
@@ -64,13 +67,15 @@ pub struct Lent {
     pub waiting: Option<usize>,
 }
 
-/// Tests 1 to 10, in this order. Refusals 1 to 4 have no reply, all others an error reply.
-pub fn accept(
+/// Tests 1 to 4, 24 and 5 to 10, in this order. No date lent is a request of the earlier program, which
+/// has no test 24. Refusals 1 to 4 and 24 have no reply, all others an error reply.
+pub fn accept<'a>(
     session: Session,
-    message: &[u8],
+    message: &'a [u8],
+    date: Option<&[u8]>,
     reply_len: usize,
     lent: Lent,
-) -> Result<Request<'_>, u8> {
+) -> Result<Request<'a>, u8> {
     if message.len() < 4 || number(&message[..2]) != message.len() - 2 {
         return Err(1);
     }
@@ -83,6 +88,7 @@ pub fn accept(
     if session == Session::Closed {
         return Err(4);
     }
+    let edition = Edition::of(date)?;
     if ![2, 4, 6, 12, 14, 16].contains(&message[2]) {
         return Err(5);
     }
@@ -100,7 +106,11 @@ pub fn accept(
         Body::Goodbye => Ok(Request::Goodbye),
         Body::Sync => Ok(Request::Sync),
         Body::Read { kind, score, count } => Ok(Request::Read { kind, score, count }),
-        Body::Write { kind, data } => Ok(Request::Write { kind, data }),
+        Body::Write { kind, data } => Ok(Request::Write {
+            edition,
+            kind,
+            data,
+        }),
     }
 }
 
@@ -174,9 +184,14 @@ pub fn whole(kind: u8, tag: u8, body: &[u8]) -> Vec<u8> {
     message
 }
 
-/// The error reply of a refusal; none for 1 to 4.
+/// Whether a refused message gets no reply, and all that was lent stays as it was.
+pub fn silent(number: u8) -> bool {
+    number <= 4 || number == 24
+}
+
+/// The error reply of a refusal; none for 1 to 4 and 24.
 pub fn refusal(refused: &Refusal, tag: u8) -> Vec<u8> {
-    if refused.number <= 4 {
+    if silent(refused.number) {
         return Vec::new();
     }
     let text = refused.text();

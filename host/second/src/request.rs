@@ -1,19 +1,22 @@
 //! One request, decided by the bytes of the log and of its waiting part.
 
+use crate::edition::Edition;
 use crate::log::{joined, used, write_in, Contents, Lookup};
 use crate::message::{
     accept, hello_reply, ping_reply, read_reply, refusal, sync_reply, write_reply, Lent, Request,
 };
 use crate::refusal::Refusal;
-use crate::sector::{sectors_for, SECTOR};
+use crate::sector::SECTOR;
 use crate::sha1::{sha1, Score, ZERO_SCORE};
 use crate::Session;
 
 /// Takes a message, answers at the front of the reply buffer, appends at most one block: to the
-/// waiting part, or to the log itself if none is lent. Gives the number and the session afterwards.
+/// waiting part, or to the log itself if none is lent; with the date that is lent, or in the first
+/// edition if none is. Gives the number and the session afterwards.
 pub fn serve(
     session: Session,
     message: &[u8],
+    date: Option<&[u8]>,
     log: &mut [u8],
     waiting: Option<&mut [u8]>,
     reply: &mut [u8],
@@ -22,7 +25,7 @@ pub fn serve(
         log: log.len(),
         waiting: waiting.as_ref().map(|waiting| waiting.len()),
     };
-    let answer = accept(session, message, reply.len(), lent)
+    let answer = accept(session, message, date, reply.len(), lent)
         .map_err(Refusal::from)
         .and_then(|request| answer(session, request, message[3], log, waiting));
     let (number, text, session) = match answer {
@@ -57,8 +60,12 @@ fn answer(
             let data = read(&both, kind, &score, count)?;
             Ok((read_reply(tag, &data), session))
         }
-        Request::Write { kind, data } => {
-            let score = store(log, waiting, kind, data)?;
+        Request::Write {
+            edition,
+            kind,
+            data,
+        } => {
+            let score = store(log, waiting, edition, kind, data)?;
             Ok((write_reply(tag, &score), session))
         }
     }
@@ -87,8 +94,14 @@ fn read(log: &[u8], kind: u8, score: &Score, count: usize) -> Result<Vec<u8>, Re
     }
 }
 
-/// Stores data unless it is empty or held, and gives its score.
-fn store(log: &mut [u8], waiting: Option<&mut [u8]>, kind: u8, data: &[u8]) -> Result<Score, u8> {
+/// Stores data unless it is empty or held, in either edition and of any date, and gives its score.
+fn store(
+    log: &mut [u8],
+    waiting: Option<&mut [u8]>,
+    edition: Edition,
+    kind: u8,
+    data: &[u8],
+) -> Result<Score, u8> {
     let score = sha1(data);
     if data.is_empty() {
         return Ok(score);
@@ -105,7 +118,7 @@ fn store(log: &mut [u8], waiting: Option<&mut [u8]>, kind: u8, data: &[u8]) -> R
     if score == ZERO_SCORE {
         return Err(15);
     }
-    append(log, waiting, contents.used, kind, data)?;
+    append(log, waiting, contents.used, edition, kind, data)?;
     Ok(score)
 }
 
@@ -114,10 +127,11 @@ fn append(
     log: &mut [u8],
     waiting: Option<&mut [u8]>,
     used_of_both: usize,
+    edition: Edition,
     kind: u8,
     data: &[u8],
 ) -> Result<(), u8> {
-    let sectors = sectors_for(data.len());
+    let sectors = edition.sectors_for(data.len());
     let left_in_log = (log.len() / SECTOR).saturating_sub(used_of_both);
     let room = match waiting {
         None => &mut log[used_of_both * SECTOR..],
@@ -129,6 +143,6 @@ fn append(
     if left_in_log < sectors || room.len() / SECTOR < sectors {
         return Err(14);
     }
-    write_in(room, used_of_both, kind, data);
+    write_in(room, used_of_both, edition, kind, data);
     Ok(())
 }

@@ -1,20 +1,19 @@
-//! One sector of the log: a label of 96 bytes, 403 of payload and a check of 13.
+//! One sector of the log: a label of 96 or 110 bytes, the payload and a check of 13.
 
 use crate::crc32::crc32;
+use crate::edition::{dated, Edition};
 use crate::Score;
 
 /// Bytes in a sector.
 pub const SECTOR: usize = 512;
-/// Where the payload starts.
-pub const LABEL: usize = 96;
-/// Bytes of payload.
-pub const PAYLOAD: usize = 403;
 /// Where the check starts.
-pub const CHECK: usize = LABEL + PAYLOAD;
+pub const CHECK: usize = 499;
 
 /// What a sector's label says.
 #[derive(Clone, Copy, Debug, PartialEq, Eq)]
 pub struct Label {
+    /// Whether it begins with a date, and which.
+    pub edition: Edition,
     /// The sector number where the block starts.
     pub rec: u32,
     pub part: u16,
@@ -25,14 +24,10 @@ pub struct Label {
     pub score: Score,
 }
 
-/// The sectors that so many bytes take.
-pub fn sectors_for(size: usize) -> usize {
-    size.div_ceil(PAYLOAD)
-}
-
 /// A whole sector: the label, the payload filled up with zeros, the check.
 pub fn encode(label: &Label, payload: &[u8]) -> [u8; SECTOR] {
     let mut text = Vec::with_capacity(SECTOR);
+    text.extend(label.edition.first_line());
     line(&mut text, "rec=", &label.rec.to_be_bytes());
     line(&mut text, "part=", &label.part.to_be_bytes());
     line(&mut text, "of=", &label.of.to_be_bytes());
@@ -54,6 +49,11 @@ pub fn check(checked: &[u8]) -> Vec<u8> {
     text
 }
 
+/// The payload of a sector of this edition.
+pub fn payload(sector: &[u8], edition: Edition) -> &[u8] {
+    &sector[edition.label()..CHECK]
+}
+
 /// Whether the check fits.
 pub fn fits(sector: &[u8]) -> bool {
     sector[CHECK..] == check(&sector[..CHECK])
@@ -64,9 +64,11 @@ pub fn blank(sector: &[u8]) -> bool {
     sector.iter().all(|&byte| byte == 0)
 }
 
-/// The label, if its lines are exactly as they are written.
+/// The label, if its lines are exactly as they are written. A sector that begins with the line of a
+/// date is judged by the second edition only, any other by the first only.
 pub fn label(sector: &[u8]) -> Option<Label> {
-    let mut rest = sector;
+    let edition = dated(sector).map_or(Edition::First, Edition::Second);
+    let mut rest = &sector[edition.front()..];
     let rec = field(&mut rest, "rec=")?;
     let part = field(&mut rest, "part=")?;
     let of = field(&mut rest, "of=")?;
@@ -74,6 +76,7 @@ pub fn label(sector: &[u8]) -> Option<Label> {
     let size = field(&mut rest, "size=")?;
     let score = field(&mut rest, "score=")?;
     Some(Label {
+        edition,
         rec: u32::from_be_bytes(rec),
         part: u16::from_be_bytes(part),
         of: u16::from_be_bytes(of),

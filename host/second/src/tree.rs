@@ -4,7 +4,7 @@ use crate::kind::{DATA, DIRECTORY};
 use crate::log::{joined, used, well_lent, Block, Contents, Lookup};
 use crate::message::number;
 use crate::refusal::Refusal;
-use crate::sector::{LABEL, PAYLOAD, SECTOR};
+use crate::sector::SECTOR;
 use crate::sha1::{Score, ZERO_SCORE};
 
 /// Bytes in an entry.
@@ -130,11 +130,12 @@ pub fn locate(
     let left_in_file = usize::try_from(entry.size - offset).unwrap_or(usize::MAX);
     Ok(match leaf {
         Some(block) if at < block.size => {
-            let (place, sector) = part_of(block.first + at / PAYLOAD, used(log));
+            let payload = block.edition.payload();
+            let (place, sector) = part_of(block.first + at / payload, used(log));
             Run {
                 place,
-                start: sector * SECTOR + LABEL + at % PAYLOAD,
-                len: (PAYLOAD - at % PAYLOAD)
+                start: sector * SECTOR + block.edition.label() + at % payload,
+                len: (payload - at % payload)
                     .min(block.size - at)
                     .min(left_in_file),
             }

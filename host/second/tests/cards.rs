@@ -6,7 +6,7 @@ use second::query::{read, Value};
 use second::search::search;
 use second::sector::SECTOR;
 use second::sha1::{sha1, ZERO_SCORE};
-use second::{Refusal, Score};
+use second::{Edition, Refusal, Score};
 
 use Value::{No, NotKnown, Yes};
 
@@ -242,8 +242,8 @@ fn order_of_refusals() {
     let card = b"K=present\n";
     let ill = b"K=perhaps\n";
     let mut log = vec![0; 3 * SECTOR];
-    write(&mut log, 0, 13, card);
-    write(&mut log, 1, 13, ill);
+    write(&mut log, 0, Edition::First, 13, card);
+    write(&mut log, 1, Edition::Second(*b"20261116"), 13, ill);
     let good = entry(10, &sha1(card));
     let no = |number: u8| Err(Refusal::from(number));
     let asked = |bytes: &[u8], query: &[u8]| search(&log, &[], &[0; 5], bytes, query);
@@ -277,8 +277,9 @@ fn order_of_refusals() {
 fn where_a_card_lies() {
     let card: String = (0..40).map(|n| format!("N{n:02}=present\n")).collect();
     let mut waiting = vec![0; 2 * SECTOR];
-    write(&mut waiting, 0, 13, card.as_bytes());
-    assert!(card.len() > 403);
+    let edition = Edition::Second(*b"20261116");
+    write(&mut waiting, 0, edition, 13, card.as_bytes());
+    assert!(card.len() > edition.payload());
     let entry = entry(card.len() as u64, &sha1(card.as_bytes()));
     let mut log = vec![0; SECTOR];
     for query in ["N00 and N39", "not N40 or N39"] {

@@ -6,10 +6,12 @@ use second::ledger::{Ledger, Origin};
 use second::message::{whole, Lent};
 use second::report::print;
 use second::request::serve;
-use second::sector::{encode, fits, label, sectors_for, Label, SECTOR};
+use second::sector::{encode, fits, label, Label, SECTOR};
 use second::sha1::{sha1, ZERO_SCORE};
 use second::tree::entry;
-use second::Session;
+use second::{Edition, Session};
+
+const DATED: Edition = Edition::Second(*b"20261116");
 
 const HELLO: [u8; 13] = [0, 0x0b, 4, 0, 0, 2, 0x30, 0x32, 0, 0, 0, 0, 0];
 
@@ -20,7 +22,7 @@ fn hex(bytes: &[u8]) -> String {
 /// Serves one message in a session after a hello; gives the number and the reply's front.
 fn ask(log: &mut [u8], message: &[u8]) -> (u8, Vec<u8>) {
     let mut reply = vec![0xaa; 57_348];
-    let (number, session) = serve(Session::Ready, message, log, None, &mut reply);
+    let (number, session) = serve(Session::Ready, message, None, log, None, &mut reply);
     assert_eq!(session, Session::Ready);
     let size = usize::from(reply[0]) * 256 + usize::from(reply[1]) + 2;
     assert!(reply[size..].iter().all(|&byte| byte == 0xaa));
@@ -39,9 +41,11 @@ fn read(kind: u8, data: &[u8], count: u16) -> Vec<u8> {
 
 #[test]
 fn sectors_of_blocks() {
-    assert_eq!(sectors_for(403), 1);
-    assert_eq!(sectors_for(404), 2);
-    assert_eq!(sectors_for(57_344), 143);
+    let sectors = |edition: Edition| [389, 390, 403, 404, 57_344].map(|n| edition.sectors_for(n));
+    assert_eq!(sectors(Edition::First), [1, 1, 1, 2, 143]);
+    assert_eq!(sectors(DATED), [1, 2, 2, 2, 148]);
+    assert_eq!((Edition::First.payload(), DATED.payload()), (403, 389));
+    assert_eq!(57_344 - 147 * 389, 161);
 }
 
 /// An entry with psize 60, so 3 pointers, and dsize 1,024.
@@ -73,21 +77,25 @@ fn printed_reports() {
 
 #[test]
 fn sectors_and_their_checks() {
-    let label_in = Label {
-        rec: 0x1_ab00,
-        part: 1,
-        of: 2,
-        kind: 13,
-        size: 404,
-        score: ZERO_SCORE,
-    };
-    let mut sector = encode(&label_in, b"x");
-    assert_eq!(label(&sector), Some(label_in));
-    assert!(fits(&sector));
-    assert_eq!(sector[499..503], *b"crc=");
-    sector[7] = b'A';
-    assert_eq!(label(&sector), None);
-    assert!(!fits(&sector));
+    for edition in [Edition::First, DATED] {
+        let label_in = Label {
+            edition,
+            rec: 0x1_ab00,
+            part: 1,
+            of: 2,
+            kind: 13,
+            size: 404,
+            score: ZERO_SCORE,
+        };
+        let mut sector = encode(&label_in, b"x");
+        assert_eq!(label(&sector), Some(label_in));
+        assert!(fits(&sector));
+        assert_eq!(sector[edition.label()], b'x');
+        assert_eq!(sector[499..503], *b"crc=");
+        sector[edition.front() + 7] = b'A';
+        assert_eq!(label(&sector), None);
+        assert!(!fits(&sector));
+    }
     assert_eq!(crc32(b"123456789"), 0xcbf4_3926);
 }
 
@@ -111,8 +119,8 @@ fn ledger_and_archive_agree_after_damage() {
         write(13, b"three"),
     ];
     for (i, message) in list.iter().enumerate() {
-        let expected = ledger.request(origin, message, reply.len(), lent);
-        let (number, after) = serve(session, message, &mut log, None, &mut reply);
+        let expected = ledger.request(origin, message, None, reply.len(), lent);
+        let (number, after) = serve(session, message, None, &mut log, None, &mut reply);
         assert_eq!((number, after), (expected.number, expected.session));
         assert_eq!(reply[..expected.reply.len()], expected.reply);
         session = after;
@@ -121,7 +129,7 @@ fn ledger_and_archive_agree_after_damage() {
     log[2 * SECTOR - 1] = 7;
     ledger.damage([1].into());
     let message = read(13, b"two", 3);
-    let expected = ledger.request(origin, &message, 57_348, lent);
+    let expected = ledger.request(origin, &message, None, 57_348, lent);
     assert_eq!(expected.number, 12);
     assert!(expected.reply.ends_with(b"why=12 at=00000001"));
     assert_eq!(ask(&mut log, &message), (12, expected.reply));

@@ -2,12 +2,15 @@
 
 use second::kind::{DATA, DIRECTORY, ROOT};
 use second::log::{used, write, Contents, Lookup};
-use second::sector::{LABEL, SECTOR};
+use second::sector::SECTOR;
 use second::sha1::{sha1, ZERO_SCORE};
 use second::tree::{locate, Place};
 use second::walk::walk;
-use second::Score;
+use second::{Edition, Score};
 use std::fmt::Write;
+
+/// In which the program writes its blocks.
+const EDITION: Edition = Edition::Second(*b"20261116");
 
 /// Flag bits of an entry.
 const ACTIVE: u8 = 1;
@@ -50,7 +53,7 @@ impl Trees {
         let score = sha1(data);
         if let Lookup::Missing(_) = Contents::of(&self.log).lookup(kind, &score) {
             let first = used(&self.log);
-            write(&mut self.log, first, kind, data);
+            write(&mut self.log, first, EDITION, kind, data);
         }
         score
     }
@@ -100,7 +103,7 @@ impl Trees {
     }
 
     fn damage(&mut self, sector: usize) {
-        let byte = &mut self.log[SECTOR * sector + LABEL];
+        let byte = &mut self.log[SECTOR * sector + EDITION.label()];
         *byte = !*byte;
     }
 

@@ -38,7 +38,10 @@ impl History {
             waiting: waiting.map(|sectors| sectors * SECTOR),
         };
         let mut account = Account::new(lent);
-        assert_eq!(account.request(Origin::Fresh, &HELLO, 57_348).number, 0);
+        assert_eq!(
+            account.request(Origin::Fresh, &HELLO, None, 57_348).number,
+            0
+        );
         History {
             log: account.log().to_vec(),
             waiting: account.waiting().map(<[u8]>::to_vec),
@@ -47,10 +50,14 @@ impl History {
     }
 
     fn ask(&mut self, message: &[u8]) -> u8 {
-        let expected = self.account.request(Origin::After(0), message, 57_348);
+        let date = Some(&b"20261116"[..]);
+        let expected = self
+            .account
+            .request(Origin::After(0), message, date, 57_348);
         let mut reply = vec![0; 57_348];
         let waiting = self.waiting.as_deref_mut();
-        let answer = serve(Session::Ready, message, &mut self.log, waiting, &mut reply);
+        let log = &mut self.log;
+        let answer = serve(Session::Ready, message, date, log, waiting, &mut reply);
         assert_eq!(answer, (expected.number, expected.session));
         assert_eq!(reply[..expected.reply.len()], expected.reply);
         assert_eq!(self.log, self.account.log());
@@ -176,7 +183,7 @@ fn a_stop_inside_a_write() {
     assert_eq!(history.ask(&block(b"settled")), 0);
     let begun = history
         .account
-        .begin(Origin::After(0), &block(b"x"), 57_348);
+        .begin(Origin::After(0), &block(b"x"), None, 57_348);
     assert_eq!(begun.effect, Effect::Adds);
     assert_eq!(history.account.on_their_way().len(), 1);
     let log = history.log.clone();

@@ -1,47 +1,73 @@
 -- `append_block` meets its contract.
+use Prim.Native.Nat.{ℕ, _+_, _-_, _*_, _≤_, _<_}
+use native.Mathlib.Omega.{arith}
+use Rattle.append.proofs.Images.{front-short, room-behind, dated-written}
 use borrow.Author.Needs.{needs}
-use Rattle.append.specs.Append.{rowOf}
-use Rattle.append.proofs.Images.{block-written}
 use Rattle.append.proofs.append_block.Statement.{statement}
 use Rattle.append.proofs.append_block.Tie as tie
+use Rattle.append.proofs.append_block.Reads as reads
+use Rattle.append.proofs.append_block.Lts as lts
+use Rattle.append.proofs.write_parts.Reads as write-parts-reads
+use Rattle.sector.proofs.write_front.Reads as write-front-reads
 
+-- src/lib.rt:92:25
+slice-aggregate-write-front : tie.Need-slice-aggregate-write-front
+slice-aggregate-write-front c = search needs
+
+-- src/lib.rt:92:5
+write-front-requires : tie.Need-write-front-requires
+write-front-requires c κs = search needs
+
+-- src/lib.rt:93:24
 sub-at : tie.Need-sub-at
 sub-at c = search needs
 
+-- src/lib.rt:93:14
 mul-at : tie.Need-mul-at
 mul-at c = search needs
 
+-- src/lib.rt:94:17
 sub-write-parts : tie.Need-sub-write-parts
 sub-write-parts c = search needs
 
+-- src/lib.rt:94:17
 part-write-parts-start : tie.Need-part-write-parts-start
 part-write-parts-start c = search needs
 
+-- src/lib.rt:94:17
 part-write-parts-end : tie.Need-part-write-parts-end
 part-write-parts-end c = search needs
 
-write-parts-requires : tie.Need-write-parts-requires
-write-parts-requires c κs = search needs
+-- src/lib.rt:94:34
+slice-aggregate-write-parts : tie.Need-slice-aggregate-write-parts
+slice-aggregate-write-parts c = search needs
 
+-- src/lib.rt:94:5
+write-parts-requires : tie.Need-write-parts-requires
+write-parts-requires c κs =
+    ((c .before .before .before .before .before .before .before .before .before .before .before .pre .0), (c .before .before .before .before .before .before .before .before .before .before .before .pre .1), front-short ((c .before .before .before .before .before .before .before .before .before .before .before .args .date .now)) _ ((c .before .before .before .before .before .before .before .before .before .before .before .args) .«data» .now) ((c .before .before .before .before .before .before .before .before .before .before .before .args .part .now)) 0 ((c .before .before .before .before .before .before .before .before .before .before .before .pre .2)) ((c .before .before .before .before .before .write-front .ensures)), room-behind ((c .before .before .before .before .before .before .before .before .before .before .before .args .date .now)) _ ((c .before .before .before .before .before .before .before .before .before .before .before .args) .«data» .now) ((c .before .before .before .before .before .before .before .before .before .before .before .args .part .now)) ((c .before .before .before .before .before .before .before .before .before .before .before .args .first .0) - (c .before .before .before .before .before .before .before .before .before .before .before .args .from .0)) ((c .before .before .before .before .before .before .before .before .before .before .before .pre .2)) ((c .before .before .before .before .before .write-front .ensures)) ((c .before .before .before .before .before .before .before .before .before .before .before .pre .4)))
+
+-- src/lib.rt:79:1
 same-length : tie.Need-same-length
 same-length c = search needs
 
+-- src/lib.rt:79:1
 returns : tie.Need-returns
 returns c =
-    let s = c .before .before .before .before .before .before .before .before .before in
-    let a = s .args in
-    block-written (a .from .0) (a .part .now) _ (rowOf (a .kind) (a .score .now) (a .«data» .now) (a .first .0)) (s .pre .1) (s .pre .3)
-    (c .before .before .write-parts .ensures)
+    dated-written ((c .before .before .before .before .before .before .before .before .before .before .before .before .before .before .args .from .0)) ((c .before .before .before .before .before .before .before .before .before .before .before .before .before .before .args .kind)) ((c .before .before .before .before .before .before .before .before .before .before .before .before .before .before .args .first .0)) ((c .before .before .before .before .before .before .before .before .before .before .before .before .before .before .args .part .now)) _ ((c .before .before .before .before .before .before .before .before .before .before .before .before .before .before .args .score .now)) ((c .before .before .before .before .before .before .before .before .before .before .before .before .before .before .args) .«data» .now) ((c .before .before .before .before .before .before .before .before .before .before .before .before .before .before .args .date .now)) _ ((c .before .before .before .before .before .before .before .before .before .before .before .before .before .before .pre .2)) ((c .before .before .before .before .before .before .before .before .write-front .ensures)) ((c .before .before .before .before .before .before .before .before .before .before .before .before .before .before .pre .1)) ((c .before .before .before .before .before .before .before .before .before .before .before .before .before .before .pre .4)) ((c .before .before .write-parts .ensures))
 
 pub append-block-spec : {M : Type 1} → statement M
 append-block-spec =
     tie.close
     (tie.spec
+    slice-aggregate-write-front
+    write-front-requires
     sub-at
     mul-at
     sub-write-parts
     part-write-parts-start
     part-write-parts-end
+    slice-aggregate-write-parts
     write-parts-requires
     same-length
     returns)

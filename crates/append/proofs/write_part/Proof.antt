@@ -1,73 +1,105 @@
 -- `write_part` meets its contract.
+use mathlib.Core.Path.{_≡_, sym, ap, _∙_}
+use Prim.Native.Nat.{ℕ, _+_, _-_, _*_, _≤_, _<_}
 use native.Mathlib.Omega.{arith}
-use borrow.Author.Needs.{needs}
-use Rattle.block.specs.Block.{partsOf}
+use lib.ListN.{length}
 use Rattle.append.specs.Append.{rowOf}
-use Rattle.append.proofs.Images.{part-written}
+use Rattle.append.proofs.Images.{start-behind, sector-made}
+use borrow.Author.Needs.{needs}
 use Rattle.append.proofs.write_part.Statement.{statement}
 use Rattle.append.proofs.write_part.Tie as tie
+use Rattle.append.proofs.write_part.Reads as reads
+use Rattle.append.proofs.write_part.Lts as lts
+use Rattle.append.proofs.smaller.Reads as smaller-reads
+use Rattle.block.proofs.parts_of.Reads as parts-of-reads
+use Rattle.block.proofs.payload_of.Reads as payload-of-reads
+use Rattle.sector.proofs.write_sector.Reads as write-sector-reads
 
-add-next : tie.Need-add-next
-add-next c = search needs
+-- src/lib.rt:39:17
+add-label : tie.Need-add-label
+add-label c = search needs
 
+-- src/lib.rt:40:9
+payload-of-requires : tie.Need-payload-of-requires
+payload-of-requires c κs = search needs
+
+-- src/lib.rt:41:16
 mul-from : tie.Need-mul-from
-mul-from c = search needs
+mul-from c =
+    let b = start-behind ((c .before .before .before .before .before .args .front .now)) ((c .before .before .before .before .before .args) .«data» .now) ((c .before .before .before .before .before .args .k)) _ ((c .before .before .before .before .before .pre .2)) ((c .before .before .before .before .before .pre .4)) ((c .payload-of .ensures)) in
+    omega (arith, (c .before .before .before .before .before .pre .0))
 
-mul-smaller : tie.Need-mul-smaller
-mul-smaller c = search needs
+-- src/lib.rt:42:22
+add-smaller : tie.Need-add-smaller
+add-smaller c =
+    let b = start-behind ((c .before .before .before .before .before .args .front .now)) ((c .before .before .before .before .before .args) .«data» .now) ((c .before .before .before .before .before .args .k)) _ ((c .before .before .before .before .before .pre .2)) ((c .before .before .before .before .before .pre .4)) ((c .payload-of .ensures)) in
+    omega (arith, (c .before .before .before .before .before .pre .0), (c .payload-of .ensures))
 
+-- src/lib.rt:42:9
 smaller-requires : tie.Need-smaller-requires
 smaller-requires c κs = search needs
 
+-- src/lib.rt:43:17
 sub-piece : tie.Need-sub-piece
-unfolding partsOf
-sub-piece c = omega arith
+sub-piece c =
+    let b = start-behind ((c .before .before .before .before .before .before .args .front .now)) ((c .before .before .before .before .before .before .args) .«data» .now) ((c .before .before .before .before .before .before .args .k)) _ ((c .before .before .before .before .before .before .pre .2)) ((c .before .before .before .before .before .before .pre .4)) ((c .before .payload-of .ensures)) in
+    omega (arith, (c .smaller .ensures))
 
+-- src/lib.rt:43:17
 part-piece-start : tie.Need-part-piece-start
-unfolding partsOf
-part-piece-start c = omega arith
+part-piece-start c =
+    let b = start-behind ((c .before .before .before .before .before .before .args .front .now)) ((c .before .before .before .before .before .before .args) .«data» .now) ((c .before .before .before .before .before .before .args .k)) _ ((c .before .before .before .before .before .before .pre .2)) ((c .before .before .before .before .before .before .pre .4)) ((c .before .payload-of .ensures)) in
+    omega (arith, (c .smaller .ensures))
 
+-- src/lib.rt:43:17
 part-piece-end : tie.Need-part-piece-end
 part-piece-end c = search needs
 
+-- src/lib.rt:44:9
 parts-of-requires : tie.Need-parts-of-requires
 parts-of-requires c κs = search needs
 
+-- src/lib.rt:52:14
 mul-at : tie.Need-mul-at
 mul-at c = search needs
 
+-- src/lib.rt:53:15
 add-end : tie.Need-add-end
 add-end c = search needs
 
+-- src/lib.rt:54:26
 sub-write-sector : tie.Need-sub-write-sector
 sub-write-sector c = search needs
 
+-- src/lib.rt:54:26
 part-write-sector-start : tie.Need-part-write-sector-start
 part-write-sector-start c = search needs
 
+-- src/lib.rt:54:26
 part-write-sector-end : tie.Need-part-write-sector-end
 part-write-sector-end c = search needs
 
+-- src/lib.rt:54:5
 write-sector-requires : tie.Need-write-sector-requires
 write-sector-requires c κs = search needs
 
+-- src/lib.rt:27:1
 same-length : tie.Need-same-length
 same-length c = search needs
 
+-- src/lib.rt:27:1
 returns : tie.Need-returns
 returns c =
-    let s = c .before .before .before .before .before .before .before .before .before .before in
-    let a = s .args in
-    part-written (rowOf (a .kind) (a .score .now) (a .«data» .now) (a .first .0)) (a .part .now) (a .k) (s .pre .1) (s .pre .2) (s .pre .3)
-    _ (c .before .before .before .before .parts-of .result) (c .before .before .before .before .before .before .smaller .result) (c .before .before .before .before .parts-of .ensures) (c .before .before .before .before .before .before .smaller .ensures) (c .before .before .write-sector .ensures)
+    λ date f. sector-made (rowOf ((c .before .before .before .before .before .before .before .before .before .before .before .before .args .kind)) ((c .before .before .before .before .before .before .before .before .before .before .before .before .args .score .now)) ((c .before .before .before .before .before .before .before .before .before .before .before .before .args) .«data» .now) ((c .before .before .before .before .before .before .before .before .before .before .before .before .args .first .0)) date) ((c .before .before .before .before .before .before .before .before .before .before .before .before .args .part .now)) ((c .before .before .before .before .before .before .before .before .before .before .before .before .args .front .now)) ((c .before .before .before .before .before .before .before .before .before .before .before .before .args .k)) f ((c .before .before .before .before .before .before .before .before .before .before .before .before .pre .1)) ((c .before .before .before .before .before .before .before .before .before .before .before .before .pre .2)) ((c .before .before .before .before .before .before .before .before .before .before .before .before .pre .3)) ((c .before .before .before .before .before .before .before .before .before .before .before .before .pre .4)) _ _ _ _ ((c .before .before .before .before .before .before .before .payload-of .ensures)) ((c .before .before .before .before .parts-of .ensures)) ((c .before .before .before .before .before .before .smaller .ensures)) ((c .before .before .write-sector .ensures))
 
 pub write-part-spec : {M : Type 1} → statement M
 write-part-spec =
     tie.close
     (tie.spec
-    add-next
+    add-label
+    payload-of-requires
     mul-from
-    mul-smaller
+    add-smaller
     smaller-requires
     sub-piece
     part-piece-start

@@ -5,30 +5,40 @@ use Rattle.archive.proofs.Laws.{outcome, head-block}
 use borrow.Author.Needs.{needs}
 use Rattle.archive.proofs.answer_read.Statement.{statement}
 use Rattle.archive.proofs.answer_read.Tie as tie
+use Rattle.archive.proofs.answer_read.Reads as reads
+use Rattle.archive.proofs.answer_read.Lts as lts
+use Rattle.message.proofs.write_head.Reads as write-head-reads
+use Rattle.reader.proofs.copy_out.Reads as copy-out-reads
 
+-- src/lib.rt:123:5
 write-head-requires : tie.Need-write-head-requires
 write-head-requires c κs = search needs
 
+-- src/lib.rt:124:44
 sub-copy-out : tie.Need-sub-copy-out
 sub-copy-out c = search needs
 
+-- src/lib.rt:124:44
 part-copy-out-start : tie.Need-part-copy-out-start
 part-copy-out-start c = search needs
 
+-- src/lib.rt:124:44
 part-copy-out-end : tie.Need-part-copy-out-end
 part-copy-out-end c = search needs
 
+-- src/lib.rt:124:5
 copy-out-requires : tie.Need-copy-out-requires
 copy-out-requires c κs = search needs
 
+-- src/lib.rt:112:1
 same-length : tie.Need-same-length
 same-length c = search needs
 
+-- src/lib.rt:112:1
 returns : tie.Need-returns
 returns c =
-    let a = c .before .before .before .before .before .before .before .before .before .before .before .args in
     outcome _ _ _ _ _ _ _ refl
-    (head-block (a .reply .now) _ _ (joined (a .end .0) (a .log .now) (a .waiting .now)) (a .tag) (a .first .0) (a .size) (c .before .before .before .before .before .before .write-head .ensures) (c .before .before .copy-out .ensures))
+    (head-block ((c .before .before .before .before .before .before .before .before .before .before .before .args .reply .now)) _ _ (joined ((c .before .before .before .before .before .before .before .before .before .before .before .args .end .0)) ((c .before .before .before .before .before .before .before .before .before .before .before .args .log .now)) ((c .before .before .before .before .before .before .before .before .before .before .before .args .waiting .now))) ((c .before .before .before .before .before .before .before .before .before .before .before .args .tag)) ((c .before .before .before .before .before .before .before .before .before .before .before .args .b)) ((c .before .before .before .before .before .before .before .before .before .before .before .pre .1 .1)) ((c .before .before .before .before .before .before .write-head .ensures)) ((c .before .before .copy-out .ensures)))
 
 pub answer-read-spec : {M : Type 1} → statement M
 answer-read-spec =

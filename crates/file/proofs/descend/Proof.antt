@@ -1,5 +1,5 @@
 -- `file::descend` meets its contract: the run under the score reached, at its level, is the run under the top score, for every offset of the leaf.
-use mathlib.Core.Path.{_≡_, sym, ap, _∙_}
+use mathlib.Core.Path.{_≡_, refl, sym, ap, _∙_}
 use Prim.Native.Nat.{ℕ, suc, _+_, _-_, _/_, _%_, _^_, _<_}
 use native.Mathlib.Omega.{arith}
 use lib.ListN.{length}
@@ -55,7 +55,7 @@ returns c =
     let is-zero-score = c .before .is-zero-score in
     let if1 = c .if1 in
     let log = joined (a .end .0) (a .log .now) (a .waiting .now) in
-    (omega arith, λ page o q. under-empty log page (a .e) o (l .level) (l .score) _ 0 (is-zero-score .ensures) (if1 .taken) ∙ l .inv .2 page o q)
+    ((omega arith, omega arith), λ page o q. under-empty log page (a .e) o (l .level) (l .score) _ _ refl (is-zero-score .ensures) (if1 .taken) ∙ l .inv .2 page o q)
 
 add-fetch : tie.Need-add-fetch Inv-loop μ-loop
 add-fetch c = search needs
@@ -90,7 +90,7 @@ returns-2 c =
     let enum-told = c .enum-told in
     let log = joined (a .end .0) (a .log .now) (a .waiting .now) in
     let e : l .level ≡ suc (l .level - 1) = omega (arith, loop-test .taken) in (
-      omega (arith, look-room log (2 + l .level) (l .score) (a .e .psize) (fetch .result) (fetch .ensures), sectors-joined (a .end .0) (a .log .now) (a .waiting .now) (p .0)),
+      look-room log (2 + l .level) (l .score) (a .e .psize) (fetch .result) (fetch .ensures) _ (sectors-joined (a .end .0) (a .log .now) (a .waiting .now) (p .0)),
       λ page o q. level-refused log page (a .e) o (l .level) (l .level - 1) e (l .score) _ (is-zero-score .ensures) (if1 .left) (fetch .result) (fetch .ensures) _
           (enum-told .given .1)
           ∙ l .inv .2 page o q,
@@ -98,62 +98,64 @@ returns-2 c =
 
 returns-3 : tie.Need-returns-3 Inv-loop μ-loop
 returns-3 c =
-    let a = c .before .before .before .before .before .before .before .before .before .before .before .before .before .before .before .before .before .before .args in
-    let l = c .before .before .before .before .before .before .before .before .before .before .loop in
-    let fetch = c .before .before .before .before .fetch in
-    let loop-test = c .before .before .before .before .before .before .before .before .before .loop-test in
-    let is-zero-score = c .before .before .before .before .before .before .before .is-zero-score in
-    let if1 = c .before .before .before .before .before .before .if1 in
-    let look = c .before .before .look in
+    let a = c .before .before .before .before .before .before .before .before .before .before .before .before .before .before .before .before .before .before .before .args in
+    let l = c .before .before .before .before .before .before .before .before .before .before .before .loop in
+    let fetch = c .before .before .before .before .before .fetch in
+    let loop-test = c .before .before .before .before .before .before .before .before .before .before .loop-test in
+    let is-zero-score = c .before .before .before .before .before .before .before .before .is-zero-score in
+    let if1 = c .before .before .before .before .before .before .before .if1 in
+    let look = c .before .before .before .look in
     let if2 = c .if2 in
     let log = joined (a .end .0) (a .log .now) (a .waiting .now) in
     let e : l .level ≡ suc (l .level - 1) = omega (arith, loop-test .taken) in (
-      omega arith,
-      λ page o q. level-ragged log page (a .e) o (l .level) (l .level - 1) e (l .score) _ (is-zero-score .ensures) (if1 .left) (fetch .result) (fetch .ensures) _ _
+      tt,
+      λ page o q. level-ragged log page (a .e) o (l .level) (l .level - 1) e (l .score) _ (is-zero-score .ensures) (if1 .left) (fetch .result) (fetch .ensures) _
           (look .given .1) (if2 .taken)
           ∙ l .inv .2 page o q,
     )
 
 sub-level : tie.Need-sub-level Inv-loop μ-loop
-sub-level c = omega (arith, c .before .before .before .before .before .before .before .before .before .loop-test .taken)
+sub-level c = omega (arith, c .before .before .before .before .before .before .before .before .before .before .loop-test .taken)
 
 digit-requires : tie.Need-digit-requires Inv-loop μ-loop
-digit-requires c κs = omega (arith, c .before .before .before .before .before .before .before .before .before .before .before .before .before .before .before .before .before .before .pre .1 .psize-from)
+digit-requires c κs = omega (arith, c .before .before .before .before .before .before .before .before .before .before .before .before .before .before .before .before .before .before .before .pre .1 .psize-from)
 
 score-at-requires : tie.Need-score-at-requires Inv-loop μ-loop
 score-at-requires c κs =
-    let a = c .before .before .before .before .before .before .before .before .before .before .before .before .before .before .before .before .before .before .before .args in
-    let p = c .before .before .before .before .before .before .before .before .before .before .before .before .before .before .before .before .before .before .before .pre in
-    let l = c .before .before .before .before .before .before .before .before .before .before .before .loop in
-    let fetch = c .before .before .before .before .before .fetch in
+    let a = c .before .before .before .before .before .before .before .before .before .before .before .before .before .before .before .before .before .before .before .before .args in
+    let p = c .before .before .before .before .before .before .before .before .before .before .before .before .before .before .before .before .before .before .before .before .pre in
+    let l = c .before .before .before .before .before .before .before .before .before .before .before .before .loop in
+    let fetch = c .before .before .before .before .before .before .fetch in
     let digit = c .digit in
-    let look = c .before .before .before .look in
+    let look = c .before .before .before .before .look in
     let if2 = c .before .if2 in
     let log = joined (a .end .0) (a .log .now) (a .waiting .now) in
-    let room = found-room log (2 + l .level) (l .score) (a .e .psize) (fetch .result) _ _ (fetch .ensures) (look .given .1) in
+    let room = found-room log (2 + l .level) (l .score) (a .e .psize) (fetch .result) (fetch .ensures) _ (sectors-joined (a .end .0) (a .log .now) (a .waiting .now) (p .0)) _ (look .given .1) in
     let small = digit-small (a .e .psize) _ (digit .result) (p .1 .psize-from) (p .1 .psize-to) (digit .ensures) in
-    (p .0, omega (arith, room, sectors-joined (a .end .0) (a .log .now) (a .waiting .now) (p .0)), if2 .left, omega (arith, small))
+    (p .0, room, if2 .left, omega (arith, small))
 
 loop-less : tie.Need-loop-less Inv-loop μ-loop
-loop-less c = omega (arith, c .before .before .before .before .before .before .before .before .before .before .before .loop-test .taken)
+loop-less c = omega (arith, c .before .before .before .before .before .before .before .before .before .before .before .before .loop-test .taken)
 
 loop-again : tie.Need-loop-again Inv-loop μ-loop
 loop-again c =
-    let a = c .before .before .before .before .before .before .before .before .before .before .before .before .before .before .before .before .before .before .before .before .args in
-    let l = c .before .before .before .before .before .before .before .before .before .before .before .before .loop in
-    let fetch = c .before .before .before .before .before .before .fetch in
-    let look = c .before .before .before .before .look in
+    let a = c .before .before .before .before .before .before .before .before .before .before .before .before .before .before .before .before .before .before .before .before .before .args in
+    let p = c .before .before .before .before .before .before .before .before .before .before .before .before .before .before .before .before .before .before .before .before .before .pre in
+    let l = c .before .before .before .before .before .before .before .before .before .before .before .before .before .loop in
+    let fetch = c .before .before .before .before .before .before .before .fetch in
+    let look = c .before .before .before .before .before .look in
     let if2 = c .before .before .if2 in
     let score-at = c .score-at in
-    let loop-test = c .before .before .before .before .before .before .before .before .before .before .before .loop-test in
-    let is-zero-score = c .before .before .before .before .before .before .before .before .before .is-zero-score in
-    let if1 = c .before .before .before .before .before .before .before .before .if1 in
+    let loop-test = c .before .before .before .before .before .before .before .before .before .before .before .before .loop-test in
+    let is-zero-score = c .before .before .before .before .before .before .before .before .before .before .is-zero-score in
+    let if1 = c .before .before .before .before .before .before .before .before .before .if1 in
     let digit = c .before .digit in
     let log = joined (a .end .0) (a .log .now) (a .waiting .now) in
+    let room = found-room log (2 + l .level) (l .score) (a .e .psize) (fetch .result) (fetch .ensures) _ (sectors-joined (a .end .0) (a .log .now) (a .waiting .now) (p .0)) _ (look .given .1) in
     let e : l .level ≡ suc (l .level - 1) = omega (arith, loop-test .taken) in (
       omega (arith, l .inv .0),
-      next-score log _ _ _ _ (score-at .ensures) (if2 .left),
-      λ page o q. level-next log page (a .e) o (l .level) (l .level - 1) e (l .score) _ (is-zero-score .ensures) (if1 .left) (fetch .result) (fetch .ensures) _ _
+      next-score log _ _ _ (room .1) (score-at .ensures) (if2 .left),
+      λ page o q. level-next log page (a .e) o (l .level) (l .level - 1) e (l .score) _ (is-zero-score .ensures) (if1 .left) (fetch .result) (fetch .ensures) _
           (look .given .1) _ _ (if2 .left)
           (digit .ensures ∙ ap (λ (n : ℕ). n / pointers (a .e) ^ (l .level - 1) % pointers (a .e)) (sym q)) (score-at .ensures)
           ∙ l .inv .2 page o q,
@@ -182,7 +184,7 @@ returns-4 c =
     let log = joined (a .end .0) (a .log .now) (a .waiting .now) in
     let t = type-at .result in
     let z : l .level ≡ 0 = omega (arith, loop-test .left) in (
-      omega (arith, look-room log t (l .score) (a .e .dsize) (fetch2 .result) (fetch2 .ensures), sectors-joined (a .end .0) (a .log .now) (a .waiting .now) (p .0)),
+      look-room log t (l .score) (a .e .dsize) (fetch2 .result) (fetch2 .ensures) _ (sectors-joined (a .end .0) (a .log .now) (a .waiting .now) (p .0)),
       λ page o q. leaf-looked-up log page (a .e) o (l .score) t (type-at .ensures) (fetch2 .result) (fetch2 .ensures)
           ∙ ap (λ (n : ℕ). under log page (a .e) o n (l .score)) (sym z) ∙ l .inv .2 page o q,
     )

@@ -9,7 +9,7 @@ use Rattle.lookup.proofs.Laws.{lent-sectors}
 use Rattle.entry.specs.Entry.{scoreOf}
 use Rattle.file.specs.File.{split}
 use Rattle.file.proofs.Tests.{entry-whole, readable-length, opened, stops-log, stops-page, stops-entry, stops-offset, goes-down, shown}
-use Rattle.file.proofs.Places.{place-small}
+use Rattle.file.proofs.Places.{lies-more, few-sectors}
 use Rattle.file.proofs.Border.{border-split}
 use borrow.Author.Needs.{needs}
 use Rattle.file.proofs.locate.Statement.{statement}
@@ -132,7 +132,7 @@ run-in-requires c κs =
     let l = readable-length (a .entry .now) _ readable yes in
     let o = opened (a .entry .now) _ (a .offset) _ readable yes (entry-whole (a .entry .now) _ l (entry-at .ensures)) (if4 .left) in
     let few = lent-sectors (length (a .log .now)) (length (a .waiting .now)) _ (are-allowed .ensures) (not-false _ (if1 .left)) in
-    (o .dsize-from, o .inside, place-small _ (border .result .0) (length (a .log .now)) (length (a .waiting .now)) (descend .ensures .0) (border .ensures .0) (few .0) (few .1))
+    (o .dsize-from, o .inside, lies-more _ _ (descend .result) (few-sectors (border .result .0) (length (a .log .now)) (length (a .waiting .now)) (border .ensures .0) (few .0) (few .1)) (descend .ensures .0))
 
 split-requires : tie.Need-split-requires
 split-requires c κs =

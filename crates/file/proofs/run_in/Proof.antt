@@ -1,8 +1,7 @@
 -- `file::run_in` meets its contract, case by case.
-use mathlib.Core.Path.{_≡_, sym, ap, _∙_}
-use Prim.Native.Nat.{ℕ}
-use native.Mathlib.Omega.{arith}
-use Rattle.file.specs.Fetch.{endOf, runIn}
+use mathlib.Core.Path.{sym, ap, _∙_, subst}
+use Prim.Native.Nat.{_^_}
+use Rattle.file.specs.Fetch.{LiesIn, runIn}
 use borrow.Author.Needs.{needs}
 use Rattle.file.proofs.run_in.Statement.{statement}
 use Rattle.file.proofs.run_in.Tie as tie
@@ -13,7 +12,7 @@ enum-known-look c = search needs
 leaf-run-requires : tie.Need-leaf-run-requires
 leaf-run-requires c κs =
     let p = c .before .before .before .pre in
-    (p .0, p .1, omega (arith, p .2, ap endOf (c .before .look .given .1)))
+    (p .0, p .1, subst (LiesIn (2 ^ 54)) (c .before .look .given .1) (p .2))
 
 enum-known-look-2 : tie.Need-enum-known-look-2
 enum-known-look-2 c = search needs

@@ -6,7 +6,6 @@ use native.Mathlib.Omega.{arith}
 use lib.ListN.{length}
 use Rattle.block.specs.Log.{joined}
 use Rattle.block.proofs.Joined.{sectors-joined}
-use Rattle.file.specs.Fetch.{endOf}
 use Rattle.fill.specs.Fill.{byteBelow, gathered, filledWith}
 use Rattle.fill.proofs.Gather.{rest-all, rest-none}
 use Rattle.fill.proofs.Tests.{open-on}
@@ -68,7 +67,7 @@ returns c =
     let l = c .before .before .before .before .before .loop in
     let loop-test = c .before .before .before .before .loop-test in
     let descend = c .before .before .before .descend in
-    let room = room-both (a .end .0) (a .log .now) (a .waiting .now) (p .0) (endOf (descend .result)) (descend .ensures .0) in
+    let room = room-both (a .end .0) (a .log .now) (a .waiting .now) (p .0) (descend .result) (descend .ensures .0) in
     let enum-told = c .before .enum-told in
     let stop-of = c .stop-of in
     let full : (lesser .result) ≤ length (a .d .now) = omega (arith, (lesser .ensures)) in
@@ -102,7 +101,7 @@ add-next c =
     let l = c .before .before .before .before .before .before .before .loop in
     let loop-test = c .before .before .before .before .before .before .loop-test in
     let descend = c .before .before .before .before .before .descend in
-    let room = room-both (a .end .0) (a .log .now) (a .waiting .now) (p .0) (endOf (descend .result)) (descend .ensures .0) in
+    let room = room-both (a .end .0) (a .log .now) (a .waiting .now) (p .0) (descend .result) (descend .ensures .0) in
     let look = c .before .before .before .look in
     let lesser2 = c .lesser2 in
     let full : (lesser .result) ≤ length (a .d .now) = omega (arith, (lesser .ensures)) in
@@ -110,7 +109,7 @@ add-next c =
       arith,
       full,
       leaf-within log (a .e) (a .top .now) (a .offset) (lesser .result) (a .d .now) (l .d) (l .done) (p .1 .dsize-from) full (l .inv) (loop-test .taken)
-          (descend .result) room (descend .ensures .1) _ _ (look .given .1) (lesser2 .result) (lesser2 .ensures),
+          (descend .result) room (descend .ensures .1) _ (look .given .1) (lesser2 .result) (lesser2 .ensures),
     )
 
 sub-read-part : tie.Need-sub-read-part Inv-loop μ-loop
@@ -128,7 +127,7 @@ part-read-part-end c =
     let l = c .before .before .before .before .before .before .before .loop in
     let loop-test = c .before .before .before .before .before .before .loop-test in
     let descend = c .before .before .before .before .before .descend in
-    let room = room-both (a .end .0) (a .log .now) (a .waiting .now) (p .0) (endOf (descend .result)) (descend .ensures .0) in
+    let room = room-both (a .end .0) (a .log .now) (a .waiting .now) (p .0) (descend .result) (descend .ensures .0) in
     let look = c .before .before .before .look in
     let lesser2 = c .lesser2 in
     let full : (lesser .result) ≤ length (a .d .now) = omega (arith, (lesser .ensures)) in
@@ -137,7 +136,7 @@ part-read-part-end c =
       full,
       l .inv .1,
       leaf-within log (a .e) (a .top .now) (a .offset) (lesser .result) (a .d .now) (l .d) (l .done) (p .1 .dsize-from) full (l .inv) (loop-test .taken)
-          (descend .result) room (descend .ensures .1) _ _ (look .given .1) (lesser2 .result) (lesser2 .ensures),
+          (descend .result) room (descend .ensures .1) _ (look .given .1) (lesser2 .result) (lesser2 .ensures),
     )
 
 read-part-requires : tie.Need-read-part-requires Inv-loop μ-loop
@@ -149,18 +148,18 @@ read-part-requires c κs =
     let l = c .before .before .before .before .before .before .before .before .loop in
     let loop-test = c .before .before .before .before .before .before .before .loop-test in
     let descend = c .before .before .before .before .before .before .descend in
-    let room = room-both (a .end .0) (a .log .now) (a .waiting .now) (p .0) (endOf (descend .result)) (descend .ensures .0) in
+    let room = room-both (a .end .0) (a .log .now) (a .waiting .now) (p .0) (descend .result) (descend .ensures .0) in
     let look = c .before .before .before .before .look in
     let lesser2 = c .before .lesser2 in
     let full : (lesser .result) ≤ length (a .d .now) = omega (arith, (lesser .ensures)) in
     let w = leaf-within log (a .e) (a .top .now) (a .offset) (lesser .result) (a .d .now) (l .d) (l .done) (p .1 .dsize-from) full (l .inv) (loop-test .taken)
-    (descend .result) room (descend .ensures .1) _ _ (look .given .1) (lesser2 .result) (lesser2 .ensures) in
+    (descend .result) room (descend .ensures .1) _ (look .given .1) (lesser2 .result) (lesser2 .ensures) in
     let ends = leaf-ends log (a .e) (a .top .now) (a .offset) (lesser .result) (a .d .now) (l .d) (l .done) (p .1 .dsize-from) full (l .inv) (loop-test .taken)
-    (descend .result) room (descend .ensures .1) _ _ (look .given .1) (lesser2 .result) (lesser2 .ensures) in
+    (descend .result) room (descend .ensures .1) _ (look .given .1) (lesser2 .result) (lesser2 .ensures) in
     let fits = leaf-room log (a .e) (a .top .now) (a .offset) (lesser .result) (a .d .now) (l .d) (l .done) (p .1 .dsize-from) full (l .inv) (loop-test .taken)
-    (descend .result) room (descend .ensures .1) _ _ (look .given .1) (lesser2 .result) (lesser2 .ensures) in
+    (descend .result) room (descend .ensures .1) _ (look .given .1) (lesser2 .result) (lesser2 .ensures) in
     let n = length-part (l .d) (l .done) (lesser2 .result) (omega (arith, w, full, l .inv .1)) in
-    (p .0, omega (arith, fits, sectors-joined (a .end .0) (a .log .now) (a .waiting .now) (p .0)), omega (arith, n, ends, p .1 .dsize-to))
+    (p .0, (omega (arith, fits .0, sectors-joined (a .end .0) (a .log .now) (a .waiting .now) (p .0)), fits .1), omega (arith, n, ends, p .1 .dsize-to))
 
 loop-less : tie.Need-loop-less Inv-loop μ-loop
 loop-less c =
@@ -171,7 +170,7 @@ loop-less c =
     let l = c .before .before .before .before .before .before .before .before .before .before .before .loop in
     let loop-test = c .before .before .before .before .before .before .before .before .before .before .loop-test in
     let descend = c .before .before .before .before .before .before .before .before .before .descend in
-    let room = room-both (a .end .0) (a .log .now) (a .waiting .now) (p .0) (endOf (descend .result)) (descend .ensures .0) in
+    let room = room-both (a .end .0) (a .log .now) (a .waiting .now) (p .0) (descend .result) (descend .ensures .0) in
     let look = c .before .before .before .before .before .before .before .look in
     let lesser2 = c .before .before .before .before .lesser2 in
     let full : (lesser .result) ≤ length (a .d .now) = omega (arith, (lesser .ensures)) in
@@ -179,7 +178,7 @@ loop-less c =
       arith,
       (loop-test .taken),
       leaf-some log (a .e) (a .top .now) (a .offset) (lesser .result) (a .d .now) (l .d) (l .done) (p .1 .dsize-from) full (l .inv) (loop-test .taken)
-          (descend .result) room (descend .ensures .1) _ _ (look .given .1) (lesser2 .result) (lesser2 .ensures),
+          (descend .result) room (descend .ensures .1) _ (look .given .1) (lesser2 .result) (lesser2 .ensures),
     )
 
 loop-again : tie.Need-loop-again Inv-loop μ-loop
@@ -191,13 +190,13 @@ loop-again c =
     let l = c .before .before .before .before .before .before .before .before .before .before .before .loop in
     let loop-test = c .before .before .before .before .before .before .before .before .before .before .loop-test in
     let descend = c .before .before .before .before .before .before .before .before .before .descend in
-    let room = room-both (a .end .0) (a .log .now) (a .waiting .now) (p .0) (endOf (descend .result)) (descend .ensures .0) in
+    let room = room-both (a .end .0) (a .log .now) (a .waiting .now) (p .0) (descend .result) (descend .ensures .0) in
     let look = c .before .before .before .before .before .before .before .look in
     let lesser2 = c .before .before .before .before .lesser2 in
     let read-part = c .before .before .read-part in
     let full : (lesser .result) ≤ length (a .d .now) = omega (arith, (lesser .ensures)) in
     leaf-written log (a .e) (a .top .now) (a .offset) (lesser .result) (a .d .now) (l .d) (l .done) (p .1 .dsize-from) full (l .inv) (loop-test .taken)
-    (descend .result) room (descend .ensures .1) _ _ (look .given .1) (lesser2 .result) (lesser2 .ensures) _ (read-part .ensures)
+    (descend .result) room (descend .ensures .1) _ (look .given .1) (lesser2 .result) (lesser2 .ensures) _ (read-part .ensures)
 
 same-length-2 : tie.Need-same-length-2 Inv-loop μ-loop
 same-length-2 c = (c .before .loop .inv .1)

@@ -39,7 +39,7 @@ returns-2 c =
     (λ w. not-zero (a .kind) (a .score .now) _ (w .1 .ensures) (w .2 .left))
     (λ w. not-lawful (a .kind) (a .score .now) _ (c .before .before .before .before .is-lawful .ensures) (w .left))
     (c .before .before .before .if1 .came) in
-    by-hint log (a .index .now) (a .kind) (a .score .now) _ _ _ not-empty (c .before .before .find-hint .ensures) (c .enum-told2 .given .1)
+    by-hint log (a .index .now) (a .kind) (a .score .now) _ _ not-empty (c .before .before .find-hint .ensures) (c .enum-told2 .given .1)
 
 find-held-requires-2 : tie.Need-find-held-requires-2
 find-held-requires-2 c κs = search needs

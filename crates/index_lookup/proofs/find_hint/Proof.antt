@@ -3,7 +3,7 @@ use mathlib.Core.Path.{_≡_, sym, ap, _∙_}
 use Prim.Native.Nat.{_-_, _≤_}
 use native.Mathlib.Omega.{arith}
 use Rattle.block.specs.Log.{joined}
-use Rattle.lookup.specs.Place.{placeOf}
+use Rattle.reader.specs.Reader.{placed}
 use Rattle.hint.specs.Hint.{trueAt, firstFound, hint}
 use Rattle.index_lookup.proofs.Turns.{found-here, found-next, found-nowhere, hint-starts}
 use borrow.Author.Needs.{needs}
@@ -43,7 +43,7 @@ returns c =
     let log = joined (a .end .0) (a .log .now) (a .waiting .now) in
     let l = c .before .before .before .before .before .loop in
     let f = trueAt log (a .index .now) (a .kind) (a .score .now) in
-    found-here f (l .p) (c .before .before .before .before .before .before .bucket-of .result .to) (c .before .before .before .if1 .taken) _ (c .before .before .true-at .ensures) _ _ (c .enum-told2 .given .1) ∙ ap placeOf (l .inv .1)
+    found-here f (l .p) (c .before .before .before .before .before .before .bucket-of .result .to) (c .before .before .before .if1 .taken) _ (c .before .before .true-at .ensures) _ (c .enum-told2 .given .1) ∙ ap placed (l .inv .1)
 
 add-p : tie.Need-add-p Inv-loop μ-loop
 add-p c = search needs
@@ -65,7 +65,7 @@ returns-2 c =
     let log = joined (a .end .0) (a .log .now) (a .waiting .now) in
     let l = c .before .before .loop in
     let f = trueAt log (a .index .now) (a .kind) (a .score .now) in
-    found-nowhere f (l .p) (c .before .before .before .bucket-of .result .to) (c .if1 .left) ∙ ap placeOf (l .inv .1)
+    found-nowhere f (l .p) (c .before .before .before .bucket-of .result .to) (c .if1 .left) ∙ ap placed (l .inv .1)
 
 pub find-hint-spec : {M : Type 1} → statement M
 find-hint-spec =

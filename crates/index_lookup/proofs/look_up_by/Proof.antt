@@ -27,7 +27,7 @@ returns-2 : tie.Need-returns-2
 returns-2 c =
     let a = c .before .before .before .before .before .before .before .before .args in
     let log = joined (a .end .0) (a .log .now) (a .waiting .now) in
-    answer-some log (a .index .now) (a .kind) (a .score .now) _ _ _ (c .before .before .before .find-held-by .ensures) (c .before .place .given .1)
+    answer-some log (a .index .now) (a .kind) (a .score .now) _ _ (c .before .before .before .find-held-by .ensures) (c .before .place .given .1)
 
 pub look-up-by-spec : {M : Type 1} → statement M
 look-up-by-spec =

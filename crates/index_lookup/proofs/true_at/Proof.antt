@@ -5,7 +5,7 @@ use borrow.Author.Tests.{not-true, not-false}
 use lib.ListN.{length}
 use Rattle.block.specs.Log.{joined}
 use Rattle.block.proofs.Joined.{sectors-joined}
-use Rattle.index_lookup.proofs.Turns.{not-named, past-end, no-block, a-block}
+use Rattle.index_lookup.proofs.Turns.{not-named, past-end, checked-there}
 use borrow.Author.Needs.{needs}
 use Rattle.index_lookup.proofs.true_at.Statement.{statement}
 use Rattle.index_lookup.proofs.true_at.Tie as tie
@@ -39,17 +39,10 @@ sound-as-requires c κs = search needs
 
 returns-3 : tie.Need-returns-3
 returns-3 c =
-    let b = c .before .before .before .before .before .before .before .before .before .before .before .before in
+    let b = c .before .before .before .before .before .before .before .before .before .before .before in
     let a = b .args in
     let log = joined (a .end .0) (a .log .now) (a .waiting .now) in
-    no-block log (a .index .now) (a .kind) (a .score .now) (a .p) _ _ (c .before .before .before .before .before .sector-at .ensures) (c .before .sound-as .ensures) (c .if3 .taken)
-
-returns-4 : tie.Need-returns-4
-returns-4 c =
-    let b = c .before .before .before .before .before .before .before .before .before .before .before .before in
-    let a = b .args in
-    let log = joined (a .end .0) (a .log .now) (a .waiting .now) in
-    a-block log (a .index .now) (a .kind) (a .score .now) (a .p) _ _ (c .before .before .before .before .before .sector-at .ensures) (c .before .sound-as .ensures) _ (c .before .before .before .before .before .before .before .names .ensures) (not-false _ (c .before .before .before .before .before .before .if1 .left)) (c .if3 .left)
+    checked-there log (a .index .now) (a .kind) (a .score .now) (a .p) _ _ _ (c .before .before .before .before .before .before .names .ensures) (not-false _ (c .before .before .before .before .before .if1 .left)) (c .before .before .before .before .sector-at .ensures) (c .sound-as .ensures)
 
 pub true-at-spec : {M : Type 1} → statement M
 true-at-spec =
@@ -61,5 +54,4 @@ true-at-spec =
     add-if2
     returns-2
     sound-as-requires
-    returns-3
-    returns-4)
+    returns-3)

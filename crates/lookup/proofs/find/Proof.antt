@@ -1,7 +1,7 @@
 -- `lookup::find` meets its contract: the first block among the sectors that are left is the first of all.
-use mathlib.Core.Path.{_≡_, refl, ap, _∙_}
+use mathlib.Core.Path.{_≡_, refl, sym, ap, _∙_}
 use mathlib.Core.Logic.{⊎-elim}
-use Prim.Native.Nat.{ℕ, _-_, _≤_}
+use Prim.Native.Nat.{ℕ, _+_, _-_, _≤_, _<_}
 use native.Mathlib.Nat.{sub-zero}
 use native.Mathlib.Omega.{arith}
 use lib.ListN.{length}
@@ -11,10 +11,16 @@ use Rattle.block.specs.Log.{sectors, joined, sound}
 use Rattle.block.proofs.At.{length-at}
 use Rattle.block.proofs.Joined.{sectors-joined}
 use Rattle.log.specs.LookUp.{blocks, firstOf}
-use Rattle.lookup.proofs.Laws.{none-as, other-digits, find-more, find-found, find-nowhere}
+use Rattle.lookup.proofs.Laws.{other-digits, placed-none, find-more, find-found, find-nowhere}
 use borrow.Author.Needs.{needs}
 use Rattle.lookup.proofs.find.Statement.{statement}
 use Rattle.lookup.proofs.find.Tie as tie
+use Rattle.lookup.proofs.find.Reads as reads
+use Rattle.lookup.proofs.find.Lts as lts
+use Rattle.lookup.proofs.may_hold.Reads as may-hold-reads
+use Rattle.reader.proofs.sector_at.Reads as sector-at-reads
+use Rattle.reader.proofs.sound_as.Reads as sound-as-reads
+use Rattle.word.proofs.hex.put_hex_bytes.Reads as put-hex-bytes-reads
 
 abbrev Inv-loop : tie.InvT-loop
 Inv-loop log end waiting kind score digits count n₀ n =
@@ -25,86 +31,103 @@ Inv-loop log end waiting kind score digits count n₀ n =
     × (firstOf kind score (foundFrom (sound both) (sectors (length both) - n) n) ≡ firstOf kind score (blocks both))
 
 abbrev μ-loop : tie.MeasureT-loop
-μ-loop log end waiting kind score digits count n₀ n = count - n
+μ-loop log end waiting kind score digits count n₀ n =
+    count - n
 
+-- src/lib.rt:87:30
 slice-aggregate-put-hex-bytes : tie.Need-slice-aggregate-put-hex-bytes Inv-loop μ-loop
 slice-aggregate-put-hex-bytes c = search needs
 
+-- src/lib.rt:87:5
 put-hex-bytes-requires : tie.Need-put-hex-bytes-requires Inv-loop μ-loop
 put-hex-bytes-requires c κs = search needs
 
+-- src/lib.rt:88:17
 add-count : tie.Need-add-count Inv-loop μ-loop
 add-count c = search needs
 
+-- src/lib.rt:90:5
 loop-holds : tie.Need-loop-holds Inv-loop μ-loop
 unfolding blocks
 loop-holds c =
-    let a = c .before .before .before .before .before .before .before .args in
-    let log = joined (a .end .0) (a .log .now) (a .waiting .now) in
-    let e = sectors-joined (a .end .0) (a .log .now) (a .waiting .now) (c .before .before .before .before .before .before .before .pre .0) in (
+    let log = joined ((c .before .before .before .before .before .before .before .args .end .0)) ((c .before .before .before .before .before .before .before .args .log .now)) ((c .before .before .before .before .before .before .before .args .waiting .now)) in
+    let e = sectors-joined ((c .before .before .before .before .before .before .before .args .end .0)) ((c .before .before .before .before .before .before .before .args .log .now)) ((c .before .before .before .before .before .before .before .args .waiting .now)) ((c .before .before .before .before .before .before .before .pre .0)) in (
       omega arith,
       omega (arith, e),
-      c .before .before .put-hex-bytes .ensures,
-      ap (λ (k : ℕ). firstOf (a .kind) (a .score .now) (foundFrom (sound log) k 0)) (sub-zero (sectors (length log))),
+      (c .before .before .put-hex-bytes .ensures),
+      ap (λ (k : ℕ). firstOf ((c .before .before .before .before .before .before .before .args .kind)) ((c .before .before .before .before .before .before .before .args .score .now)) (foundFrom (sound log) k 0)) (sub-zero (sectors (length log))),
     )
 
+-- src/lib.rt:91:13
 sector-at-requires : tie.Need-sector-at-requires Inv-loop μ-loop
 sector-at-requires c κs = search needs
 
-sub-equal : tie.Need-sub-equal Inv-loop μ-loop
-sub-equal c = search needs
+-- src/lib.rt:92:24
+slice-aggregate-may-hold : tie.Need-slice-aggregate-may-hold Inv-loop μ-loop
+slice-aggregate-may-hold c = search needs
 
-part-equal-start : tie.Need-part-equal-start Inv-loop μ-loop
-part-equal-start c = search needs
+-- src/lib.rt:92:12
+may-hold-requires : tie.Need-may-hold-requires Inv-loop μ-loop
+may-hold-requires c κs =
+    (ap length ((c .before .sector-at .ensures)) ∙ length-at (joined ((c .before .before .before .before .before .before .before .before .before .before .before .args .end .0)) ((c .before .before .before .before .before .before .before .before .before .before .before .args .log .now)) ((c .before .before .before .before .before .before .before .before .before .before .before .args .waiting .now))) ((c .before .before .before .loop .n)), search needs)
 
-part-equal-end : tie.Need-part-equal-end Inv-loop μ-loop
-part-equal-end c =
-    let a = c .before .before .before .before .before .before .before .before .before .before .args in
-    let log = joined (a .end .0) (a .log .now) (a .waiting .now) in
-    omega (arith, ap length (c .sector-at .ensures) ∙ length-at log (c .before .before .loop .n))
-
-slice-aggregate-equal : tie.Need-slice-aggregate-equal Inv-loop μ-loop
-slice-aggregate-equal c = search needs
-
-equal-requires : tie.Need-equal-requires Inv-loop μ-loop
-equal-requires c κs = search needs
-
+-- src/lib.rt:93:17
 sound-as-requires : tie.Need-sound-as-requires Inv-loop μ-loop
 sound-as-requires c κs = search needs
 
+enum-told : tie.Need-enum-told Inv-loop μ-loop
+enum-told c = search needs
+
+-- src/lib.rt:95:17
+enum-told-2 : tie.Need-enum-told-2 Inv-loop μ-loop
+enum-told-2 c = search needs
+
+-- src/lib.rt:95:17
 returns : tie.Need-returns Inv-loop μ-loop
 returns c =
-    let a = c .before .before .before .before .before .before .before .before .before .before .before .before .before .before .before .before .args in
-    let log = joined (a .end .0) (a .log .now) (a .waiting .now) in
-    let l = c .before .before .before .before .before .before .before .before .loop in
-    let sound-as = c .before .sound-as in
-    find-found log (l .n) (a .kind) (a .score .now) (omega (arith, l .inv .1, c .before .before .before .before .before .before .before .loop-test .taken)) (l .inv .3) (sound-as .result) (sound-as .ensures) (c .if2 .taken)
+    find-found (joined ((c .before .before .before .before .before .before .before .before .before .before .before .before .before .before .before .before .args .end .0)) ((c .before .before .before .before .before .before .before .before .before .before .before .before .before .before .before .before .args .log .now)) ((c .before .before .before .before .before .before .before .before .before .before .before .before .before .before .before .before .args .waiting .now))) ((c .before .before .before .before .before .before .before .before .loop .n)) ((c .before .before .before .before .before .before .before .before .before .before .before .before .before .before .before .before .args .kind)) ((c .before .before .before .before .before .before .before .before .before .before .before .before .before .before .before .before .args .score .now)) (omega (arith, (c .before .before .before .before .before .before .before .before .loop .inv .1), (c .before .before .before .before .before .before .before .loop-test .taken))) ((c .before .before .before .before .before .before .before .before .loop .inv .3)) ((c .before .before .sound-as .result)) _ ((c .before .before .sound-as .ensures)) ((c .enum-told2 .given .1))
 
+-- src/lib.rt:98:9
 add-n : tie.Need-add-n Inv-loop μ-loop
 add-n c = search needs
 
+-- src/lib.rt:90:5
 loop-less : tie.Need-loop-less Inv-loop μ-loop
 loop-less c = search needs
 
+-- src/lib.rt:90:5
 loop-again : tie.Need-loop-again Inv-loop μ-loop
 loop-again c =
-    let a = c .before .before .before .before .before .before .before .before .before .before .before .before .before .before .args in
-    let log = joined (a .end .0) (a .log .now) (a .waiting .now) in
-    let l = c .before .before .before .before .before .before .loop in
-    let sector-at = c .before .before .before .before .sector-at in
-    let equal = c .before .equal in
+    let log = joined ((c .before .before .before .before .before .before .before .before .before .before .before .before .before .args .end .0)) ((c .before .before .before .before .before .before .before .before .before .before .before .before .before .args .log .now)) ((c .before .before .before .before .before .before .before .before .before .before .before .before .before .args .waiting .now)) in
     let none-here = ⊎-elim
-    (λ w. none-as log (l .n) (a .kind) (a .score .now) (w .1 .result) (w .1 .ensures) (omega arith))
-    (λ w. other-digits log (l .n) (a .kind) (a .score .now) _ (sector-at .result .now) (equal .result) (sector-at .ensures) (l .inv .2) (equal .ensures) (w .left))
-    (c .if1 .came) in
-    (omega arith, l .inv .1, l .inv .2, find-more log (l .n) (a .kind) (a .score .now) (omega (arith, l .inv .1, c .before .before .before .before .before .loop-test .taken)) (l .inv .3) none-here)
+    (λ w. placed-none _ (w .1 .result) (w .1 .ensures) (w .3 .given .1))
+    (λ w. other-digits log ((c .before .before .before .before .before .loop .n)) ((c .before .before .before .before .before .before .before .before .before .before .before .before .before .args .kind)) ((c .before .before .before .before .before .before .before .before .before .before .before .before .before .args .score .now)) _ ((c .before .before .before .sector-at .result .now)) ((c .before .may-hold .result)) ((c .before .before .before .sector-at .ensures)) ((c .before .before .before .before .before .loop .inv .2)) ((c .before .may-hold .ensures)) (w .left))
+    ((c .if1 .came)) in
+    (omega arith, (c .before .before .before .before .before .loop .inv .1), (c .before .before .before .before .before .loop .inv .2), find-more log ((c .before .before .before .before .before .loop .n)) ((c .before .before .before .before .before .before .before .before .before .before .before .before .before .args .kind)) ((c .before .before .before .before .before .before .before .before .before .before .before .before .before .args .score .now)) (omega (arith, (c .before .before .before .before .before .loop .inv .1), (c .before .before .before .before .loop-test .taken))) ((c .before .before .before .before .before .loop .inv .3)) none-here)
 
+-- src/lib.rt:82:1
 returns-2 : tie.Need-returns-2 Inv-loop μ-loop
 returns-2 c =
-    let a = c .before .before .before .before .before .before .before .before .before .args in
-    let log = joined (a .end .0) (a .log .now) (a .waiting .now) in
-    let l = c .before .loop in
-    find-nowhere log (l .n) (a .kind) (a .score .now) (omega (arith, l .inv .1)) (omega (arith, l .inv .1, c .loop-test .left)) (l .inv .3)
+    find-nowhere (joined ((c .before .before .before .before .before .before .before .before .before .args .end .0)) ((c .before .before .before .before .before .before .before .before .before .args .log .now)) ((c .before .before .before .before .before .before .before .before .before .args .waiting .now))) ((c .before .loop .n)) ((c .before .before .before .before .before .before .before .before .before .args .kind)) ((c .before .before .before .before .before .before .before .before .before .args .score .now)) (omega (arith, (c .before .loop .inv .1))) (omega (arith, (c .before .loop .inv .1), (c .loop-test .left))) ((c .before .loop .inv .3))
 
 pub find-spec : {M : Type 1} → statement M
-find-spec = tie.close (tie.spec Inv-loop μ-loop slice-aggregate-put-hex-bytes put-hex-bytes-requires add-count loop-holds sector-at-requires sub-equal part-equal-start part-equal-end slice-aggregate-equal equal-requires sound-as-requires returns add-n loop-less loop-again returns-2)
+find-spec =
+    tie.close
+    (tie.spec
+    Inv-loop
+    μ-loop
+    slice-aggregate-put-hex-bytes
+    put-hex-bytes-requires
+    add-count
+    loop-holds
+    sector-at-requires
+    slice-aggregate-may-hold
+    may-hold-requires
+    sound-as-requires
+    enum-told
+    enum-told-2
+    returns
+    add-n
+    loop-less
+    loop-again
+    returns-2)

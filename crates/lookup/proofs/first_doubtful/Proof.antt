@@ -1,89 +1,97 @@
 -- `lookup::first_doubtful` meets its contract: no sector before n is doubtful.
-use mathlib.Core.Path.{_≡_, refl, _∙_}
-use Prim.Native.Nat.{_-_}
+use mathlib.Core.Path.{_≡_, refl, sym, ap, _∙_}
+use Prim.Native.Nat.{ℕ, _+_, _-_, _≤_, _<_}
 use native.Mathlib.Omega.{arith}
-use Rattle.block.specs.Block.{partsOf}
-use Rattle.block.specs.Log.{joined, used}
-use Rattle.block.proofs.Joined.{sectors-joined}
+use lib.ListN.{length}
+use Rattle.block.specs.Log.{sectors, joined, used}
 use Rattle.block.proofs.Used.{used-le-sectors}
+use Rattle.block.proofs.Joined.{sectors-joined}
 use Rattle.log.specs.LookUp.{outside}
 use Rattle.log.proofs.Doubt.{walked-zero}
-use Rattle.lookup.proofs.Laws.{Passed, walk-stops, walk-on, walk-ends, size-most}
+use Rattle.lookup.proofs.Laws.{Passed, walk-stops, walk-on, walk-ends, block-bounds}
 use borrow.Author.Needs.{needs}
 use Rattle.lookup.proofs.first_doubtful.Statement.{statement}
 use Rattle.lookup.proofs.first_doubtful.Tie as tie
+use Rattle.lookup.proofs.first_doubtful.Reads as reads
+use Rattle.lookup.proofs.first_doubtful.Lts as lts
+use Rattle.block.proofs.parts_of.Reads as parts-of-reads
+use Rattle.reader.proofs.sound_at.Reads as sound-at-reads
 
 abbrev Inv-loop : tie.InvT-loop
-Inv-loop log end waiting last n₀ n = Passed (joined (end .0) log waiting) n
+Inv-loop log end waiting last n₀ n =
+    Passed (joined (end .0) log waiting) n
 
 abbrev μ-loop : tie.MeasureT-loop
-μ-loop log end waiting last n₀ n = used (joined (end .0) log waiting) - n
+μ-loop log end waiting last n₀ n =
+    used (joined (end .0) log waiting) - n
 
+-- src/lib.rt:128:5
 loop-holds : tie.Need-loop-holds Inv-loop μ-loop
 unfolding outside
 loop-holds c =
-    let a = c .before .before .args in
-    let log = joined (a .end .0) (a .log .now) (a .waiting .now) in
-    (walked-zero log, refl)
+    (walked-zero (joined ((c .before .before .args .end .0)) ((c .before .before .args .log .now)) ((c .before .before .args .waiting .now))), refl)
 
+-- src/lib.rt:129:13
 sound-at-requires : tie.Need-sound-at-requires Inv-loop μ-loop
 sound-at-requires c κs =
-    let a = c .before .before .before .before .before .args in
-    let log = joined (a .end .0) (a .log .now) (a .waiting .now) in
-    let p = c .before .before .before .before .before .pre in
-    (p .0, omega (arith, used-le-sectors log, sectors-joined (a .end .0) (a .log .now) (a .waiting .now) (p .0), p .1, c .if1 .taken))
+    let log = joined ((c .before .before .before .before .before .args .end .0)) ((c .before .before .before .before .before .args .log .now)) ((c .before .before .before .before .before .args .waiting .now)) in
+    ((c .before .before .before .before .before .pre .0), omega (arith, used-le-sectors log, sectors-joined ((c .before .before .before .before .before .args .end .0)) ((c .before .before .before .before .before .args .log .now)) ((c .before .before .before .before .before .args .waiting .now)) ((c .before .before .before .before .before .pre .0)), (c .before .before .before .before .before .pre .1), (c .if1 .taken)))
 
+-- src/lib.rt:130:23
+enum-known-place : tie.Need-enum-known-place Inv-loop μ-loop
+enum-known-place c = search needs
+
+-- src/lib.rt:131:13
+enum-told : tie.Need-enum-told Inv-loop μ-loop
+enum-told c = search needs
+
+-- src/lib.rt:131:13
 returns : tie.Need-returns Inv-loop μ-loop
 returns c =
-    let a = c .before .before .before .before .before .before .before .args in
-    let log = joined (a .end .0) (a .log .now) (a .waiting .now) in
-    let l = c .before .before .before .before .loop in
-    let sound-at = c .before .sound-at in
-    walk-stops log (l .n) (sound-at .result) (l .inv) (omega (arith, c .before .before .before .before .before .before .before .pre .1, c .before .before .if1 .taken)) (sound-at .ensures) (c .if2 .taken)
+    walk-stops (joined ((c .before .before .before .before .before .before .before .before .args .end .0)) ((c .before .before .before .before .before .before .before .before .args .log .now)) ((c .before .before .before .before .before .before .before .before .args .waiting .now))) ((c .before .before .before .before .before .loop .n)) ((c .before .before .sound-at .result)) ((c .before .before .before .before .before .loop .inv)) (omega (arith, (c .before .before .before .before .before .before .before .before .pre .1), (c .before .before .before .if1 .taken))) ((c .before .before .sound-at .ensures)) ((c .enum-told .given .1))
 
+-- src/lib.rt:133:14
 parts-of-requires : tie.Need-parts-of-requires Inv-loop μ-loop
 parts-of-requires c κs =
-    let a = c .before .before .before .before .before .before .before .args in
-    let log = joined (a .end .0) (a .log .now) (a .waiting .now) in
-    let sound-at = c .before .sound-at in
-    omega (arith, size-most log (c .before .before .before .before .loop .n) (sound-at .result) (sound-at .ensures))
+    let b = block-bounds (joined ((c .before .before .before .before .before .before .before .before .before .args .end .0)) ((c .before .before .before .before .before .before .before .before .before .args .log .now)) ((c .before .before .before .before .before .before .before .before .before .args .waiting .now))) ((c .before .before .before .before .before .before .loop .n)) ((c .before .before .before .sound-at .result)) _ ((c .before .before .before .sound-at .ensures)) ((c .before .place .given .1)) in
+    (b .0, omega (arith, b .1))
 
+-- src/lib.rt:133:9
 add-n : tie.Need-add-n Inv-loop μ-loop
 add-n c =
-    let a = c .before .before .before .before .before .before .before .before .args in
-    let log = joined (a .end .0) (a .log .now) (a .waiting .now) in
-    let l = c .before .before .before .before .before .loop in
-    let sound-at = c .before .before .sound-at in
-    let parts-of = c .parts-of in
-    let on = walk-on log (l .n) (sound-at .result) (parts-of .result) (l .inv) (sound-at .ensures) (c .before .if2 .left) (parts-of .ensures) in
-    omega (arith, used-le-sectors log, sectors-joined (a .end .0) (a .log .now) (a .waiting .now) (c .before .before .before .before .before .before .before .before .pre .0), on .0)
+    let log = joined ((c .before .before .before .before .before .before .before .before .before .before .args .end .0)) ((c .before .before .before .before .before .before .before .before .before .before .args .log .now)) ((c .before .before .before .before .before .before .before .before .before .before .args .waiting .now)) in
+    let on = walk-on log ((c .before .before .before .before .before .before .before .loop .n)) ((c .parts-of .result)) ((c .before .before .before .before .sound-at .result)) _ ((c .before .before .before .before .before .before .before .loop .inv)) ((c .before .before .before .before .sound-at .ensures)) ((c .before .before .place .given .1)) ((c .parts-of .ensures)) in
+    omega (arith, used-le-sectors log, sectors-joined ((c .before .before .before .before .before .before .before .before .before .before .args .end .0)) ((c .before .before .before .before .before .before .before .before .before .before .args .log .now)) ((c .before .before .before .before .before .before .before .before .before .before .args .waiting .now)) ((c .before .before .before .before .before .before .before .before .before .before .pre .0)), on .0)
 
+-- src/lib.rt:128:5
 loop-less : tie.Need-loop-less Inv-loop μ-loop
 loop-less c =
-    let a = c .before .before .before .before .before .before .before .before .args in
-    let log = joined (a .end .0) (a .log .now) (a .waiting .now) in
-    let l = c .before .before .before .before .before .loop in
-    let sound-at = c .before .before .sound-at in
-    let parts-of = c .parts-of in
-    let on = walk-on log (l .n) (sound-at .result) (parts-of .result) (l .inv) (sound-at .ensures) (c .before .if2 .left) (parts-of .ensures) in
+    let on = walk-on (joined ((c .before .before .before .before .before .before .before .before .before .before .args .end .0)) ((c .before .before .before .before .before .before .before .before .before .before .args .log .now)) ((c .before .before .before .before .before .before .before .before .before .before .args .waiting .now))) ((c .before .before .before .before .before .before .before .loop .n)) ((c .parts-of .result)) ((c .before .before .before .before .sound-at .result)) _ ((c .before .before .before .before .before .before .before .loop .inv)) ((c .before .before .before .before .sound-at .ensures)) ((c .before .before .place .given .1)) ((c .parts-of .ensures)) in
     omega (arith, on .0, on .1)
 
+-- src/lib.rt:128:5
 loop-again : tie.Need-loop-again Inv-loop μ-loop
 loop-again c =
-    let a = c .before .before .before .before .before .before .before .before .args in
-    let log = joined (a .end .0) (a .log .now) (a .waiting .now) in
-    let l = c .before .before .before .before .before .loop in
-    let sound-at = c .before .before .sound-at in
-    let parts-of = c .parts-of in
-    (walk-on log (l .n) (sound-at .result) (parts-of .result) (l .inv) (sound-at .ensures) (c .before .if2 .left) (parts-of .ensures)) .2
+    (walk-on (joined ((c .before .before .before .before .before .before .before .before .before .before .args .end .0)) ((c .before .before .before .before .before .before .before .before .before .before .args .log .now)) ((c .before .before .before .before .before .before .before .before .before .before .args .waiting .now))) ((c .before .before .before .before .before .before .before .loop .n)) ((c .parts-of .result)) ((c .before .before .before .before .sound-at .result)) _ ((c .before .before .before .before .before .before .before .loop .inv)) ((c .before .before .before .before .sound-at .ensures)) ((c .before .before .place .given .1)) ((c .parts-of .ensures))) .2
 
+-- src/lib.rt:118:1
 returns-2 : tie.Need-returns-2 Inv-loop μ-loop
 returns-2 c =
-    let a = c .before .before .before .before .before .args in
-    let log = joined (a .end .0) (a .log .now) (a .waiting .now) in
-    let l = c .before .before .loop in
-    let p = c .before .before .before .before .before .pre in
-    p .1 ∙ walk-ends log (l .n) (l .inv) (omega (arith, p .1, c .if1 .left))
+    (c .before .before .before .before .before .pre .1) ∙ walk-ends (joined ((c .before .before .before .before .before .args .end .0)) ((c .before .before .before .before .before .args .log .now)) ((c .before .before .before .before .before .args .waiting .now))) ((c .before .before .loop .n)) ((c .before .before .loop .inv)) (omega (arith, (c .before .before .before .before .before .pre .1), (c .if1 .left)))
 
 pub first-doubtful-spec : {M : Type 1} → statement M
-first-doubtful-spec = tie.close (tie.spec Inv-loop μ-loop loop-holds sound-at-requires returns parts-of-requires add-n loop-less loop-again returns-2)
+first-doubtful-spec =
+    tie.close
+    (tie.spec
+    Inv-loop
+    μ-loop
+    loop-holds
+    sound-at-requires
+    enum-known-place
+    enum-told
+    returns
+    parts-of-requires
+    add-n
+    loop-less
+    loop-again
+    returns-2)

@@ -1,32 +1,42 @@
 -- `lookup::look_up` meets its contract.
+use mathlib.Core.Path.{_≡_}
 use Rattle.block.specs.Log.{joined}
 use Rattle.lookup.proofs.Laws.{look-none, look-some}
 use borrow.Author.Needs.{needs}
 use Rattle.lookup.proofs.look_up.Statement.{statement}
 use Rattle.lookup.proofs.look_up.Tie as tie
+use Rattle.lookup.proofs.look_up.Reads as reads
+use Rattle.lookup.proofs.look_up.Lts as lts
+use Rattle.lookup.proofs.find_held.Reads as find-held-reads
+use Rattle.lookup.proofs.why_absent.Reads as why-absent-reads
 
+-- src/lib.rt:176:9
 find-held-requires : tie.Need-find-held-requires
 find-held-requires c κs = search needs
 
+-- src/lib.rt:177:19
 enum-known-place : tie.Need-enum-known-place
 enum-known-place c = search needs
 
+-- src/lib.rt:178:30
 enum-told : tie.Need-enum-told
 enum-told c = search needs
 
+-- src/lib.rt:178:30
 why-absent-requires : tie.Need-why-absent-requires
 why-absent-requires c κs = search needs
 
+-- src/lib.rt:178:9
 returns : tie.Need-returns
 returns c =
-    let a = c .before .before .before .before .before .before .before .args in
-    look-none (joined (a .end .0) (a .log .now) (a .waiting .now)) (a .kind) (a .score .now) _ _ (c .before .before .before .find-held .ensures)
-    (c .before .enum-told .given .1) (c .why-absent .ensures)
+    look-none (joined ((c .before .before .before .before .before .before .before .args .end .0)) ((c .before .before .before .before .before .before .before .args .log .now)) ((c .before .before .before .before .before .before .before .args .waiting .now))) ((c .before .before .before .before .before .before .before .args .kind)) ((c .before .before .before .before .before .before .before .args .score .now)) _ _ ((c .before .before .before .find-held .ensures)) ((c .before .enum-told .given .1)) ((c .why-absent .ensures))
 
+-- src/lib.rt:166:1
 returns-2 : tie.Need-returns-2
 returns-2 c =
-    let a = c .before .before .before .before .before .before .before .args in
-    look-some (joined (a .end .0) (a .log .now) (a .waiting .now)) (a .kind) (a .score .now) _ _ _ (c .before .before .before .find-held .ensures) (c .before .place .given .1)
+    look-some (joined ((c .before .before .before .before .before .before .before .args .end .0)) ((c .before .before .before .before .before .before .before .args .log .now)) ((c .before .before .before .before .before .before .before .args .waiting .now))) ((c .before .before .before .before .before .before .before .args .kind)) ((c .before .before .before .before .before .before .before .args .score .now)) _ _ ((c .before .before .before .find-held .ensures)) ((c .before .place .given .1))
 
 pub look-up-spec : {M : Type 1} → statement M
-look-up-spec = tie.close (tie.spec find-held-requires enum-known-place enum-told why-absent-requires returns returns-2)
+look-up-spec =
+    tie.close
+    (tie.spec find-held-requires enum-known-place enum-told why-absent-requires returns returns-2)

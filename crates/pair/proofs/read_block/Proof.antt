@@ -19,21 +19,21 @@ refused c =
 
 ragged : tie.Need-returns-2
 ragged c =
-    let k = c .before .before .before in
+    let k = c .before .before .before .before in
     let l = k .before .before in
     let t = l .before .before in
     let a = start t .args in
     ragged-scores (joined (a .end .0) (a .log .now) (a .waiting .now)) (a .e) (a .level) (a .score .now) (l .fetch .ensures) (t .type-at .ensures) (l .before .count-at .ensures)
-    (k .look .given .1) (c .before .if1 .taken) (c .if2 .taken)
+    (k .look .given .1) (c .before .before .if1 .taken) (c .if2 .taken)
 
 whole : tie.Need-returns-3
 whole c =
-    let k = c .before .before .before in
+    let k = c .before .before .before .before in
     let l = k .before .before in
     let t = l .before .before in
     let a = start t .args in
     scores-whole (joined (a .end .0) (a .log .now) (a .waiting .now)) (a .e) (a .level) (a .score .now) (l .fetch .ensures) (t .type-at .ensures) (l .before .count-at .ensures)
-    (k .look .given .1) (c .before .if1 .taken) (c .if2 .left)
+    (k .look .given .1) (c .before .before .if1 .taken) (c .if2 .left)
 
 leaf : tie.Need-returns-4
 leaf c =

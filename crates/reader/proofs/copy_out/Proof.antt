@@ -6,85 +6,95 @@ use native.Mathlib.Omega.{arith}
 use lib.ListN.{length}
 use Rattle.buffer.specs.Bytes.{put}
 use Rattle.buffer.proofs.Put.{length-put}
+use Rattle.sector.specs.Sector.{payloadOf}
 use Rattle.block.specs.Block.{partsOf}
-use Rattle.block.specs.Log.{joined, sectors}
-use Rattle.reader.specs.Reader.{bytesAt}
-use Rattle.reader.proofs.Pieces.{length-bytes, piece-length, piece-room, piece-next, piece-none}
+use Rattle.block.specs.Log.{joined, sectors, bytesOf}
+use Rattle.reader.proofs.Pieces.{length-bytes, piece-length, piece-here, piece-room, piece-next, piece-none, blockAt}
 use Rattle.reader.proofs.Turns.{put-piece, put-none}
 use borrow.Author.Needs.{needs}
 use Rattle.reader.proofs.copy_out.Statement.{statement}
 use Rattle.reader.proofs.copy_out.Tie as tie
 
 abbrev Inv-loop : tie.InvT-loop
-Inv-loop log end waiting size d₀ n₀ done₀ d n done =
-    (done ≤ size)
-    × (n + partsOf (size - done) ≤ end .0 + sectors (length waiting))
+Inv-loop log end waiting b d₀ n₀ done₀ d n done =
+    (done ≤ b .size)
+    × (n + partsOf (payloadOf (b .label)) (b .size - done) ≤ end .0 + sectors (length waiting))
     × (length d ≡ length d₀)
-    × (put d done (bytesAt (joined (end .0) log waiting) n (size - done)) ≡ put d₀ 0 (bytesAt (joined (end .0) log waiting) n₀ size))
+    × (put d done (bytesOf (joined (end .0) log waiting) (blockAt (b .label) n (b .size - done))) ≡ put d₀ 0 (bytesOf (joined (end .0) log waiting) b))
 
 abbrev μ-loop : tie.MeasureT-loop
-μ-loop log end waiting size d₀ n₀ done₀ d n done = size - done
+μ-loop log end waiting b d₀ n₀ done₀ d n done = b .size - done
 
 loop-holds : tie.Need-loop-holds Inv-loop μ-loop
 loop-holds c =
     let a = c .before .before .before .args in
-    let p = c .before .before .before .pre in
-    rw (sub-zero (a .size)) (omega arith, p .1, refl, refl)
+    let q = c .before .before .before .pre in
+    rw (sub-zero (a .b .size)) (omega arith, q .1 .0, refl, refl)
 
 sub-piece-at : tie.Need-sub-piece-at Inv-loop μ-loop
 sub-piece-at c = search needs
 
 piece-at-requires : tie.Need-piece-at-requires Inv-loop μ-loop
-unfolding partsOf
-piece-at-requires c κs = search needs
+piece-at-requires c κs =
+    let a = c .before .before .before .before .before .before .before .args in
+    let q = c .before .before .before .before .before .before .before .pre in
+    let l = c .before .before .before .loop in
+    (q .0, piece-here (a .b .label) (l .n) (a .b .size) (l .done) _ (q .1 .1) (c .before .if1 .taken) (l .inv .1), omega arith)
 
 copy-at-requires : tie.Need-copy-at-requires Inv-loop μ-loop
 copy-at-requires c κs =
-    let a = c .before .before .before .before .before .before .before .args in
+    let a = c .before .before .before .before .before .before .before .before .before .args in
+    let q = c .before .before .before .before .before .before .before .before .before .pre in
     let log = joined (a .end .0) (a .log .now) (a .waiting .now) in
-    let l = c .before .before .before .loop in
-    let test = c .before .before .loop-test in
-    omega (arith, piece-length log (l .n) (a .size) (l .done) (test .taken) _ (c .before .piece-at .ensures))
+    let l = c .before .before .before .before .before .loop in
+    let test = c .before .before .before .if1 in
+    omega (arith, piece-length (a .b .label) (q .1 .1) log (l .n) (a .b .size) (l .done) (test .taken) _ (c .before .piece-at .ensures))
 
 add-done : tie.Need-add-done Inv-loop μ-loop
 add-done c =
-    let a = c .before .before .before .before .before .before .before .before .before .before .args in
+    let a = c .before .before .before .before .before .before .before .before .before .before .before .before .args in
+    let q = c .before .before .before .before .before .before .before .before .before .before .before .before .pre in
     let log = joined (a .end .0) (a .log .now) (a .waiting .now) in
-    let l = c .before .before .before .before .before .before .loop in
-    let test = c .before .before .before .before .before .loop-test in
+    let l = c .before .before .before .before .before .before .before .before .loop in
+    let test = c .before .before .before .before .before .before .if1 in
     let piece-at = c .before .before .before .before .piece-at in
-    omega (arith, piece-length log (l .n) (a .size) (l .done) (test .taken) _ (piece-at .ensures))
+    omega (arith, piece-length (a .b .label) (q .1 .1) log (l .n) (a .b .size) (l .done) (test .taken) _ (piece-at .ensures))
 
 add-n : tie.Need-add-n Inv-loop μ-loop
-unfolding partsOf
-add-n c = search needs
+add-n c =
+    let a = c .before .before .before .before .before .before .before .before .before .before .before .before .args in
+    let q = c .before .before .before .before .before .before .before .before .before .before .before .before .pre in
+    let l = c .before .before .before .before .before .before .before .before .loop in
+    omega (arith, piece-here (a .b .label) (l .n) (a .b .size) (l .done) _ (q .1 .1) (c .before .before .before .before .before .before .if1 .taken) (l .inv .1))
 
 loop-less : tie.Need-loop-less Inv-loop μ-loop
 loop-less c =
-    let a = c .before .before .before .before .before .before .before .before .before .before .args in
+    let a = c .before .before .before .before .before .before .before .before .before .before .before .before .args in
+    let q = c .before .before .before .before .before .before .before .before .before .before .before .before .pre in
     let log = joined (a .end .0) (a .log .now) (a .waiting .now) in
-    let l = c .before .before .before .before .before .before .loop in
-    let test = c .before .before .before .before .before .loop-test in
+    let l = c .before .before .before .before .before .before .before .before .loop in
+    let test = c .before .before .before .before .before .before .if1 in
     let piece-at = c .before .before .before .before .piece-at in
-    omega (arith, piece-length log (l .n) (a .size) (l .done) (test .taken) _ (piece-at .ensures))
+    omega (arith, piece-length (a .b .label) (q .1 .1) log (l .n) (a .b .size) (l .done) (test .taken) _ (piece-at .ensures))
 
 loop-again : tie.Need-loop-again Inv-loop μ-loop
 loop-again c =
-    let a = c .before .before .before .before .before .before .before .before .before .before .args in
+    let a = c .before .before .before .before .before .before .before .before .before .before .before .before .args in
+    let q = c .before .before .before .before .before .before .before .before .before .before .before .before .pre in
     let log = joined (a .end .0) (a .log .now) (a .waiting .now) in
-    let l = c .before .before .before .before .before .before .loop in
-    let test = c .before .before .before .before .before .loop-test in
+    let l = c .before .before .before .before .before .before .before .before .loop in
+    let test = c .before .before .before .before .before .before .if1 in
     let piece-at = c .before .before .before .before .piece-at in
     let copy-at = c .before .before .copy-at in
     let t = test .taken in
     let e = piece-at .ensures in
     let p = piece-at .result .now in
-    let k = piece-length log (l .n) (a .size) (l .done) t p e in
-    let g = piece-next log (l .n) (a .size) (l .done) t p e in (
+    let k = piece-length (a .b .label) (q .1 .1) log (l .n) (a .b .size) (l .done) t p e in
+    let g = piece-next (a .b .label) (q .1 .1) log (l .n) (a .b .size) (l .done) t p e in (
       omega (arith, k),
-      piece-room log (l .n) (a .size) (l .done) t p e _ (l .inv .1),
+      piece-room (a .b .label) (q .1 .1) log (l .n) (a .b .size) (l .done) t p e _ (l .inv .1),
       ap length (copy-at .ensures) ∙ length-put (l .d) (l .done) p (omega (arith, k)) ∙ l .inv .2,
-      put-piece (l .d) _ (l .done) (bytesAt log (l .n) (a .size - l .done)) p _ (omega (arith, k, length-bytes log (l .n) (a .size - l .done))) (copy-at .ensures) g ∙ l .inv .3,
+      put-piece (l .d) _ (l .done) (bytesOf log (blockAt (a .b .label) (l .n) (a .b .size - l .done))) p _ (omega (arith, k, length-bytes log (blockAt (a .b .label) (l .n) (a .b .size - l .done)) (q .1 .1))) (copy-at .ensures) g ∙ l .inv .3,
     )
 
 same-length : tie.Need-same-length Inv-loop μ-loop
@@ -92,10 +102,11 @@ same-length c = search needs
 
 returns : tie.Need-returns Inv-loop μ-loop
 returns c =
-    let a = c .before .before .before .before .before .args in
+    let a = c .before .before .before .before .before .before .args in
+    let q = c .before .before .before .before .before .before .pre in
     let log = joined (a .end .0) (a .log .now) (a .waiting .now) in
-    let l = c .before .loop in
-    sym (put-none (l .d) (l .done) _ (piece-none log (l .n) (a .size) (l .done) (c .loop-test .left))) ∙ l .inv .3
+    let l = c .before .before .loop in
+    sym (put-none (l .d) (l .done) _ (piece-none (a .b .label) log (l .n) (a .b .size) (l .done) (c .if1 .left))) ∙ l .inv .3
 
 pub copy-out-spec : {M : Type 1} → statement M
 copy-out-spec = tie.close (tie.spec Inv-loop μ-loop loop-holds sub-piece-at piece-at-requires copy-at-requires add-done add-n loop-less loop-again same-length returns)

@@ -1,4 +1,4 @@
--- `reader::piece_at` meets its contract: at most the 403 bytes of the payload.
+-- `reader::piece_at` meets its contract: at most the bytes of the payload.
 use mathlib.Core.Path.{ap, _∙_}
 use native.Mathlib.Omega.{arith}
 use lib.ListN.{length}
@@ -11,6 +11,9 @@ use Rattle.reader.proofs.piece_at.Tie as tie
 sector-at-requires : tie.Need-sector-at-requires
 sector-at-requires c κs = search needs
 
+payload-of-requires : tie.Need-payload-of-requires
+payload-of-requires c κs = search needs
+
 sub-result : tie.Need-sub-result
 sub-result c = search needs
 
@@ -19,16 +22,16 @@ part-result-start c = search needs
 
 part-result-end : tie.Need-part-result-end
 part-result-end c =
-    let a = c .before .before .before .before .args in
+    let a = c .before .before .before .before .before .args in
     let log = joined (a .end .0) (a .log .now) (a .waiting .now) in
-    omega (arith, ap length (c .before .sector-at .ensures) ∙ length-at log (a .n .0))
+    omega (arith, c .before .payload-of .ensures, ap length (c .before .before .sector-at .ensures) ∙ length-at log (a .n .0))
 
 returns : tie.Need-returns
 returns c =
-    let a = c .before .before .before .before .before .args in
+    let a = c .before .before .before .before .before .before .args in
     let log = joined (a .end .0) (a .log .now) (a .waiting .now) in
-    let sector-at = c .before .before .sector-at in
-    piece-whole log (a .n .0) _ (a .size) (sector-at .ensures) (omega arith)
+    let sector-at = c .before .before .before .sector-at in
+    piece-whole (a .label) log (a .n .0) _ (a .size) (sector-at .ensures) (omega (arith, c .before .before .payload-of .ensures))
 
 add-to : tie.Need-add-to
 add-to c = search needs
@@ -41,16 +44,16 @@ part-result-start-2 c = search needs
 
 part-result-end-2 : tie.Need-part-result-end-2
 part-result-end-2 c =
-    let a = c .before .before .before .before .args in
+    let a = c .before .before .before .before .before .args in
     let log = joined (a .end .0) (a .log .now) (a .waiting .now) in
-    omega (arith, ap length (c .before .sector-at .ensures) ∙ length-at log (a .n .0))
+    omega (arith, c .before .payload-of .ensures, ap length (c .before .before .sector-at .ensures) ∙ length-at log (a .n .0))
 
 returns-2 : tie.Need-returns-2
 returns-2 c =
-    let a = c .before .before .before .before .before .args in
+    let a = c .before .before .before .before .before .before .args in
     let log = joined (a .end .0) (a .log .now) (a .waiting .now) in
-    let sector-at = c .before .before .sector-at in
-    piece-part log (a .n .0) _ (a .size) (sector-at .ensures) (omega arith)
+    let sector-at = c .before .before .before .sector-at in
+    piece-part (a .label) log (a .n .0) _ (a .size) (sector-at .ensures) (omega (arith, c .before .before .payload-of .ensures))
 
 pub piece-at-spec : {M : Type 1} → statement M
-piece-at-spec = tie.close (tie.spec sector-at-requires sub-result part-result-start part-result-end returns add-to sub-result-2 part-result-start-2 part-result-end-2 returns-2)
+piece-at-spec = tie.close (tie.spec sector-at-requires payload-of-requires sub-result part-result-start part-result-end returns add-to sub-result-2 part-result-start-2 part-result-end-2 returns-2)

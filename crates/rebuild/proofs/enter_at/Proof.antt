@@ -10,6 +10,17 @@ slice-aggregate-sound-at c = search needs
 sound-at-requires : tie.Need-sound-at-requires
 sound-at-requires c κs = search needs
 
+enum-told : tie.Need-enum-told
+enum-told c = search needs
+
+enum-told-2 : tie.Need-enum-told-2
+enum-told-2 c = search needs
+
+returns : tie.Need-returns
+returns c =
+    let a = c .before .before .before .before .before .before .args in
+    entered-none (a .log .now) (a .n .0) _ (c .before .before .sound-at .ensures) (a .index .now) (c .enum-told2 .given .1)
+
 slice-aggregate-sector-at : tie.Need-slice-aggregate-sector-at
 slice-aggregate-sector-at c = search needs
 
@@ -18,22 +29,17 @@ sector-at-requires c κs = search needs
 
 enter-label-requires : tie.Need-enter-label-requires
 enter-label-requires c κs =
-    let a = c .before .before .before .before .before .before .before .before .args in
-    label-facts (a .log .now) (a .n .0) _ (c .before .before .before .before .sound-at .ensures) (c .before .before .before .if1 .taken) _ (c .before .sector-at .ensures)
+    let a = c .before .before .before .before .before .before .before .before .before .args in
+    label-facts (a .log .now) (a .n .0) _ (c .before .before .before .before .before .sound-at .ensures) _ (c .before .before .before .enum-told .given .1) _ (c .before .sector-at .ensures)
 
 same-length : tie.Need-same-length
 same-length c = search needs
 
-returns : tie.Need-returns
-returns c =
-    let a = c .before .before .before .before .before .before .before .before .before .before .before .args in
-    entered-some (a .log .now) (a .n .0) _ (c .before .before .before .before .before .before .before .sound-at .ensures) (c .before .before .before .before .before .before .if1 .taken) _ (c .before .before .before .before .sector-at .ensures)
-    (a .index .now) _ (c .before .before .enter-label .ensures)
-
 returns-2 : tie.Need-returns-2
 returns-2 c =
-    let a = c .before .before .before .before .before .args in
-    entered-none (a .log .now) (a .n .0) _ (c .before .sound-at .ensures) (a .index .now) (c .if1 .left)
+    let a = c .before .before .before .before .before .before .before .before .before .before .before .before .args in
+    entered-some (a .log .now) (a .n .0) _ (c .before .before .before .before .before .before .before .before .sound-at .ensures) _ (c .before .before .before .before .before .before .enum-told .given .1) _ (c .before .before .before .before .sector-at .ensures)
+    (a .index .now) _ (c .before .before .enter-label .ensures)
 
 pub enter-at-spec : {M : Type 1} → statement M
 enter-at-spec =
@@ -41,9 +47,11 @@ enter-at-spec =
     (tie.spec
     slice-aggregate-sound-at
     sound-at-requires
+    enum-told
+    enum-told-2
+    returns
     slice-aggregate-sector-at
     sector-at-requires
     enter-label-requires
     same-length
-    returns
     returns-2)

@@ -1,12 +1,25 @@
--- `rebuild::enter_label` meets its contract.
-use mathlib.Core.Path.{ap₂, _∙_}
+-- `rebuild::enter_label` meets its contract: the digits stand behind the line of a date, if there is one.
+use mathlib.Core.Path.{sym, ap, ap₂, _∙_}
+use mathlib.Core.Bool.{true}
 use Prim.Native.Nat.{ℕ}
+use native.Mathlib.Omega.{arith}
 use Rattle.buffer.specs.Bytes.{Bytes}
+use Rattle.word.specs.Hex.{isHex, hexValue, readBytes}
+use Rattle.sector.proofs.Dates.{front-most}
 use Rattle.index.specs.Index.{entered}
-use Rattle.rebuild.proofs.Turns.{score-read}
+use Rattle.rebuild.proofs.Turns.{kind-part, kind-fits, score-part, score-read}
 use borrow.Author.Needs.{needs}
 use Rattle.rebuild.proofs.enter_label.Statement.{statement}
 use Rattle.rebuild.proofs.enter_label.Tie as tie
+
+front-length-requires : tie.Need-front-length-requires
+front-length-requires c κs = search needs
+
+add-at : tie.Need-add-at
+add-at c = omega (arith, c .front-length .ensures, front-most (c .before .before .before .args .s .now))
+
+add-end : tie.Need-add-end
+add-end c = omega (arith, c .front-length .ensures, front-most (c .before .before .before .args .s .now))
 
 sub-read-kind : tie.Need-sub-read-kind
 sub-read-kind c = search needs
@@ -15,10 +28,18 @@ part-read-kind-start : tie.Need-part-read-kind-start
 part-read-kind-start c = search needs
 
 part-read-kind-end : tie.Need-part-read-kind-end
-part-read-kind-end c = search needs
+part-read-kind-end c = omega (arith, c .front-length .ensures, front-most (c .before .before .before .args .s .now))
 
 read-kind-requires : tie.Need-read-kind-requires
-read-kind-requires c κs = search needs
+read-kind-requires c κs =
+    let b = c .before .before .before .before in
+    kind-fits (b .args .s .now) _ (c .before .front-length .ensures) (b .pre .0) (b .pre .1)
+
+add-from : tie.Need-add-from
+add-from c = omega (arith, c .before .before .front-length .ensures, front-most (c .before .before .before .before .before .args .s .now))
+
+add-to : tie.Need-add-to
+add-to c = omega (arith, c .before .before .front-length .ensures, front-most (c .before .before .before .before .before .args .s .now))
 
 slice-aggregate-read-hex-bytes : tie.Need-slice-aggregate-read-hex-bytes
 slice-aggregate-read-hex-bytes c = search needs
@@ -30,7 +51,7 @@ part-read-hex-bytes-start : tie.Need-part-read-hex-bytes-start
 part-read-hex-bytes-start c = search needs
 
 part-read-hex-bytes-end : tie.Need-part-read-hex-bytes-end
-part-read-hex-bytes-end c = search needs
+part-read-hex-bytes-end c = omega (arith, c .before .before .before .front-length .ensures, front-most (c .before .before .before .before .before .before .args .s .now))
 
 read-hex-bytes-requires : tie.Need-read-hex-bytes-requires
 read-hex-bytes-requires c κs = search needs
@@ -46,19 +67,28 @@ same-length c = search needs
 
 returns : tie.Need-returns
 returns c =
-    let b = c .before .before .before .before .before .before .before .before .before .before .before .before .before in
+    let b = c .before .before .before .before .before .before .before .before .before .before .before .before .before .before in
     let a = b .args in
+    let front = c .before .before .before .before .before .before .before .before .before .before .before .front-length in
+    let digits = score-part (a .s .now) _ (front .ensures) in
     c .before .before .enter .ensures
-    ∙ ap₂ (λ (x : Bytes) (k : ℕ). entered (a .index .now) x k (a .first .0)) (score-read _ _ _ _ (b .pre .2) (c .before .before .before .before .before .before .read-hex-bytes .ensures)) (c .before .before .before .before .before .before .before .before .before .read-kind .ensures)
+    ∙ ap₂ (λ (x : Bytes) (k : ℕ). entered (a .index .now) x k (a .first .0))
+    (score-read _ _ _ _ (ap isHex digits ∙ b .pre .2) (c .before .before .before .before .before .before .read-hex-bytes .ensures) ∙ ap readBytes digits)
+    (c .before .before .before .before .before .before .before .before .before .read-kind .ensures ∙ ap hexValue (kind-part (a .s .now) _ (front .ensures)))
 
 pub enter-label-spec : {M : Type 1} → statement M
 enter-label-spec =
     tie.close
     (tie.spec
+    front-length-requires
+    add-at
+    add-end
     sub-read-kind
     part-read-kind-start
     part-read-kind-end
     read-kind-requires
+    add-from
+    add-to
     slice-aggregate-read-hex-bytes
     sub-read-hex-bytes
     part-read-hex-bytes-start

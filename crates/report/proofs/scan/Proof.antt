@@ -1,108 +1,105 @@
 -- `report::scan` meets its contract: what the walk counted up to a sector is what the definitions count there.
-use mathlib.Core.Path.{_∙_}
-use Prim.Native.Nat.{_-_}
+use mathlib.Core.Path.{_≡_, _∙_}
+use Prim.Native.Nat.{ℕ, _+_, _-_, _≤_, _<_}
 use native.Mathlib.Omega.{arith}
 use Rattle.block.specs.Log.{used}
 use Rattle.block.proofs.Used.{used-le-sectors}
-use Rattle.reader.proofs.Alone.{size-alone}
-use Rattle.lookup.proofs.Laws.{size-most}
-use Rattle.report.proofs.Laws.{Counted, counted-zero, counted-none, counted-some, counted-end, some-parts}
+use Rattle.reader.proofs.Alone.{placed-alone}
+use Rattle.lookup.proofs.Laws.{block-bounds}
+use Rattle.report.proofs.Laws.{Counted, counted-zero, counted-none, counted-some, counted-end, parts-some}
 use borrow.Author.Needs.{needs}
 use Rattle.report.proofs.scan.Statement.{statement}
 use Rattle.report.proofs.scan.Tie as tie
+use Rattle.report.proofs.scan.Reads as reads
+use Rattle.report.proofs.scan.Lts as lts
+use Rattle.block.proofs.parts_of.Reads as parts-of-reads
+use Rattle.reader.proofs.sound_at.Reads as sound-at-reads
 
 abbrev Inv-loop : tie.InvT-loop
-Inv-loop log end none whole records₀ doubtful₀ n₀ records doubtful n = Counted log n records doubtful
+Inv-loop log end none whole records₀ doubtful₀ n₀ records doubtful n =
+    Counted log n records doubtful
 
 abbrev μ-loop : tie.MeasureT-loop
-μ-loop log end none whole records₀ doubtful₀ n₀ records doubtful n = used log - n
+μ-loop log end none whole records₀ doubtful₀ n₀ records doubtful n =
+    used log - n
 
+-- src/lib.rt:37:5
 loop-holds : tie.Need-loop-holds Inv-loop μ-loop
-loop-holds c = counted-zero (c .before .args .log .now)
+loop-holds c =
+    counted-zero ((c .before .args .log .now))
 
+-- src/lib.rt:38:50
 slice-aggregate-sound-at : tie.Need-slice-aggregate-sound-at Inv-loop μ-loop
 slice-aggregate-sound-at c = search needs
 
+-- src/lib.rt:38:13
 sound-at-requires : tie.Need-sound-at-requires Inv-loop μ-loop
 sound-at-requires c κs =
-    let log = c .before .before .before .before .before .args .log .now in
-    (omega arith, omega (arith, used-le-sectors log, c .before .before .before .before .before .pre, c .before .if1 .taken))
+    (omega arith, omega (arith, used-le-sectors ((c .before .before .before .before .before .args .log .now)), (c .before .before .before .before .before .pre), (c .before .if1 .taken)))
 
-add-doubtful : tie.Need-add-doubtful Inv-loop μ-loop
-add-doubtful c =
-    let log = c .before .before .before .before .before .before .before .args .log .now in
-    let l = c .before .before .before .before .before .loop in
-    omega (arith, l .inv .few, l .inv .inside, used-le-sectors log)
+-- src/lib.rt:40:23
+enum-known-place : tie.Need-enum-known-place Inv-loop μ-loop
+enum-known-place c = search needs
 
-add-n : tie.Need-add-n Inv-loop μ-loop
-add-n c =
-    let log = c .before .before .before .before .before .before .before .args .log .now in
-    let l = c .before .before .before .before .before .loop in
-    omega (arith, l .inv .inside, used-le-sectors log)
-
-loop-less : tie.Need-loop-less Inv-loop μ-loop
-loop-less c =
-    let log = c .before .before .before .before .before .before .before .args .log .now in
-    let l = c .before .before .before .before .before .loop in
-    omega (arith, c .before .before .before .before .before .before .before .pre)
-
-loop-again : tie.Need-loop-again Inv-loop μ-loop
-loop-again c =
-    let log = c .before .before .before .before .before .before .before .args .log .now in
-    let l = c .before .before .before .before .before .loop in
-    let size = c .before .sound-at in
-    let sized = size .ensures ∙ size-alone log (l .n) in
-    counted-none log (l .n) (l .records) (l .doubtful) (size .result) (l .inv) (omega (arith, c .before .before .before .before .before .before .before .pre)) sized (c .if2 .taken)
-
+-- src/lib.rt:41:21
 parts-of-requires : tie.Need-parts-of-requires Inv-loop μ-loop
 parts-of-requires c κs =
-    let log = c .before .before .before .before .before .before .before .args .log .now in
-    let l = c .before .before .before .before .before .loop in
-    let size = c .before .sound-at in
-    let sized = size .ensures ∙ size-alone log (l .n) in
-    omega (arith, size-most log (l .n) (size .result) sized)
+    let b = block-bounds ((c .before .before .before .before .before .before .before .before .before .args .log .now)) ((c .before .before .before .before .before .before .before .loop .n)) ((c .before .before .before .sound-at .result)) _ ((c .before .before .before .sound-at .ensures) ∙ placed-alone ((c .before .before .before .before .before .before .before .before .before .args .log .now)) ((c .before .before .before .before .before .before .before .loop .n))) ((c .before .place .given .1)) in
+    (b .0, omega (arith, b .1))
 
+-- src/lib.rt:42:17
 add-records : tie.Need-add-records Inv-loop μ-loop
 add-records c =
-    let log = c .before .before .before .before .before .before .before .before .args .log .now in
-    let l = c .before .before .before .before .before .before .loop in
-    let size = c .before .before .sound-at in
-    let sized = size .ensures ∙ size-alone log (l .n) in
-    let on = counted-some log (l .n) (l .records) (l .doubtful) (size .result) (l .inv) sized (c .before .if2 .left) in
-    omega (arith, l .inv .few, l .inv .inside, on .inside, c .parts-of .ensures, used-le-sectors log)
+    let on = counted-some ((c .before .before .before .before .before .before .before .before .before .before .args .log .now)) ((c .before .before .before .before .before .before .before .before .loop .n)) ((c .before .before .before .before .before .before .before .before .loop .records)) ((c .before .before .before .before .before .before .before .before .loop .doubtful)) ((c .before .before .before .before .sound-at .result)) _ ((c .before .before .before .before .before .before .before .before .loop .inv)) ((c .before .before .before .before .sound-at .ensures) ∙ placed-alone ((c .before .before .before .before .before .before .before .before .before .before .args .log .now)) ((c .before .before .before .before .before .before .before .before .loop .n))) ((c .before .before .place .given .1)) in
+    omega (arith, (c .before .before .before .before .before .before .before .before .loop .inv .few), (c .before .before .before .before .before .before .before .before .loop .inv .inside), on .inside, (c .parts-of .ensures), used-le-sectors ((c .before .before .before .before .before .before .before .before .before .before .args .log .now)))
 
+-- src/lib.rt:43:17
+add-n : tie.Need-add-n Inv-loop μ-loop
+add-n c =
+    let on = counted-some ((c .before .before .before .before .before .before .before .before .before .before .args .log .now)) ((c .before .before .before .before .before .before .before .before .loop .n)) ((c .before .before .before .before .before .before .before .before .loop .records)) ((c .before .before .before .before .before .before .before .before .loop .doubtful)) ((c .before .before .before .before .sound-at .result)) _ ((c .before .before .before .before .before .before .before .before .loop .inv)) ((c .before .before .before .before .sound-at .ensures) ∙ placed-alone ((c .before .before .before .before .before .before .before .before .before .before .args .log .now)) ((c .before .before .before .before .before .before .before .before .loop .n))) ((c .before .before .place .given .1)) in
+    omega (arith, (c .before .before .before .before .before .before .before .before .loop .inv .inside), on .inside, (c .parts-of .ensures), used-le-sectors ((c .before .before .before .before .before .before .before .before .before .before .args .log .now)))
+
+-- src/lib.rt:37:5
+loop-less : tie.Need-loop-less Inv-loop μ-loop
+loop-less c =
+    let on = counted-some ((c .before .before .before .before .before .before .before .before .before .before .args .log .now)) ((c .before .before .before .before .before .before .before .before .loop .n)) ((c .before .before .before .before .before .before .before .before .loop .records)) ((c .before .before .before .before .before .before .before .before .loop .doubtful)) ((c .before .before .before .before .sound-at .result)) _ ((c .before .before .before .before .before .before .before .before .loop .inv)) ((c .before .before .before .before .sound-at .ensures) ∙ placed-alone ((c .before .before .before .before .before .before .before .before .before .before .args .log .now)) ((c .before .before .before .before .before .before .before .before .loop .n))) ((c .before .before .place .given .1)) in
+    let pos = parts-some ((c .before .before .before .before .before .before .before .before .before .before .args .log .now)) ((c .before .before .before .before .before .before .before .before .loop .n)) ((c .before .before .before .before .sound-at .result)) _ ((c .before .before .before .before .sound-at .ensures) ∙ placed-alone ((c .before .before .before .before .before .before .before .before .before .before .args .log .now)) ((c .before .before .before .before .before .before .before .before .loop .n))) ((c .before .before .place .given .1)) in
+    omega (arith, on .inside, (c .parts-of .ensures), pos, (c .before .before .before .before .before .before .before .before .before .before .pre))
+
+-- src/lib.rt:37:5
+loop-again : tie.Need-loop-again Inv-loop μ-loop
+loop-again c =
+    let on = counted-some ((c .before .before .before .before .before .before .before .before .before .before .args .log .now)) ((c .before .before .before .before .before .before .before .before .loop .n)) ((c .before .before .before .before .before .before .before .before .loop .records)) ((c .before .before .before .before .before .before .before .before .loop .doubtful)) ((c .before .before .before .before .sound-at .result)) _ ((c .before .before .before .before .before .before .before .before .loop .inv)) ((c .before .before .before .before .sound-at .ensures) ∙ placed-alone ((c .before .before .before .before .before .before .before .before .before .before .args .log .now)) ((c .before .before .before .before .before .before .before .before .loop .n))) ((c .before .before .place .given .1)) in
+    rw ((c .parts-of .ensures)) on
+
+-- src/lib.rt:46:17
+enum-told : tie.Need-enum-told Inv-loop μ-loop
+enum-told c = search needs
+
+-- src/lib.rt:46:17
+add-doubtful : tie.Need-add-doubtful Inv-loop μ-loop
+add-doubtful c =
+    omega (arith, (c .before .before .before .before .before .before .loop .inv .few), (c .before .before .before .before .before .before .loop .inv .inside), used-le-sectors ((c .before .before .before .before .before .before .before .before .args .log .now)))
+
+-- src/lib.rt:47:17
 add-n-2 : tie.Need-add-n-2 Inv-loop μ-loop
 add-n-2 c =
-    let log = c .before .before .before .before .before .before .before .before .args .log .now in
-    let l = c .before .before .before .before .before .before .loop in
-    let size = c .before .before .sound-at in
-    let sized = size .ensures ∙ size-alone log (l .n) in
-    let on = counted-some log (l .n) (l .records) (l .doubtful) (size .result) (l .inv) sized (c .before .if2 .left) in
-    omega (arith, l .inv .inside, on .inside, c .parts-of .ensures, used-le-sectors log)
+    omega (arith, (c .before .before .before .before .before .before .loop .inv .inside), used-le-sectors ((c .before .before .before .before .before .before .before .before .args .log .now)))
 
+-- src/lib.rt:37:5
 loop-less-2 : tie.Need-loop-less-2 Inv-loop μ-loop
 loop-less-2 c =
-    let log = c .before .before .before .before .before .before .before .before .args .log .now in
-    let l = c .before .before .before .before .before .before .loop in
-    let size = c .before .before .sound-at in
-    let sized = size .ensures ∙ size-alone log (l .n) in
-    let on = counted-some log (l .n) (l .records) (l .doubtful) (size .result) (l .inv) sized (c .before .if2 .left) in
-    omega (arith, on .inside, c .parts-of .ensures, some-parts (size .result) (omega (arith, c .before .if2 .left)), c .before .before .before .before .before .before .before .before .pre)
+    omega (arith, (c .before .before .before .before .before .before .before .before .pre), (c .before .before .before .before .if1 .taken))
 
+-- src/lib.rt:37:5
 loop-again-2 : tie.Need-loop-again-2 Inv-loop μ-loop
 loop-again-2 c =
-    let log = c .before .before .before .before .before .before .before .before .args .log .now in
-    let l = c .before .before .before .before .before .before .loop in
-    let size = c .before .before .sound-at in
-    let sized = size .ensures ∙ size-alone log (l .n) in
-    let on = counted-some log (l .n) (l .records) (l .doubtful) (size .result) (l .inv) sized (c .before .if2 .left) in
-    rw (c .parts-of .ensures) on
+    counted-none ((c .before .before .before .before .before .before .before .before .args .log .now)) ((c .before .before .before .before .before .before .loop .n)) ((c .before .before .before .before .before .before .loop .records)) ((c .before .before .before .before .before .before .loop .doubtful)) ((c .before .before .sound-at .result)) ((c .before .before .before .before .before .before .loop .inv)) (omega (arith, (c .before .before .before .before .before .before .before .before .pre), (c .before .before .before .before .if1 .taken))) ((c .before .before .sound-at .ensures) ∙ placed-alone ((c .before .before .before .before .before .before .before .before .args .log .now)) ((c .before .before .before .before .before .before .loop .n))) ((c .enum-told .given .1))
 
+-- src/lib.rt:28:1
 returns : tie.Need-returns Inv-loop μ-loop
 returns c =
-    let log = c .before .before .before .before .args .log .now in
-    let l = c .before .before .loop in
-    counted-end log (l .n) (l .records) (l .doubtful) (l .inv) (omega (arith, c .before .before .before .before .pre))
+    counted-end ((c .before .before .before .before .args .log .now)) ((c .before .before .loop .n)) ((c .before .before .loop .records)) ((c .before .before .loop .doubtful)) ((c .before .before .loop .inv)) (omega (arith, (c .before .before .before .before .pre), (c .if1 .left)))
 
 pub scan-spec : {M : Type 1} → statement M
 scan-spec =
@@ -113,12 +110,14 @@ scan-spec =
     loop-holds
     slice-aggregate-sound-at
     sound-at-requires
-    add-doubtful
+    enum-known-place
+    parts-of-requires
+    add-records
     add-n
     loop-less
     loop-again
-    parts-of-requires
-    add-records
+    enum-told
+    add-doubtful
     add-n-2
     loop-less-2
     loop-again-2

@@ -1,16 +1,16 @@
 use mathlib.Core.Path.{_≡_, refl, sym, ap, ap₂, _∙_}
+use mathlib.Core.Bool.{true, false, _&&_}
 use Prim.Native.Nat.{ℕ, _+_, _-_, _≤_}
 use native.Mathlib.Omega.{arith}
-use lib.ListN.{length, take, drop, length-drop}
-use lib.Seq.{length-take-le, take-all}
+use lib.ListN.{length, getD, take, drop}
+use lib.Seq.{length-take-le}
+use borrow.Author.Tests.{not-true, not-false}
 use Rattle.buffer.specs.Bytes.{Bytes, same}
+use Rattle.buffer.proofs.Bytes.{same-true, same-refl}
 use Rattle.buffer.proofs.Put.{put-whole}
-use Rattle.word.specs.Hex.{hex}
-use Rattle.crc32_rule.specs.Crc32.{crc32Of}
-use Rattle.sector.specs.Sector.{line, crcName, labelOf, check, fits}
-use Rattle.sector.proofs.Encode.{length-check}
+use Rattle.sector.specs.Sector.{labelOf}
 use Rattle.sector.proofs.Fields.{length-label}
-use Rattle.sector.proofs.Written.{length-three, sector-written}
+use Rattle.sector.proofs.Written.{label-unlike, label-alike}
 use borrow.Author.Needs.{needs}
 use Rattle.sector.proofs.has_label.Statement.{statement}
 use Rattle.sector.proofs.has_label.Tie as tie
@@ -19,31 +19,70 @@ use Rattle.sector.proofs.has_label.Lts as lts
 use Rattle.buffer.proofs.equal.Reads as equal-reads
 use Rattle.sector.proofs.write_label.Reads as write-label-reads
 
-slice-aggregate-write-label : tie.Need-slice-aggregate-write-label
-slice-aggregate-write-label c = search needs
-
-write-label-requires : tie.Need-write-label-requires
-write-label-requires c κs = search needs
-
+-- src/lib.rt:124:23
 slice-aggregate-equal : tie.Need-slice-aggregate-equal
-slice-aggregate-equal c = sym (length-take-le 96 ((c .before .before .before .before .before .before .args .s .now)) ((c .before .before .before .before .before .before .pre .0)))
+slice-aggregate-equal c =
+    sym (length-take-le (length ((c .before .before .before .before .args .front .now))) ((c .before .before .before .before .args .s .now)) (omega (arith, (c .before .before .before .before .pre .0))))
 
-slice-aggregate-equal-2 : tie.Need-slice-aggregate-equal-2
-slice-aggregate-equal-2 c = search needs
-
+-- src/lib.rt:124:9
 equal-requires : tie.Need-equal-requires
 equal-requires c κs = search needs
 
+-- src/lib.rt:125:9
 returns : tie.Need-returns
-returns c = (c .equal .ensures) ∙ ap (same (take 96 ((c .before .before .before .before .before .before .before .before .args .s .now)))) ((c .before .before .before .before .write-label .ensures) ∙ put-whole _ (labelOf ((c .before .before .before .before .before .before .before .before .args .l)) ((c .before .before .before .before .before .before .before .before .args .score .now))) (length-label ((c .before .before .before .before .before .before .before .before .args .l)) ((c .before .before .before .before .before .before .before .before .args .score .now)) ((c .before .before .before .before .before .before .before .before .pre .1))))
+returns c =
+    sym (label-unlike ((c .before .before .before .before .before .before .args .s .now)) ((c .before .before .before .before .before .before .args .front .now)) (labelOf ((c .before .before .before .before .before .before .args .l)) ((c .before .before .before .before .before .before .args .score .now))) 96 _ (length-label ((c .before .before .before .before .before .before .args .l)) ((c .before .before .before .before .before .before .args .score .now)) ((c .before .before .before .before .before .before .pre .1))) ((c .before .before .before .before .before .before .pre .0)) ((c .before .equal .ensures)) (not-true _ ((c .if1 .taken))))
+
+-- src/lib.rt:128:17
+slice-aggregate-write-label : tie.Need-slice-aggregate-write-label
+slice-aggregate-write-label c = search needs
+
+-- src/lib.rt:128:5
+write-label-requires : tie.Need-write-label-requires
+write-label-requires c κs = search needs
+
+-- src/lib.rt:129:15
+add-end : tie.Need-add-end
+add-end c = search needs
+
+-- src/lib.rt:130:19
+sub-equal : tie.Need-sub-equal
+sub-equal c = search needs
+
+-- src/lib.rt:130:19
+part-equal-start : tie.Need-part-equal-start
+part-equal-start c = search needs
+
+-- src/lib.rt:130:19
+part-equal-end : tie.Need-part-equal-end
+part-equal-end c = search needs
+
+-- src/lib.rt:130:34
+slice-aggregate-equal-2 : tie.Need-slice-aggregate-equal-2
+slice-aggregate-equal-2 c = search needs
+
+-- src/lib.rt:130:5
+equal-requires-2 : tie.Need-equal-requires-2
+equal-requires-2 c κs = search needs
+
+-- src/lib.rt:119:1
+returns-2 : tie.Need-returns-2
+returns-2 c =
+    label-alike ((c .before .before .before .before .before .before .before .before .before .before .before .before .args .s .now)) ((c .before .before .before .before .before .before .before .before .before .before .before .before .args .front .now)) (labelOf ((c .before .before .before .before .before .before .before .before .before .before .before .before .args .l)) ((c .before .before .before .before .before .before .before .before .before .before .before .before .args .score .now))) 96 _ _ (length-label ((c .before .before .before .before .before .before .before .before .before .before .before .before .args .l)) ((c .before .before .before .before .before .before .before .before .before .before .before .before .args .score .now)) ((c .before .before .before .before .before .before .before .before .before .before .before .before .pre .1))) ((c .before .before .before .before .before .before .before .before .before .before .before .before .pre .0)) ((c .before .before .before .before .before .before .before .equal .ensures)) (not-false _ ((c .before .before .before .before .before .before .if1 .left))) ((c .equal2 .ensures) ∙ ap (same (take (length ((c .before .before .before .before .before .before .before .before .before .before .before .before .args .front .now)) + 96 - length ((c .before .before .before .before .before .before .before .before .before .before .before .before .args .front .now))) (drop (length ((c .before .before .before .before .before .before .before .before .before .before .before .before .args .front .now))) ((c .before .before .before .before .before .before .before .before .before .before .before .before .args .s .now))))) ((c .before .before .before .before .write-label .ensures) ∙ put-whole _ (labelOf ((c .before .before .before .before .before .before .before .before .before .before .before .before .args .l)) ((c .before .before .before .before .before .before .before .before .before .before .before .before .args .score .now))) (length-label ((c .before .before .before .before .before .before .before .before .before .before .before .before .args .l)) ((c .before .before .before .before .before .before .before .before .before .before .before .before .args .score .now)) ((c .before .before .before .before .before .before .before .before .before .before .before .before .pre .1)))))
 
 pub has-label-spec : {M : Type 1} → statement M
 has-label-spec =
     tie.close
     (tie.spec
+    slice-aggregate-equal
+    equal-requires
+    returns
     slice-aggregate-write-label
     write-label-requires
-    slice-aggregate-equal
+    add-end
+    sub-equal
+    part-equal-start
+    part-equal-end
     slice-aggregate-equal-2
-    equal-requires
-    returns)
+    equal-requires-2
+    returns-2)

@@ -1,14 +1,13 @@
 use mathlib.Core.Path.{_≡_, refl, sym, ap, ap₂, _∙_}
+use mathlib.Core.Bool.{true, false, _&&_}
 use Prim.Native.Nat.{ℕ, _+_, _-_, _≤_}
 use native.Mathlib.Omega.{arith}
-use lib.ListN.{length, take, drop, length-drop}
-use lib.Seq.{length-take-le, take-all}
+use lib.ListN.{length, getD, take, drop}
+use lib.Seq.{length-take-le}
+use borrow.Author.Tests.{not-true, not-false}
 use Rattle.buffer.specs.Bytes.{Bytes, same}
-use Rattle.buffer.proofs.Put.{put-whole}
-use Rattle.word.specs.Hex.{hex}
-use Rattle.crc32_rule.specs.Crc32.{crc32Of}
-use Rattle.sector.specs.Sector.{line, crcName, labelOf, check, fits}
-use Rattle.sector.proofs.Encode.{length-check}
+use Rattle.buffer.proofs.Bytes.{same-true, same-refl}
+use Rattle.sector.specs.Sector.{labelOf}
 use Rattle.sector.proofs.Fields.{length-label}
 use Rattle.sector.proofs.Written.{three-front, sector-written}
 use borrow.Author.Needs.{needs}
@@ -22,57 +21,99 @@ use Rattle.crc32.proofs.crc32.Reads as crc32-reads
 use Rattle.sector.proofs.write_label.Reads as write-label-reads
 use Rattle.sector.proofs.write_line.Reads as write-line-reads
 
-write-label-requires : tie.Need-write-label-requires
-write-label-requires c κs = search needs
-
+-- src/lib.rt:149:5
 copy-at-requires : tie.Need-copy-at-requires
 copy-at-requires c κs = search needs
 
+-- src/lib.rt:151:17
+sub-write-label : tie.Need-sub-write-label
+sub-write-label c = search needs
+
+-- src/lib.rt:151:17
+part-write-label-start : tie.Need-part-write-label-start
+part-write-label-start c = search needs
+
+-- src/lib.rt:151:17
+part-write-label-end : tie.Need-part-write-label-end
+part-write-label-end c = search needs
+
+-- src/lib.rt:151:5
+write-label-requires : tie.Need-write-label-requires
+write-label-requires c κs = search needs
+
+-- src/lib.rt:152:14
+add-at : tie.Need-add-at
+add-at c = search needs
+
+-- src/lib.rt:153:5
+copy-at-requires-2 : tie.Need-copy-at-requires-2
+copy-at-requires-2 c κs = search needs
+
+-- src/lib.rt:154:15
 add-end : tie.Need-add-end
 add-end c = search needs
 
+-- src/lib.rt:155:19
 sub-clear : tie.Need-sub-clear
 sub-clear c = search needs
 
+-- src/lib.rt:155:19
 part-clear-start : tie.Need-part-clear-start
 part-clear-start c = search needs
 
+-- src/lib.rt:155:19
 part-clear-end : tie.Need-part-clear-end
 part-clear-end c = search needs
 
+-- src/lib.rt:155:5
 clear-requires : tie.Need-clear-requires
 clear-requires c κs = search needs
 
+-- src/lib.rt:156:28
 slice-reshare-prefix-crc32 : tie.Need-slice-reshare-prefix-crc32
 slice-reshare-prefix-crc32 c = search needs
 
+-- src/lib.rt:156:28
 slice-aggregate-crc32 : tie.Need-slice-aggregate-crc32
-slice-aggregate-crc32 c = three-front ((c .before .before .before .before .before .before .before .before .before .before .before .before .before .before .before .before .args .d .now)) _ _ _ ((c .before .before .before .before .before .before .before .before .before .before .before .before .before .before .before .before .args .d .now)) (labelOf ((c .before .before .before .before .before .before .before .before .before .before .before .before .before .before .before .before .args .l)) ((c .before .before .before .before .before .before .before .before .before .before .before .before .before .before .before .before .args .score .now))) ((c .before .before .before .before .before .before .before .before .before .before .before .before .before .before .before .before .args .piece .now)) 0 (omega arith) (length-label ((c .before .before .before .before .before .before .before .before .before .before .before .before .before .before .before .before .args .l)) ((c .before .before .before .before .before .before .before .before .before .before .before .before .before .before .before .before .args .score .now)) ((c .before .before .before .before .before .before .before .before .before .before .before .before .before .before .before .before .pre .1))) ((c .before .before .before .before .before .before .before .before .before .before .before .before .before .before .before .before .pre .2)) ((c .before .before .before .before .before .before .before .before .before .before .before .write-label .ensures)) ((c .before .before .before .before .before .before .before .copy-at .ensures)) ((c .before .before .before .clear .ensures))
+slice-aggregate-crc32 c =
+    three-front ((c .before .before .before .before .before .before .before .before .before .before .before .before .before .before .before .before .before .before .before .before .before .args .d .now)) _ _ _ _ ((c .before .before .before .before .before .before .before .before .before .before .before .before .before .before .before .before .before .before .before .before .before .args .d .now)) ((c .before .before .before .before .before .before .before .before .before .before .before .before .before .before .before .before .before .before .before .before .before .args .front .now)) (labelOf ((c .before .before .before .before .before .before .before .before .before .before .before .before .before .before .before .before .before .before .before .before .before .args .l)) ((c .before .before .before .before .before .before .before .before .before .before .before .before .before .before .before .before .before .before .before .before .before .args .score .now))) ((c .before .before .before .before .before .before .before .before .before .before .before .before .before .before .before .before .before .before .before .before .before .args .piece .now)) 0 (omega arith) (length-label ((c .before .before .before .before .before .before .before .before .before .before .before .before .before .before .before .before .before .before .before .before .before .args .l)) ((c .before .before .before .before .before .before .before .before .before .before .before .before .before .before .before .before .before .before .before .before .before .args .score .now)) ((c .before .before .before .before .before .before .before .before .before .before .before .before .before .before .before .before .before .before .before .before .before .pre .1))) ((c .before .before .before .before .before .before .before .before .before .before .before .before .before .before .before .before .before .before .before .before .before .pre .2)) ((c .before .before .before .before .before .before .before .before .before .before .before .before .before .before .before .copy-at .ensures)) ((c .before .before .before .before .before .before .before .before .before .before .before .write-label .ensures)) ((c .before .before .before .before .before .before .before .copy-at2 .ensures)) ((c .before .before .before .clear .ensures))
 
+-- src/lib.rt:156:9
 crc32-requires : tie.Need-crc32-requires
 crc32-requires c κs = search needs
 
+-- src/lib.rt:157:25
 slice-aggregate-write-line : tie.Need-slice-aggregate-write-line
 slice-aggregate-write-line c = search needs
 
+-- src/lib.rt:157:37
 cast-write-line : tie.Need-cast-write-line
 cast-write-line c = search needs
 
+-- src/lib.rt:157:5
 write-line-requires : tie.Need-write-line-requires
 write-line-requires c κs = search needs
 
+-- src/lib.rt:145:1
 same-length : tie.Need-same-length
 same-length c = search needs
 
+-- src/lib.rt:145:1
 returns : tie.Need-returns
-returns c = sector-written ((c .before .before .before .before .before .before .before .before .before .before .before .before .before .before .before .before .before .before .before .before .before .before .args .d .now)) _ _ _ _ (labelOf ((c .before .before .before .before .before .before .before .before .before .before .before .before .before .before .before .before .before .before .before .before .before .before .args .l)) ((c .before .before .before .before .before .before .before .before .before .before .before .before .before .before .before .before .before .before .before .before .before .before .args .score .now))) ((c .before .before .before .before .before .before .before .before .before .before .before .before .before .before .before .before .before .before .before .before .before .before .args .piece .now)) ((c .before .before .before .before .before .crc32 .result)) (omega arith) (length-label ((c .before .before .before .before .before .before .before .before .before .before .before .before .before .before .before .before .before .before .before .before .before .before .args .l)) ((c .before .before .before .before .before .before .before .before .before .before .before .before .before .before .before .before .before .before .before .before .before .before .args .score .now)) ((c .before .before .before .before .before .before .before .before .before .before .before .before .before .before .before .before .before .before .before .before .before .before .pre .1))) ((c .before .before .before .before .before .before .before .before .before .before .before .before .before .before .before .before .before .before .before .before .before .before .pre .2)) ((c .before .before .before .before .before .before .before .before .before .before .before .before .before .before .before .before .before .write-label .ensures)) ((c .before .before .before .before .before .before .before .before .before .before .before .before .before .copy-at .ensures)) ((c .before .before .before .before .before .before .before .before .before .clear .ensures)) ((c .before .before .before .before .before .crc32 .ensures)) ((c .before .before .write-line .ensures))
+returns c =
+    sector-written ((c .before .before .before .before .before .before .before .before .before .before .before .before .before .before .before .before .before .before .before .before .before .before .before .before .before .before .before .args .d .now)) _ _ _ _ _ ((c .before .before .before .before .before .before .before .before .before .before .before .before .before .before .before .before .before .before .before .before .before .before .before .before .before .before .before .args .front .now)) (labelOf ((c .before .before .before .before .before .before .before .before .before .before .before .before .before .before .before .before .before .before .before .before .before .before .before .before .before .before .before .args .l)) ((c .before .before .before .before .before .before .before .before .before .before .before .before .before .before .before .before .before .before .before .before .before .before .before .before .before .before .before .args .score .now))) ((c .before .before .before .before .before .before .before .before .before .before .before .before .before .before .before .before .before .before .before .before .before .before .before .before .before .before .before .args .piece .now)) ((c .before .before .before .before .before .crc32 .result)) (omega arith) (length-label ((c .before .before .before .before .before .before .before .before .before .before .before .before .before .before .before .before .before .before .before .before .before .before .before .before .before .before .before .args .l)) ((c .before .before .before .before .before .before .before .before .before .before .before .before .before .before .before .before .before .before .before .before .before .before .before .before .before .before .before .args .score .now)) ((c .before .before .before .before .before .before .before .before .before .before .before .before .before .before .before .before .before .before .before .before .before .before .before .before .before .before .before .pre .1))) ((c .before .before .before .before .before .before .before .before .before .before .before .before .before .before .before .before .before .before .before .before .before .before .before .before .before .before .before .pre .2)) ((c .before .before .before .before .before .before .before .before .before .before .before .before .before .before .before .before .before .before .before .before .before .copy-at .ensures)) ((c .before .before .before .before .before .before .before .before .before .before .before .before .before .before .before .before .before .write-label .ensures)) ((c .before .before .before .before .before .before .before .before .before .before .before .before .before .copy-at2 .ensures)) ((c .before .before .before .before .before .before .before .before .before .clear .ensures)) ((c .before .before .before .before .before .crc32 .ensures)) ((c .before .before .write-line .ensures))
 
 pub write-sector-spec : {M : Type 1} → statement M
 write-sector-spec =
     tie.close
     (tie.spec
-    write-label-requires
     copy-at-requires
+    sub-write-label
+    part-write-label-start
+    part-write-label-end
+    write-label-requires
+    add-at
+    copy-at-requires-2
     add-end
     sub-clear
     part-clear-start

@@ -4,8 +4,8 @@ use Prim.Native.Nat.{ℕ, _+_, _-_, _%_, _≤_, _<_, min}
 use native.Mathlib.Omega.{arith}
 use lib.ListN.{length, take, drop}
 use Rattle.buffer.proofs.Put.{length-put}
-use Rattle.block.specs.Log.{joined}
-use Rattle.reader.specs.Reader.{bytesAt}
+use Rattle.sector.specs.Sector.{payloadOf}
+use Rattle.block.specs.Log.{joined, bytesOf}
 use Rattle.reader.proofs.Pieces.{length-bytes}
 use Rattle.tree.proofs.Pieces.{Left, left-all, left-none, left-zeros, piece-some, piece-fits, piece-left}
 use borrow.Author.Needs.{needs}
@@ -13,16 +13,16 @@ use Rattle.tree.proofs.read_part.Statement.{statement}
 use Rattle.tree.proofs.read_part.Tie as tie
 
 abbrev Inv-loop : tie.InvT-loop
-Inv-loop log end waiting first size from d₀ done₀ d done =
-    (done ≤ length d) × (length d ≡ length d₀) × Left (bytesAt (joined (end .0) log waiting) (first .0) size) from d₀ d done
+Inv-loop log end waiting b from d₀ done₀ d done =
+    (done ≤ length d) × (length d ≡ length d₀) × Left (bytesOf (joined (end .0) log waiting) b) from d₀ d done
 
 abbrev μ-loop : tie.MeasureT-loop
-μ-loop log end waiting first size from d₀ done₀ d done = length d₀ - done
+μ-loop log end waiting b from d₀ done₀ d done = length d₀ - done
 
 loop-holds : tie.Need-loop-holds Inv-loop μ-loop
 loop-holds c =
     let a = c .before .before .before .args in
-    (omega arith, refl, left-all (bytesAt (joined (a .end .0) (a .log .now) (a .waiting .now)) (a .first .0) (a .size)) (a .from) (a .d .now))
+    (omega arith, refl, left-all (bytesOf (joined (a .end .0) (a .log .now) (a .waiting .now)) (a .b)) (a .from) (a .d .now))
 
 add-k : tie.Need-add-k Inv-loop μ-loop
 add-k c = search needs
@@ -44,13 +44,14 @@ same-length c = search needs
 
 returns : tie.Need-returns Inv-loop μ-loop
 returns c =
-    let a = c .before .before .before .before .before .before .before .before .before .before .args in
-    let l = c .before .before .before .before .before .before .loop in
+    let a = c .before .before .before .before .before .before .before .before .before .before .before .args in
+    let l = c .before .before .before .before .before .before .before .loop in
     let if1 = c .before .before .before .before .if1 in
     let clear = c .before .before .clear in
+    let q = c .before .before .before .before .before .before .before .before .before .before .before .pre in
     let log = joined (a .end .0) (a .log .now) (a .waiting .now) in
-    left-zeros (bytesAt log (a .first .0) (a .size)) (a .from) (a .d .now) (l .d) _ (l .done) (l .inv .0) (l .inv .1)
-    (omega (arith, (if1 .taken), length-bytes log (a .first .0) (a .size))) (clear .ensures) (l .inv .2)
+    left-zeros (bytesOf log (a .b)) (a .from) (a .d .now) (l .d) _ (l .done) (l .inv .0) (l .inv .1)
+    (omega (arith, (if1 .taken), length-bytes log (a .b) (q .1 .1))) (clear .ensures) (l .inv .2)
 
 sub-piece-from : tie.Need-sub-piece-from Inv-loop μ-loop
 sub-piece-from c = search needs
@@ -60,75 +61,87 @@ piece-from-requires c κs = search needs
 
 copy-at-requires : tie.Need-copy-at-requires Inv-loop μ-loop
 copy-at-requires c κs =
-    let a = c .before .before .before .before .before .before .before .before .args in
-    let l = c .before .before .before .before .loop in
-    let loop-test = c .before .before .before .loop-test in
+    let a = c .before .before .before .before .before .before .before .before .before .args in
+    let l = c .before .before .before .before .before .loop in
+    let loop-test = c .before .before .before .before .loop-test in
     let if1 = c .before .before .if1 in
     let piece-from = c .before .piece-from in
+    let q = c .before .before .before .before .before .before .before .before .before .pre in
     let log = joined (a .end .0) (a .log .now) (a .waiting .now) in
-    let b = bytesAt log (a .first .0) (a .size) in
+    let b = bytesOf log (a .b) in
+    let w = payloadOf (a .b .label) in
+    let pos : 0 < w = omega arith in
     let k = a .from + l .done in
     let p = (piece-from .result) .now in
-    let size = length-bytes log (a .first .0) (a .size) in
+    let size = length-bytes log (a .b) (q .1 .1) in
     let inside : k < length b = omega (arith, size, (if1 .left)) in
-    let here = (piece-from .ensures) ∙ ap (λ (n : ℕ). take (min (403 - k % 403) (min (n - k) (length (l .d) - l .done))) (drop k b)) (sym size) in
-    piece-fits b (a .from) (a .d .now) (l .d) p (l .done) (loop-test .taken) (l .inv .1) inside here
+    let here = (piece-from .ensures) ∙ ap (λ (n : ℕ). take (min (w - k % w) (min (n - k) (length (l .d) - l .done))) (drop k b)) (sym size) in
+    piece-fits b (a .from) (a .d .now) w pos (l .d) p (l .done) (loop-test .taken) (l .inv .1) inside here
 
 add-done : tie.Need-add-done Inv-loop μ-loop
 add-done c =
-    let a = c .before .before .before .before .before .before .before .before .before .before .before .args in
-    let l = c .before .before .before .before .before .before .before .loop in
-    let loop-test = c .before .before .before .before .before .before .loop-test in
+    let a = c .before .before .before .before .before .before .before .before .before .before .before .before .args in
+    let l = c .before .before .before .before .before .before .before .before .loop in
+    let loop-test = c .before .before .before .before .before .before .before .loop-test in
     let if1 = c .before .before .before .before .before .if1 in
     let piece-from = c .before .before .before .before .piece-from in
+    let q = c .before .before .before .before .before .before .before .before .before .before .before .before .pre in
     let log = joined (a .end .0) (a .log .now) (a .waiting .now) in
-    let b = bytesAt log (a .first .0) (a .size) in
+    let b = bytesOf log (a .b) in
+    let w = payloadOf (a .b .label) in
+    let pos : 0 < w = omega arith in
     let k = a .from + l .done in
     let p = (piece-from .result) .now in
-    let size = length-bytes log (a .first .0) (a .size) in
+    let size = length-bytes log (a .b) (q .1 .1) in
     let inside : k < length b = omega (arith, size, (if1 .left)) in
-    let here = (piece-from .ensures) ∙ ap (λ (n : ℕ). take (min (403 - k % 403) (min (n - k) (length (l .d) - l .done))) (drop k b)) (sym size) in
-    omega (arith, piece-fits b (a .from) (a .d .now) (l .d) p (l .done) (loop-test .taken) (l .inv .1) inside here)
+    let here = (piece-from .ensures) ∙ ap (λ (n : ℕ). take (min (w - k % w) (min (n - k) (length (l .d) - l .done))) (drop k b)) (sym size) in
+    omega (arith, piece-fits b (a .from) (a .d .now) w pos (l .d) p (l .done) (loop-test .taken) (l .inv .1) inside here)
 
 loop-less : tie.Need-loop-less Inv-loop μ-loop
 loop-less c =
-    let a = c .before .before .before .before .before .before .before .before .before .before .before .args in
-    let l = c .before .before .before .before .before .before .before .loop in
-    let loop-test = c .before .before .before .before .before .before .loop-test in
+    let a = c .before .before .before .before .before .before .before .before .before .before .before .before .args in
+    let l = c .before .before .before .before .before .before .before .before .loop in
+    let loop-test = c .before .before .before .before .before .before .before .loop-test in
     let if1 = c .before .before .before .before .before .if1 in
     let piece-from = c .before .before .before .before .piece-from in
+    let q = c .before .before .before .before .before .before .before .before .before .before .before .before .pre in
     let log = joined (a .end .0) (a .log .now) (a .waiting .now) in
-    let b = bytesAt log (a .first .0) (a .size) in
+    let b = bytesOf log (a .b) in
+    let w = payloadOf (a .b .label) in
+    let pos : 0 < w = omega arith in
     let k = a .from + l .done in
     let p = (piece-from .result) .now in
-    let size = length-bytes log (a .first .0) (a .size) in
+    let size = length-bytes log (a .b) (q .1 .1) in
     let inside : k < length b = omega (arith, size, (if1 .left)) in
-    let here = (piece-from .ensures) ∙ ap (λ (n : ℕ). take (min (403 - k % 403) (min (n - k) (length (l .d) - l .done))) (drop k b)) (sym size) in
+    let here = (piece-from .ensures) ∙ ap (λ (n : ℕ). take (min (w - k % w) (min (n - k) (length (l .d) - l .done))) (drop k b)) (sym size) in
     let t = (loop-test .taken) in
     let same = l .inv .1 in
-    omega (arith, t, same, piece-some b (a .from) (a .d .now) (l .d) p (l .done) t same inside here)
+    omega (arith, t, same, piece-some b (a .from) (a .d .now) w pos (l .d) p (l .done) t same inside here)
 
 loop-again : tie.Need-loop-again Inv-loop μ-loop
 loop-again c =
-    let a = c .before .before .before .before .before .before .before .before .before .before .before .args in
-    let l = c .before .before .before .before .before .before .before .loop in
-    let loop-test = c .before .before .before .before .before .before .loop-test in
+    let a = c .before .before .before .before .before .before .before .before .before .before .before .before .args in
+    let l = c .before .before .before .before .before .before .before .before .loop in
+    let loop-test = c .before .before .before .before .before .before .before .loop-test in
     let if1 = c .before .before .before .before .before .if1 in
     let piece-from = c .before .before .before .before .piece-from in
     let copy-at = c .before .before .copy-at in
+    let q = c .before .before .before .before .before .before .before .before .before .before .before .before .pre in
     let log = joined (a .end .0) (a .log .now) (a .waiting .now) in
-    let b = bytesAt log (a .first .0) (a .size) in
+    let b = bytesOf log (a .b) in
+    let w = payloadOf (a .b .label) in
+    let pos : 0 < w = omega arith in
     let k = a .from + l .done in
     let p = (piece-from .result) .now in
-    let size = length-bytes log (a .first .0) (a .size) in
+    let size = length-bytes log (a .b) (q .1 .1) in
     let inside : k < length b = omega (arith, size, (if1 .left)) in
-    let here = (piece-from .ensures) ∙ ap (λ (n : ℕ). take (min (403 - k % 403) (min (n - k) (length (l .d) - l .done))) (drop k b)) (sym size) in
+    let here = (piece-from .ensures) ∙ ap (λ (n : ℕ). take (min (w - k % w) (min (n - k) (length (l .d) - l .done))) (drop k b)) (sym size) in
     let t = (loop-test .taken) in
-    let fits = piece-fits b (a .from) (a .d .now) (l .d) p (l .done) t (l .inv .1) inside here in
+    let fits = piece-fits b (a .from) (a .d .now) w pos (l .d) p (l .done) t (l .inv .1) inside here in
     let same = ap length (copy-at .ensures) ∙ length-put (l .d) (l .done) p fits in (
       omega (arith, fits, same),
       same ∙ l .inv .1,
-      piece-left b (a .from) (a .d .now) (l .d) p (l .done) t (l .inv .1) inside here _ (copy-at .ensures) (l .inv .2),
+      piece-left b (a .from) (a .d .now) w pos (l .d) p (l .done) t (l .inv .1) inside here _ (copy-at .ensures) (l .inv .2),
     )
 
 same-length-2 : tie.Need-same-length-2 Inv-loop μ-loop
@@ -139,7 +152,7 @@ returns-2 c =
     let a = c .before .before .before .before .before .args in
     let l = c .before .loop in
     let loop-test = c .loop-test in
-    left-none (bytesAt (joined (a .end .0) (a .log .now) (a .waiting .now)) (a .first .0) (a .size)) (a .from) (a .d .now) (l .d) (l .done) (omega (arith, (loop-test .left))) (l .inv .2)
+    left-none (bytesOf (joined (a .end .0) (a .log .now) (a .waiting .now)) (a .b)) (a .from) (a .d .now) (l .d) (l .done) (omega (arith, (loop-test .left))) (l .inv .2)
 
 pub read-part-spec : {M : Type 1} → statement M
 read-part-spec =

@@ -1,10 +1,8 @@
 -- `tree::score_at` meets its contract: a whole piece of the block, or the zero score.
-use mathlib.Core.Path.{_≡_, ap, _∙_}
+use mathlib.Core.Path.{ap, _∙_}
 use Prim.Native.Nat.{_%_}
 use native.Mathlib.Omega.{arith}
-use lib.ListN.{length}
-use Rattle.block.specs.Log.{joined}
-use Rattle.reader.specs.Reader.{bytesAt}
+use Rattle.block.specs.Log.{joined, bytesOf}
 use Rattle.reader.proofs.Pieces.{length-bytes}
 use Rattle.tree.proofs.Pointers.{pointer-past, pointer-filled}
 use borrow.Author.Needs.{needs}
@@ -19,11 +17,12 @@ zero-score-requires c κs = search needs
 
 returns : tie.Need-returns
 returns c =
-    let a = c .before .before .before .before .args in
+    let a = c .before .before .before .before .before .args in
     let if1 = c .before .if1 in
     let zero-score = c .zero-score in
+    let pre = c .before .before .before .before .before .pre in
     let log = joined (a .end .0) (a .log .now) (a .waiting .now) in
-    (zero-score .ensures) ∙ pointer-past (bytesAt log (a .first .0) (a .size)) (a .i) (omega (arith, (if1 .taken), length-bytes log (a .first .0) (a .size)))
+    (zero-score .ensures) ∙ pointer-past (bytesOf log (a .b)) (a .i) (omega (arith, (if1 .taken), length-bytes log (a .b) (pre .1 .1)))
 
 slice-aggregate-read-part : tie.Need-slice-aggregate-read-part
 slice-aggregate-read-part c = search needs
@@ -33,13 +32,13 @@ read-part-requires c κs = search needs
 
 returns-2 : tie.Need-returns-2
 returns-2 c =
-    let a = c .before .before .before .before .before .before .args in
-    let pre = c .before .before .before .before .before .before .pre in
+    let a = c .before .before .before .before .before .before .before .args in
+    let pre = c .before .before .before .before .before .before .before .pre in
     let if1 = c .before .before .before .if1 in
     let read-part = c .before .read-part in
     let log = joined (a .end .0) (a .log .now) (a .waiting .now) in
-    let size = length-bytes log (a .first .0) (a .size) in
-    (read-part .ensures) ∙ pointer-filled (bytesAt log (a .first .0) (a .size)) (a .i) (ap (λ n. n % 20) size ∙ pre .2) (omega (arith, (if1 .left), size))
+    let size = length-bytes log (a .b) (pre .1 .1) in
+    (read-part .ensures) ∙ pointer-filled (bytesOf log (a .b)) (a .i) (ap (λ n. n % 20) size ∙ pre .2) (omega (arith, (if1 .left), size))
 
 pub score-at-spec : {M : Type 1} → statement M
 score-at-spec = tie.close (tie.spec mul-from zero-score-requires returns slice-aggregate-read-part read-part-requires returns-2)

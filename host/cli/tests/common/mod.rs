@@ -18,6 +18,11 @@ pub const PROGRAM: &str = env!("CARGO_BIN_EXE_skywimple");
 pub const OTHER_USER: u32 = 4700;
 
 pub const SECTOR: usize = 512;
+/// The payload of a dated sector.
+pub const PAYLOAD: usize = 389;
+/// The day on which the program is run, as far as it knows, and that moment in seconds since 1970.
+pub const DATE: [u8; 8] = *b"20261116";
+pub const EPOCH: &str = "1794787200";
 /// The most sectors a log may have.
 pub const MOST_SECTORS: usize = boundary::MOST_SECTORS;
 
@@ -136,6 +141,7 @@ impl Place {
             .args(words)
             .current_dir(&self.folder)
             .env_remove("COLUMNS")
+            .env("SOURCE_DATE_EPOCH", EPOCH)
             .stdin(Stdio::null())
             .stdout(Stdio::piped())
             .stderr(Stdio::piped());

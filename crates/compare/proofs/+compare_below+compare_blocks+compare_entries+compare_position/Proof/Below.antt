@@ -4,9 +4,8 @@ use mathlib.Core.Path.{sym, subst}
 use native.Mathlib.Omega.{arith}
 use borrow.Author.Needs.{needs}
 use Rattle.kind.specs.Kind.{longest}
-use Rattle.block.specs.Log.{joined}
+use Rattle.block.specs.Log.{joined, bytesOf}
 use Rattle.comparison.specs.Compare.{comparePosition}
-use Rattle.compare.specs.Parts.{bytesOf}
 use Rattle.comparison.proofs.Bounds.{Within, position-within, positions-few}
 use Rattle.compare.proofs.InOrder.{Rest, rest-at-first, all-done, rest-goes-on, refused-stops}
 use Rattle.compare.proofs.Pairs.{of-below}
@@ -74,8 +73,9 @@ module _ (t : ℕ) where
   refused c =
       let w = c .before .before .before .before in
       let l = w .before .before in
-      let a = start l .args in
-      of-below (joined (a .end .0) (a .log .now) (a .waiting .now)) (a .e) (a .level) (a .nest) (a .b .first .0) (a .b .size) (a .c .first .0) (a .c .size) (a .left)
+      let s = start l in
+      let a = s .args in
+      of-below (joined (a .end .0) (a .log .now) (a .waiting .now)) (a .e) (a .level) (a .nest) (a .b) (a .c) _ (s .pre .1 .1) (s .pre .1 .2) (a .left)
       (l .before .positions-of-both .ensures) _
       (refused-stops (l .loop .inv) (w .before .loop-test .taken) _ (w .compare-position .ensures) _ (c .enum-told2 .given .1))
 
@@ -87,8 +87,9 @@ module _ (t : ℕ) where
   ended : lts.Need-returns-2 (below-calls t) (below-at t) Post Inv μ
   ended c =
       let l = c .before in
-      let a = start l .args in
-      of-below (joined (a .end .0) (a .log .now) (a .waiting .now)) (a .e) (a .level) (a .nest) (a .b .first .0) (a .b .size) (a .c .first .0) (a .c .size) (a .left)
+      let s = start l in
+      let a = s .args in
+      of-below (joined (a .end .0) (a .log .now) (a .waiting .now)) (a .e) (a .level) (a .nest) (a .b) (a .c) _ (s .pre .1 .1) (s .pre .1 .2) (a .left)
       (l .before .positions-of-both .ensures) _ (all-done (l .loop .inv) (c .loop-test .left))
 
 pub below-meets : {M : Type 1} (t : ℕ) → lts.Closed (below-calls t) (below-at t) Post M

@@ -4,8 +4,7 @@ use mathlib.Core.Path.{sym, ap, _∙_}
 use native.Mathlib.Omega.{arith}
 use borrow.Author.Needs.{needs}
 use Rattle.buffer.specs.Bytes.{Bytes}
-use Rattle.block.specs.Log.{joined}
-use Rattle.reader.specs.Reader.{bytesAt}
+use Rattle.block.specs.Log.{joined, bytesOf}
 use Rattle.pair.proofs.Opened.{OpenedAt, found-at}
 use Rattle.comparison.specs.declared.Compared.{Compared}
 use Rattle.compare.specs.Parts.{notRead}
@@ -59,8 +58,8 @@ module _ (t : ℕ) where
   -- the first block that was found
   first : (c : lts.After-one (blocks-calls t) (blocks-at t) Post)
       → let s = start (c .before .before .before .before .before .before) in
-      OpenedAt (both s) (s .args .e) (s .args .level) (s .args .s .now) (c .one .given .0 .0) (c .one .given .0 .1 .0)
-  first c = found-at _ _ _ _ _ _ (sym (c .before .before .read-block .ensures) ∙ c .one .given .1)
+      OpenedAt (both s) (s .args .e) (s .args .level) (s .args .s .now) (c .one .given .0 .0)
+  first c = found-at _ _ _ _ _ (sym (c .before .before .read-block .ensures) ∙ c .one .given .1)
 
   second-refused : lts.Need-returns-5 (blocks-calls t) (blocks-at t) Post
   second-refused c =
@@ -78,8 +77,8 @@ module _ (t : ℕ) where
   -- the second block that was found
   second : (c : lts.After-other (blocks-calls t) (blocks-at t) Post)
       → let s = start (c .before .before .before .before .before .before .before .before .before .before) in
-      OpenedAt (both s) (s .args .e) (s .args .level) (s .args .t .now) (c .other .given .0 .0) (c .other .given .0 .1 .0)
-  second c = found-at _ _ _ _ _ _ (sym (c .before .before .read-block2 .ensures) ∙ c .other .given .1)
+      OpenedAt (both s) (s .args .e) (s .args .level) (s .args .t .now) (c .other .given .0 .0)
+  second c = found-at _ _ _ _ _ (sym (c .before .before .read-block2 .ensures) ∙ c .other .given .1)
 
   compare-below-requires : lts.Need-compare-below-requires (blocks-calls t) (blocks-at t) Post
   compare-below-requires c κs =
@@ -109,8 +108,8 @@ module _ (t : ℕ) where
       let s = start (j .before .before .before) in
       let a = s .args in
       let p = s .pre .1 in
-      let b = bytesAt (both s) (o .one .given .0 .0 .0) (o .one .given .0 .1 .0) in
-      let d = bytesAt (both s) (u .other .given .0 .0 .0) (u .other .given .0 .1 .0) in
+      let b = bytesOf (both s) (o .one .given .0 .0) in
+      let d = bytesOf (both s) (u .other .given .0 .0) in
       let z = ap (λ (x : Compared). x .units) (c .compare-below .ensures (a .left) (omega (arith, j .if3 .left))) in
       omega (arith, z, below-units (a .left) (both s) (a .e) (a .level) (a .nest) b d (a .left - 1) (p .4), p .5)
 

@@ -50,8 +50,8 @@ module _ (t : ℕ) where
         omega arith,
         (
           p .0,
-          score-of-20 log (a .b .first .0) (a .b .size) (a .i) (y .before .score-at .ensures) (p .1 .whole (i .if1 .left)),
-          score-of-20 log (a .c .first .0) (a .c .size) (a .i) (y .score-at2 .ensures) (p .2 .whole (i .if1 .left)),
+          score-of-20 log (a .b) (p .1 .before .1) (a .i) (y .before .score-at .ensures) (p .1 .whole (i .if1 .left)),
+          score-of-20 log (a .c) (p .2 .before .1) (a .i) (y .score-at2 .ensures) (p .2 .whole (i .if1 .left)),
           omega (arith, p .3),
           p .5,
           p .6,

@@ -25,13 +25,13 @@ use Rattle.visit.proofs.visit_level.Reads as visit-level
 
 -- three times what is left of the allowance, and the place in the order of the calls that spend nothing: directory, listed or scores, entry
 abbrev pub μ-directory : Measures 1 directory-kinds.ps ℕ
-μ-directory κs a = 3 * (a .1 .1 .1 .1 .1 .1 .0) + 2
+μ-directory κs a = 3 * (a .1 .1 .1 .1 .1 .0) + 2
 
 abbrev pub μ-listed : Measures 1 listed-kinds.ps ℕ
-μ-listed κs a = 3 * (a .1 .1 .1 .1 .1 .1 .1 .0) + 1
+μ-listed κs a = 3 * (a .1 .1 .1 .1 .1 .1 .0) + 1
 
 abbrev pub μ-scores : Measures 1 scores-kinds.ps ℕ
-μ-scores κs a = 3 * (a .1 .1 .1 .1 .1 .1 .1 .1 .0) + 1
+μ-scores κs a = 3 * (a .1 .1 .1 .1 .1 .1 .1 .0) + 1
 
 abbrev pub μ-entry : Measures 2 entry-kinds.ps ℕ
 μ-entry κs a = 3 * (a .1 .1 .1 .1 .1 .1 .1 .0)

@@ -1,8 +1,7 @@
 -- `descent::visit_directory` meets its contract: the entries of the block in order.
 use Prim.Native.Nat.{ℕ, _-_}
 use borrow.Author.Needs.{needs}
-use Rattle.block.specs.Log.{joined}
-use Rattle.reader.specs.Reader.{bytesAt}
+use Rattle.block.specs.Log.{joined, bytesOf}
 use Rattle.descent.specs.Parts.{visitListed}
 use Rattle.descent.proofs.InOrder.{Rest, rest-at-first, all-done, rest-goes-on, refused-stops}
 use Rattle.descent.proofs.Listed.{wholes, entries-are-directory}
@@ -11,16 +10,16 @@ use Rattle.descent.proofs.+visit_directory+visit_entry+visit_listed+vis
 use Rattle.descent.proofs.+visit_directory+visit_entry+visit_listed+visit_scores.Proof.Calls.{directory-at, directory-calls}
 
 abbrev Inv : lts.InvT-loop
-Inv log end waiting first size nest left count visits₀ i₀ visits i =
-    Rest (λ f. visitListed f (joined (end .0) log waiting) nest) 40 (wholes (bytesAt (joined (end .0) log waiting) (first .0) size)) left count visits i
+Inv log end waiting b nest left count visits₀ i₀ visits i =
+    Rest (λ f. visitListed f (joined (end .0) log waiting) nest) 40 (wholes (bytesOf (joined (end .0) log waiting) b)) left count visits i
 
 abbrev μ : lts.MeasureT-loop
-μ log end waiting first size nest left count visits₀ i₀ visits i = count - i
+μ log end waiting b nest left count visits₀ i₀ visits i = count - i
 
 module _ (t : ℕ) where
-  -- where the function began: one `.before` for each lent slice
+  -- where the function began: one `.before` for each lent slice and for the size that is read
   abbrev start : lts.At-loop (directory-calls t) (directory-at t) Post Inv μ → lts.Start (directory-calls t) (directory-at t) Post Inv μ
-  start l = l .before .before .before
+  start l = l .before .before .before .before
 
   loop-holds : lts.Need-loop-holds (directory-calls t) (directory-at t) Post Inv μ
   loop-holds c = rest-at-first _ _ _ _ _
@@ -29,8 +28,8 @@ module _ (t : ℕ) where
   refused c =
       let w = c .before .before .before in
       let l = w .before .before in
-      let a = start l .args in
-      entries-are-directory _ _ (a .first .0) (a .size) _ _
+      let s = start l in
+      entries-are-directory _ _ (s .args .b) (s .pre .1 .1 .1) _ _
       (refused-stops (l .loop .inv) (w .before .loop-test .taken) _ (w .visit-listed .ensures .0) (w .visit-listed .ensures .1) _ (c .enum-told2 .given .1))
 
   loop-again : lts.Need-loop-again (directory-calls t) (directory-at t) Post Inv μ
@@ -40,8 +39,8 @@ module _ (t : ℕ) where
 
   ended : lts.Need-returns-2 (directory-calls t) (directory-at t) Post Inv μ
   ended c =
-      let a = start (c .before) .args in
-      entries-are-directory _ _ (a .first .0) (a .size) _ _ (all-done (c .before .loop .inv) (c .loop-test .left))
+      let s = start (c .before) in
+      entries-are-directory _ _ (s .args .b) (s .pre .1 .1 .1) _ _ (all-done (c .before .loop .inv) (c .loop-test .left))
 
 pub directory-meets : {M : Type 1} (t : ℕ) → lts.Closed (directory-calls t) (directory-at t) Post M
 directory-meets t =

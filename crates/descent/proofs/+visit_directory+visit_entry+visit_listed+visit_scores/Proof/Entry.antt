@@ -53,14 +53,14 @@ module _ (t : ℕ) where
       (c .before .visit-directory .ensures))
 
   ragged : lts.Need-returns-4 (entry-calls t) (entry-at-measure t) Post
-  ragged c = let k = c .before .before .before in ragged-is-refused (met (k .before .before)) (k .look .given .1) (c .before .if1 .left) (c .if3 .taken)
+  ragged c = let k = c .before .before .before .before in ragged-is-refused (met (k .before .before)) (k .look .given .1) (c .before .before .if1 .left) (c .if3 .taken)
 
   some-left-for-scores : lts.Need-sub-visit-scores-2 (entry-calls t) (entry-at-measure t) Post
-  some-left-for-scores c = let k = c .before .before .before in omega (arith, block-known (met (k .before .before)) (k .look .given .1) .some-left)
+  some-left-for-scores c = let k = c .before .before .before .before in omega (arith, block-known (met (k .before .before)) (k .look .given .1) .some-left)
 
   visit-scores-requires : lts.Need-visit-scores-requires (entry-calls t) (entry-at-measure t) Post
   visit-scores-requires c κs =
-      let k = c .before .before .before in
+      let k = c .before .before .before .before in
       let b = block-known (met (k .before .before)) (k .look .given .1) in
       let f = start (k .before .before) in
       let p = f .pre .1 .0 in
@@ -68,14 +68,14 @@ module _ (t : ℕ) where
 
   one-more-requires-2 : lts.Need-one-more-requires-2 (entry-calls t) (entry-at-measure t) Post
   one-more-requires-2 c κs =
-      let k = c .before .before .before .before in
+      let k = c .before .before .before .before .before in
       omega (arith, block-known (met (k .before .before)) (k .look .given .1) .some-left, c .visit-scores .ensures .0)
 
   scores : lts.Need-returns-5 (entry-calls t) (entry-at-measure t) Post
   scores c =
-      let k = c .before .before .before .before .before in
+      let k = c .before .before .before .before .before .before in
       rw (c .one-more2 .ensures)
-      (scores-below (met (k .before .before)) (k .look .given .1) (c .before .before .before .if1 .left) (c .before .before .if3 .left) _ (c .before .visit-scores .ensures))
+      (scores-below (met (k .before .before)) (k .look .given .1) (c .before .before .before .before .if1 .left) (c .before .before .if3 .left) _ (c .before .visit-scores .ensures))
 
 pub entry-meets : {M : Type 1} (t : ℕ) → lts.Closed (entry-calls t) (entry-at-measure t) Post M
 entry-meets t =

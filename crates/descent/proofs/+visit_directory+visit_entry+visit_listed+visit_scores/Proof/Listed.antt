@@ -4,8 +4,7 @@ use mathlib.Core.Path.{sym, _∙_}
 use native.Mathlib.Omega.{arith}
 use borrow.Author.Needs.{needs}
 use borrow.Author.Tests.{not-true, not-false}
-use Rattle.block.specs.Log.{joined}
-use Rattle.reader.specs.Reader.{bytesAt}
+use Rattle.block.specs.Log.{joined, bytesOf}
 use Rattle.descent.proofs.Listed.{EntryRead, entry-read, depth-at-most-7, score-of-20, inactive-is-skipped, ill-formed-is-refused, well-formed-is-visited}
 use Rattle.descent.proofs.visit_listed.Reads.{Post}
 use Rattle.descent.proofs.+visit_directory+visit_entry+visit_listed+visit_scores.Lts-visit_listed as lts
@@ -19,8 +18,10 @@ module _ (t : ℕ) where
   -- the entry as it is read
   here : (c : lts.After-entry-at (listed-calls t) (listed-at t) Post)
       → let a = start (c .before .before) .args in
-      EntryRead (bytesAt (joined (a .end .0) (a .log .now) (a .waiting .now)) (a .first .0) (a .size)) (a .i) (c .before .before .entry-bytes .result) (c .entry-at .result)
-  here c = entry-read _ _ _ _ (start (c .before .before) .pre .1 .4) (c .before .before .entry-bytes .ensures) (c .entry-at .ensures)
+      EntryRead (bytesOf (joined (a .end .0) (a .log .now) (a .waiting .now)) (a .b)) (a .i) (c .before .before .entry-bytes .result) (c .entry-at .result)
+  here c =
+      let q = start (c .before .before) .pre .1 in
+      entry-read _ _ (q .1 .1) _ (q .4) (c .before .before .entry-bytes .ensures) (c .entry-at .ensures)
 
   skipped : lts.Need-returns (listed-calls t) (listed-at t) Post
   skipped c = (omega arith, λ f l. inactive-is-skipped (here (c .before .before)) (not-true _ (c .if1 .taken)) f _ _ _)

@@ -2,8 +2,7 @@
 use Prim.Native.Nat.{ℕ, _-_}
 use native.Mathlib.Omega.{arith}
 use borrow.Author.Needs.{needs}
-use Rattle.block.specs.Log.{joined}
-use Rattle.reader.specs.Reader.{bytesAt}
+use Rattle.block.specs.Log.{joined, bytesOf}
 use Rattle.descent.specs.Descent.{visitEntry}
 use Rattle.descent.proofs.InOrder.{Rest, rest-at-first, all-done, rest-goes-on, refused-stops}
 use Rattle.descent.proofs.EntryBlocks.{scores-one-by-one, score-of-20, score-visited}
@@ -12,16 +11,16 @@ use Rattle.descent.proofs.+visit_directory+visit_entry+visit_listed+vis
 use Rattle.descent.proofs.+visit_directory+visit_entry+visit_listed+visit_scores.Proof.Calls.{scores-at, scores-calls}
 
 abbrev Inv : lts.InvT-loop
-Inv log end waiting e first size level nest left count visits₀ i₀ visits i =
-    Rest (λ f x a. visitEntry f (joined (end .0) log waiting) e level nest x a) 20 (bytesAt (joined (end .0) log waiting) (first .0) size) left count visits i
+Inv log end waiting e b level nest left count visits₀ i₀ visits i =
+    Rest (λ f x a. visitEntry f (joined (end .0) log waiting) e level nest x a) 20 (bytesOf (joined (end .0) log waiting) b) left count visits i
 
 abbrev μ : lts.MeasureT-loop
-μ log end waiting e first size level nest left count visits₀ i₀ visits i = count - i
+μ log end waiting e b level nest left count visits₀ i₀ visits i = count - i
 
 module _ (t : ℕ) where
-  -- where the function began: one `.before` for each lent slice
+  -- where the function began: one `.before` for each lent slice and for the size that is read
   abbrev start : lts.At-loop (scores-calls t) (scores-at t) Post Inv μ → lts.Start (scores-calls t) (scores-at t) Post Inv μ
-  start l = l .before .before .before
+  start l = l .before .before .before .before
 
   loop-holds : lts.Need-loop-holds (scores-calls t) (scores-at t) Post Inv μ
   loop-holds c = rest-at-first _ _ _ _ _
@@ -29,7 +28,7 @@ module _ (t : ℕ) where
   visit-entry-requires : lts.Need-visit-entry-requires (scores-calls t) (scores-at t) Post Inv μ
   visit-entry-requires c κs =
       let f = start (c .before .before .before) in
-      (omega arith, (f .pre .1 .0, score-of-20 _ (f .args .first .0) (f .args .size) _ (c .before .score-at .ensures) (f .pre .1 .3), search needs))
+      (omega arith, (f .pre .1 .0, score-of-20 _ (f .args .b) (f .pre .1 .1 .1) _ (c .before .score-at .ensures) (f .pre .1 .3), search needs))
 
   refused : lts.Need-returns (scores-calls t) (scores-at t) Post Inv μ
   refused c =
@@ -37,9 +36,9 @@ module _ (t : ℕ) where
       let s = w .before .before in
       let h = s .before .loop-test .taken in
       let l = s .before .before in
-      let a = start l .args in
-      scores-one-by-one _ _ _ _ (a .first .0) (a .size) _ _
-      (refused-stops (l .loop .inv) h _ (w .visit-entry .ensures .0) (score-visited _ _ _ _ (a .first .0) (a .size) _ h (s .score-at .ensures) (w .visit-entry .ensures .1)) _
+      let g = start l in
+      scores-one-by-one _ (g .args .b) (g .pre .1 .1 .1) _ _ _ _ _
+      (refused-stops (l .loop .inv) h _ (w .visit-entry .ensures .0) (score-visited _ (g .args .b) (g .pre .1 .1 .1) _ _ _ _ h (s .score-at .ensures) (w .visit-entry .ensures .1)) _
       (c .enum-told2 .given .1))
 
   loop-again : lts.Need-loop-again (scores-calls t) (scores-at t) Post Inv μ
@@ -48,14 +47,14 @@ module _ (t : ℕ) where
       let s = w .before .before in
       let h = s .before .loop-test .taken in
       let l = s .before .before in
-      let a = start l .args in
-      rest-goes-on (l .loop .inv) h _ (w .visit-entry .ensures .0) (score-visited _ _ _ _ (a .first .0) (a .size) _ h (s .score-at .ensures) (w .visit-entry .ensures .1))
+      let g = start l in
+      rest-goes-on (l .loop .inv) h _ (w .visit-entry .ensures .0) (score-visited _ (g .args .b) (g .pre .1 .1 .1) _ _ _ _ h (s .score-at .ensures) (w .visit-entry .ensures .1))
       (c .enum-told .given .1)
 
   ended : lts.Need-returns-2 (scores-calls t) (scores-at t) Post Inv μ
   ended c =
-      let a = start (c .before) .args in
-      scores-one-by-one _ _ _ _ (a .first .0) (a .size) _ _ (all-done (c .before .loop .inv) (c .loop-test .left))
+      let g = start (c .before) in
+      scores-one-by-one _ (g .args .b) (g .pre .1 .1 .1) _ _ _ _ _ (all-done (c .before .loop .inv) (c .loop-test .left))
 
 pub scores-meets : {M : Type 1} (t : ℕ) → lts.Closed (scores-calls t) (scores-at t) Post M
 scores-meets t =

@@ -1,0 +1,71 @@
+use mathlib.Core.Path.{_≡_, refl, sym, ap, _∙_}
+use Prim.Native.Nat.{ℕ, _+_, _-_, _≤_, _<_}
+use native.Mathlib.Omega.{arith}
+use lib.ListN.{length, drop, drop-of-length-le}
+use Rattle.sector.specs.Sector.{decimals}
+use Rattle.sector.proofs.Dates.{decimal, too-low, too-high, of-eight, not-eight}
+use borrow.Author.Needs.{needs}
+use Rattle.sector.proofs.is_date.Statement.{statement}
+use Rattle.sector.proofs.is_date.Tie as tie
+use Rattle.sector.proofs.is_date.Reads as reads
+use Rattle.sector.proofs.is_date.Lts as lts
+
+abbrev Inv-loop : tie.InvT-loop
+Inv-loop d i₀ i = (i ≤ length d) × (length d ≡ 8) × (decimals (drop i d) ≡ decimals d)
+
+abbrev μ-loop : tie.MeasureT-loop
+μ-loop d i₀ i = length d - i
+
+-- src/lib.rt:37:9
+returns : tie.Need-returns Inv-loop μ-loop
+returns c = sym (not-eight ((c .before .args .d .now)) ((c .if1 .taken)))
+
+-- src/lib.rt:40:5
+loop-holds : tie.Need-loop-holds Inv-loop μ-loop
+loop-holds c = search needs
+
+-- src/lib.rt:41:17
+shared-slice-read-b : tie.Need-shared-slice-read-b Inv-loop μ-loop
+shared-slice-read-b c = search needs
+
+-- src/lib.rt:43:13
+returns-2 : tie.Need-returns-2 Inv-loop μ-loop
+returns-2 c = sym (of-eight ((c .before .before .before .before .before .args .d .now)) ((c .before .before .before .loop .inv .1)) ∙ sym ((c .before .before .before .loop .inv .2)) ∙ too-low ((c .before .before .before .before .before .args .d .now)) ((c .before .before .before .loop .i)) (omega arith) (omega arith))
+
+-- src/lib.rt:46:13
+returns-3 : tie.Need-returns-3 Inv-loop μ-loop
+returns-3 c = sym (of-eight ((c .before .before .before .before .before .before .args .d .now)) ((c .before .before .before .before .loop .inv .1)) ∙ sym ((c .before .before .before .before .loop .inv .2)) ∙ too-high ((c .before .before .before .before .before .before .args .d .now)) ((c .before .before .before .before .loop .i)) (omega arith) (omega arith))
+
+-- src/lib.rt:48:9
+add-i : tie.Need-add-i Inv-loop μ-loop
+add-i c = search needs
+
+-- src/lib.rt:40:5
+loop-less : tie.Need-loop-less Inv-loop μ-loop
+loop-less c = search needs
+
+-- src/lib.rt:40:5
+loop-again : tie.Need-loop-again Inv-loop μ-loop
+loop-again c = (omega arith, (c .before .before .before .before .loop .inv .1), sym (decimal ((c .before .before .before .before .before .before .args .d .now)) ((c .before .before .before .before .loop .i)) (omega arith) (omega arith) (omega arith)) ∙ (c .before .before .before .before .loop .inv .2))
+
+-- src/lib.rt:33:1
+returns-4 : tie.Need-returns-4 Inv-loop μ-loop
+returns-4 c =
+    let g : length ((c .before .before .before .args .d .now)) ≤ (c .before .loop .i) = omega arith in
+    sym (of-eight ((c .before .before .before .args .d .now)) ((c .before .loop .inv .1)) ∙ sym ((c .before .loop .inv .2)) ∙ ap decimals (drop-of-length-le ((c .before .before .before .args .d .now)) g))
+
+pub is-date-spec : {M : Type 1} → statement M
+is-date-spec =
+    tie.close
+    (tie.spec
+    Inv-loop
+    μ-loop
+    returns
+    loop-holds
+    shared-slice-read-b
+    returns-2
+    returns-3
+    add-i
+    loop-less
+    loop-again
+    returns-4)

@@ -1,0 +1,48 @@
+use mathlib.Core.Path.{_≡_, refl, sym, ap, ap₂, _∙_}
+use Prim.Native.Nat.{ℕ, _+_, _-_, _≤_}
+use native.Mathlib.Omega.{arith}
+use lib.ListN.{length, take, drop}
+use Rattle.sector.proofs.Written.{front-written, length-date}
+use borrow.Author.Needs.{needs}
+use Rattle.sector.proofs.write_front.Statement.{statement}
+use Rattle.sector.proofs.write_front.Tie as tie
+use Rattle.sector.proofs.write_front.Reads as reads
+use Rattle.sector.proofs.write_front.Lts as lts
+use Rattle.buffer.proofs.copy_at.Reads as copy-at-reads
+
+-- src/lib.rt:75:27
+slice-aggregate-copy-at : tie.Need-slice-aggregate-copy-at
+slice-aggregate-copy-at c = search needs
+
+-- src/lib.rt:75:5
+copy-at-requires : tie.Need-copy-at-requires
+copy-at-requires c κs = search needs
+
+-- src/lib.rt:76:5
+copy-at-requires-2 : tie.Need-copy-at-requires-2
+copy-at-requires-2 c κs = search needs
+
+-- src/lib.rt:77:5
+slice-write-d : tie.Need-slice-write-d
+slice-write-d c = search needs
+
+-- src/lib.rt:71:1
+same-length : tie.Need-same-length
+same-length c =
+    ap length (front-written ((c .before .before .before .before .before .before .before .before .before .before .before .args .d .now)) _ _ ((c .before .before .before .before .before .before .before .before .before .before .before .args .date .now)) ((c .before .before .before .before .before .before .before .before .before .before .before .pre .0)) ((c .before .before .before .before .before .before .before .before .before .before .before .pre .1)) ((c .before .before .before .before .before .before .copy-at .ensures)) ((c .before .before .copy-at2 .ensures))) ∙ omega (arith, (c .before .before .before .before .before .before .before .before .before .before .before .pre .0), (c .before .before .before .before .before .before .before .before .before .before .before .pre .1), length-date ((c .before .before .before .before .before .before .before .before .before .before .before .args .date .now)))
+
+-- src/lib.rt:71:1
+returns : tie.Need-returns
+returns c =
+    front-written ((c .before .before .before .before .before .before .before .before .before .before .before .args .d .now)) _ _ ((c .before .before .before .before .before .before .before .before .before .before .before .args .date .now)) ((c .before .before .before .before .before .before .before .before .before .before .before .pre .0)) ((c .before .before .before .before .before .before .before .before .before .before .before .pre .1)) ((c .before .before .before .before .before .before .copy-at .ensures)) ((c .before .before .copy-at2 .ensures))
+
+pub write-front-spec : {M : Type 1} → statement M
+write-front-spec =
+    tie.close
+    (tie.spec
+    slice-aggregate-copy-at
+    copy-at-requires
+    copy-at-requires-2
+    slice-write-d
+    same-length
+    returns)
