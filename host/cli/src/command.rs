@@ -7,8 +7,8 @@ use crate::format::MOST_SECTORS;
 use crate::status::{self, Failure, DONE, USAGE};
 use crate::streams::Streams;
 use crate::{
-    card, demo, doubt, get, help, init, list, put, put_file, read, report, restore, save, search,
-    serve, walk,
+    card, demo, diff, doubt, get, help, init, list, put, put_file, read, report, restore, save,
+    search, serve, walk,
 };
 
 pub struct Command {
@@ -36,7 +36,7 @@ const fn syntax(
     }
 }
 
-pub const COMMANDS: [Command; 15] = [
+pub const COMMANDS: [Command; 16] = [
     Command {
         name: "init",
         usage: "LOG --sectors N",
@@ -142,6 +142,14 @@ pub const COMMANDS: [Command; 15] = [
         details: help::RESTORE,
         syntax: syntax(&["--overwrite", "--adopt"], &[], &["LOG", "ROOT", "DIR"], 3),
         run: restore::run,
+    },
+    Command {
+        name: "diff",
+        usage: "LOG ROOT1 ROOT2 [--json] [--adopt]",
+        summary: "name the files that changed between two saved roots",
+        details: help::DIFF,
+        syntax: syntax(&["--json", "--adopt"], &[], &["LOG", "ROOT1", "ROOT2"], 3),
+        run: diff::run,
     },
     Command {
         name: "search",

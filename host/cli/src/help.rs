@@ -128,8 +128,8 @@ on from there. What comes from standard input is taken into memory first.
 
 pub const SAVE: &str = "\
 Stores each FILE as `put-file` does, a directory of them and a root over it. When all of it is on disk
-and reads back from the log's file as it was, prints the root's score, which `restore`, `search` and `walk`
-take. A file is saved with its bytes and its name, the last component of its path, and with nothing
+and reads back from the log's file as it was, prints the root's score, which `restore`, `diff`, `search`
+and `walk` take. A file is saved with its bytes and its name, the last component of its path, and with nothing
 else. Before anything is written it is refused (64) if two files have one name, if a name has a line
 feed in it or is not UTF-8, or if a FILE is a folder. The same files in the same order have the same
 root; what is stored already is not stored twice.
@@ -151,6 +151,30 @@ of those that `save` was given. Where the root itself cannot be read, or `save` 
 nothing is written; the status is the refusal's number (16 for a root that `save` did not make).
   --overwrite  replace files that are there; the log and its mark never
   --adopt      take a log without a good mark as it is, and mark it
+";
+
+pub const DIFF: &str = "\
+Compares the files that `save` stored under ROOT1 and ROOT2 (scores, 40 hex digits) by their names, and
+prints a row for each that differs, in the order of ROOT1, then those that only ROOT2 has:
+  added       only ROOT2 has a file of this name
+  removed     only ROOT1 has
+  changed     both have, and its bytes differ: its entry, with size and score, is another
+  unreadable  could not be compared: its entry, or the list of names that it would stand in, is damaged
+              or missing. Named are the refusal and for 12 the log's first doubtful sector. The file may
+              have changed or not
+A file that was renamed is removed and added. The order of the files is not compared.
+What is compared are sizes and scores; the files themselves are not read. So a file that is damaged, and
+the same in both roots, is no difference here (`restore` and `walk` find it); nor is a block of the
+directories that both have, and two roots over one directory are equal without reading it. Where both
+roots have one list of names, also a lost one, files are compared by their places.
+The status is 0 if no file differs, 1 if some do, and 33 if any could not be compared or named, whatever
+else differs. Where a root itself cannot be read, or `save` did not make it, nothing is printed; the
+status is the refusal's number, which is never 1 (16 for a root that `save` did not make).
+  --json   prints JSON, an object on each line: name; change: \"added\", \"removed\", \"changed\" or
+           \"unreadable\"; with unreadable number and sector, which is null but for 12. Where a name is
+           lost, it is null, and place is the file's place in the root that root tells (1 or 2), in both
+           if there is no root
+  --adopt  take a log without a good mark as it is, and mark it
 ";
 
 pub const SEARCH: &str = "\

@@ -34,6 +34,8 @@ pub struct SavedFile {
 
 #[derive(Debug)]
 pub struct Saved {
+    /// The entry of the list of names.
+    pub names: Result<[u8; entry::LENGTH], Refusal>,
     pub files: Vec<SavedFile>,
     /// Why names are lost, if any are.
     pub names_lost: Option<Refusal>,
@@ -52,15 +54,22 @@ pub fn root(directory_block: &Score) -> [u8; ROOT] {
 /// The files of a root that `save` made, as many as its directory has, each with what can be read.
 pub fn open(log: &mut [u8], score: &Score) -> Result<Saved, Failure> {
     let directory = directory(log, score)?;
-    let mut entries = entries(log, &directory, score)?;
+    files(log, &directory, score)
+}
+
+/// The same, of a root whose directory's entry was read.
+pub fn files(log: &[u8], directory: &[u8; entry::LENGTH], score: &Score) -> Result<Saved, Failure> {
+    let mut entries = entries(log, directory, score)?;
     let count = entries.len() - 1;
-    let (names, names_lost) = match entries.remove(0) {
-        Ok(entry) => read_names(log, &entry, count, score)?,
-        Err(refusal) => (Vec::new(), Some(refusal)),
+    let list = entries.remove(0);
+    let (names, names_lost) = match &list {
+        Ok(entry) => read_names(log, entry, count, score)?,
+        Err(refusal) => (Vec::new(), Some(*refusal)),
     };
     let names = names.into_iter().map(Some).chain((0..).map(|_| None));
     let files = names.zip(entries);
     Ok(Saved {
+        names: list,
         files: files
             .map(|(name, entry)| SavedFile { name, entry })
             .collect(),
@@ -69,7 +78,7 @@ pub fn open(log: &mut [u8], score: &Score) -> Result<Saved, Failure> {
 }
 
 /// The directory's entry, by way of the root and its directory block.
-fn directory(log: &mut [u8], score: &Score) -> Result<[u8; entry::LENGTH], Failure> {
+pub fn directory(log: &mut [u8], score: &Score) -> Result<[u8; entry::LENGTH], Failure> {
     let mut client = Client::greet(log)?;
     let mut root = block(&mut client, log, 1, score, ROOT)?;
     root.resize(ROOT, 0);

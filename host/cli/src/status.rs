@@ -9,6 +9,8 @@ use boundary::Refusal;
 use crate::words;
 
 pub const DONE: u8 = 0;
+/// What `diff` ends with where files differ, as diff(1) does. No refusal of its is 1: that is of messages.
+pub const DIFFERENT: u8 = 1;
 /// What the demonstration ends with where a claim of its does not hold.
 pub const CLAIM_FAILED: u8 = 1;
 pub const VERDICT_NOT_KNOWN: u8 = 32;
@@ -23,8 +25,12 @@ pub const BUSY: u8 = 75;
 pub const PROTOCOL: u8 = 76;
 
 /// All statuses, as the help prints them.
-pub const TABLE: [(&str, &str); 13] = [
+pub const TABLE: [(&str, &str); 14] = [
     ("0", "done"),
+    (
+        "1",
+        "diff: files differ (0: none does), as diff(1) has it; diff itself is never refused with 1",
+    ),
     (
         "1 to 26",
         "refused; the status is the refusal's number (11 not held, 12 not known)",
@@ -35,7 +41,7 @@ pub const TABLE: [(&str, &str); 13] = [
     ),
     (
         "33",
-        "search, restore: some cards or files could not be read, and are named",
+        "search, restore, diff: some cards or files could not be read or compared, and are named",
     ),
     ("64", "the words given make no command"),
     (

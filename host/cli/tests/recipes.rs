@@ -34,6 +34,7 @@ fn using_it() {
         "ada.card: a card, 2 antigens",
         "yes        ada.card\nnot known  eve.card  nobody tested: Vel\n",
         "2 of 2 files restored to back",
+        "changed     eve.card\n",
         &card.repeat(2),
         "verdict=sound",
         &score(card.as_bytes()),

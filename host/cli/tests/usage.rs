@@ -10,9 +10,9 @@ use std::process::{Command, Stdio};
 
 use common::*;
 
-const COMMANDS: [&str; 15] = [
+const COMMANDS: [&str; 16] = [
     "init", "put", "get", "serve", "doubt", "report", "list", "read", "walk", "put-file", "save",
-    "restore", "search", "card", "demo",
+    "restore", "diff", "search", "card", "demo",
 ];
 
 #[test]
@@ -23,7 +23,8 @@ fn help_and_version() {
     let overview = overview.text();
     for (status, words) in [
         ("32", "notknown"),
-        ("33", "search, restore"),
+        ("1 ", "diff: files differ"),
+        ("33", "search, restore, diff"),
         ("65", "mark"),
         ("69", "could not be built"),
         ("75", "another writer"),
@@ -116,11 +117,12 @@ fn words_that_make_no_command() {
 #[test]
 fn missing_words() {
     let place = Place::with_log(2);
-    let cases: [(&[&str], &str); 12] = [
+    let cases: [(&[&str], &str); 13] = [
         (&["put-file", "log"], "FILE is missing"),
         (&["save"], "LOG and FILE are missing"),
         (&["restore", "log"], "ROOT and DIR are missing"),
         (&["search", "log", "root"], "QUERY is missing"),
+        (&["diff", "log"], "ROOT1 and ROOT2 are missing"),
         (&["init"], "LOG is missing"),
         (&["init", "new"], "--sectors is missing"),
         (&["get"], "LOG and SCORE are missing"),

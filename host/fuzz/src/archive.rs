@@ -1,9 +1,11 @@
 //! What an archive under test has to offer.
 
+use second::changes::{Compared, Part};
 use second::query::Value;
 use second::tree::Run;
 use second::{Refusal, Score, Session};
 
+use crate::changes::bytes_of;
 use crate::shams::Broken;
 
 /// The archive's calls. Numbers are the description's refusals, 0 for none; what looks up a block
@@ -57,6 +59,23 @@ pub trait Archive {
         score: &Score,
         allowance: u64,
     ) -> (Result<(), Refusal>, u64);
+
+    /// The first difference of two directory blocks, a part of one of them and its bytes, or the number.
+    fn difference<'a>(
+        &mut self,
+        first: &'a [u8],
+        second: &'a [u8],
+    ) -> Result<Option<(Part, &'a [u8])>, u8>;
+
+    /// Counts the differences between two directory entries.
+    fn differences(
+        &mut self,
+        log: &[u8],
+        waiting: &[u8],
+        first: &[u8],
+        second: &[u8],
+        allowance: u64,
+    ) -> Compared;
 
     /// What the card of an entry answers to a query, or why not.
     fn search(
@@ -145,6 +164,26 @@ impl Archive for Second {
         allowance: u64,
     ) -> (Result<(), Refusal>, u64) {
         second::walk::walk(log, waiting, score, allowance)
+    }
+
+    fn difference<'a>(
+        &mut self,
+        first: &'a [u8],
+        second: &'a [u8],
+    ) -> Result<Option<(Part, &'a [u8])>, u8> {
+        let found = second::changes::difference(first, second)?;
+        Ok(found.map(|part| (part, bytes_of(first, second, part))))
+    }
+
+    fn differences(
+        &mut self,
+        log: &[u8],
+        waiting: &[u8],
+        first: &[u8],
+        second: &[u8],
+        allowance: u64,
+    ) -> Compared {
+        second::changes::differences(log, waiting, first, second, allowance)
     }
 
     fn search(

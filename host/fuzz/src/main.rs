@@ -1,12 +1,13 @@
 //! Compares an archive with the second program and with the ledger, on random histories, hostile
-//! logs, trees, calls and cards.
+//! logs, trees, calls, cards and what changed between two trees.
 //!
 //! `fuzz --help` says what it takes. A case is a history with damage, and a hostile log, a tree,
-//! some calls and cards besides.
+//! some calls, cards and pairs of trees besides.
 
 mod archive;
 mod calls;
 mod cards;
+mod changes;
 mod collision;
 mod compare;
 mod crash;
@@ -16,6 +17,7 @@ mod dated;
 mod dates;
 #[cfg(test)]
 mod examples;
+mod growing_log;
 mod history;
 mod hostile;
 mod large;
@@ -24,6 +26,7 @@ mod plain_log;
 mod progress;
 mod random;
 mod sham_cards;
+mod sham_changes;
 mod sham_dates;
 mod sham_doubt;
 mod sham_ledger;
@@ -35,6 +38,7 @@ mod shams;
 mod shape;
 #[cfg(test)]
 mod texts;
+mod tree_pairs;
 mod trees;
 mod under_test;
 #[cfg(test)]
@@ -54,8 +58,8 @@ const HELP: &str = "\
 fuzz [--seed S] [--cases N] [--seconds T] [--case I] [--only PART] [--plain | --sham NAME | --shams]
 
 Compares an archive with the second program and with the ledger: random histories with damage,
-hostile logs, trees, calls and cards, with blocks of both editions. A case that fails is printed step by step, with the words that repeat
-it, and the status is 1.
+hostile logs, trees, calls, cards and what changed between two trees, with blocks of both editions.
+A case that fails is printed step by step, with the words that repeat it, and the status is 1.
   --seed S     the random numbers' seed (default 1)
   --cases N    how many cases (default 20000)
   --seconds T  no case is begun after so many seconds
@@ -71,12 +75,13 @@ it, and the status is 1.
 type Part = fn(&mut dyn Archive, &mut Compare, &mut Random, &mut Trace) -> Result<(), String>;
 
 /// The parts, each with its name and of how many cases the last has one.
-const PARTS: [(&str, u64, Part); 7] = [
+const PARTS: [(&str, u64, Part); 8] = [
     ("history", 1, history::run),
     ("hostile", 1, hostile::run),
     ("tree", 2, trees::run),
     ("calls", 1, calls::run),
     ("cards", 2, cards::run),
+    ("changes", 2, changes::run),
     ("large", 500, large::run),
     ("limits", 5_000, calls::limits),
 ];

@@ -2,6 +2,7 @@
 //! are tried, all else is the second program's.
 
 use plain::log::{read, settle, store, Refused, Stored};
+use second::changes::{Compared, Part};
 use second::message::{accept, read_reply, refusal, sync_reply, write_reply, Lent, Request};
 use second::query::Value;
 use second::tree::Run;
@@ -99,6 +100,25 @@ impl Archive for PlainLog {
         allowance: u64,
     ) -> (Result<(), Refusal>, u64) {
         Second.walk(log, waiting, score, allowance)
+    }
+
+    fn difference<'a>(
+        &mut self,
+        first: &'a [u8],
+        second: &'a [u8],
+    ) -> Result<Option<(Part, &'a [u8])>, u8> {
+        Second.difference(first, second)
+    }
+
+    fn differences(
+        &mut self,
+        log: &[u8],
+        waiting: &[u8],
+        first: &[u8],
+        second: &[u8],
+        allowance: u64,
+    ) -> Compared {
+        Second.differences(log, waiting, first, second, allowance)
     }
 
     fn search(

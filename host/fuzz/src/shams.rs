@@ -1,5 +1,6 @@
 //! Shams: the second program with one rule broken each. The fuzzer has to catch them all.
 
+use second::changes::{Compared, Part};
 use second::log::{joined, shaped_at, used, write_in, Contents};
 use second::message::{accept, read_reply, silent, write_reply, Lent, Request};
 use second::query::Value;
@@ -8,7 +9,9 @@ use second::tree::Run;
 use second::{Edition, Refusal, Score, Session};
 
 use crate::archive::{Archive, Second};
+use crate::changes::bytes_of;
 use crate::sham_cards;
+use crate::sham_changes;
 use crate::sham_dates;
 use crate::sham_doubt;
 use crate::sham_texts::{no_overlong, no_surrogate, no_zero, not_cut_off, not_past_end};
@@ -163,6 +166,20 @@ broken! {
     FirstEditionForgotten,
     DatedTakenAsFirst,
     LedgerForgetsDates,
+    EntriesComparedWithoutGen,
+    InactiveCompared,
+    SecondHandedBack,
+    EqualScoresRead,
+    MissingBlockIsDifference,
+    SecondReadFirst,
+    NoUnitForTopPair,
+    IllFormedEqualRefused,
+    CountAndUnitsSwapped,
+    OpenedPairCounted,
+    ShapesNotCompared,
+    ComparedUpToShorter,
+    ComparedInLogAlone,
+    ComparisonDropsDoubt,
 }
 
 /// The second program with a rule broken.
@@ -495,6 +512,46 @@ impl Archive for Sham {
                 let (ended, visits) = sham_trees::walk(&both, score, allowance, self.broken);
                 let told = |right| sham_doubt::told(right, &both, self.broken);
                 (ended.map_err(told), visits)
+            }
+        }
+    }
+
+    fn difference<'a>(
+        &mut self,
+        first: &'a [u8],
+        second: &'a [u8],
+    ) -> Result<Option<(Part, &'a [u8])>, u8> {
+        let right = second::changes::difference(first, second)?;
+        let found = sham_changes::difference(right, first, second, self.broken);
+        Ok(found.map(|part| (part, bytes_of(first, second, part))))
+    }
+
+    fn differences(
+        &mut self,
+        log: &[u8],
+        waiting: &[u8],
+        first: &[u8],
+        second: &[u8],
+        allowance: u64,
+    ) -> Compared {
+        let right = Second.differences(log, waiting, first, second, allowance);
+        match (self.broken, right.ended) {
+            (_, Err(Refusal { number: 3 | 23, .. })) => right,
+            (Broken::CountAndUnitsSwapped, _) => Compared {
+                count: right.units,
+                units: right.count,
+                ..right
+            },
+            (Broken::ComparedInLogAlone, _) => {
+                Second.differences(log, &[], first, second, allowance)
+            }
+            (Broken::ComparisonDropsDoubt, Err(refused)) => Compared {
+                ended: Err(refused.number.into()),
+                ..right
+            },
+            (_, Err(Refusal { number: 16, .. })) if right.units == 0 => right,
+            (broken, _) => {
+                sham_changes::differences(log, waiting, first, second, allowance, broken)
             }
         }
     }

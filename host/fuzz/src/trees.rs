@@ -1,26 +1,20 @@
 //! Trees with holes, zero scores and scores that come back, for reading files and walking.
 
-use second::kind::KINDS;
-use second::log::write;
-use second::sector::SECTOR;
-use second::sha1::{sha1, Score, ZERO_SCORE};
+use second::sha1::{Score, ZERO_SCORE};
 
 use crate::archive::Archive;
 use crate::compare::{buffer, hex, number, Compare, Parts, Trace};
-use crate::dates;
+use crate::growing_log::GrowingLog;
 use crate::random::Random;
 use crate::shape::Shape;
 
 /// The most visits a walk may take here, since some archives look through the log at each.
 const FEW_VISITS: u64 = 150;
 
-/// A log that grows, and what is in it.
+/// Trees in a log that grows.
 struct Forest {
-    /// The sectors as they are written, and cut into a log and a waiting part.
-    log: Vec<u8>,
+    log: GrowingLog,
     lent: Parts,
-    used: usize,
-    held: Vec<(u8, Score)>,
     entries: Vec<Vec<u8>>,
     /// How many more blocks the trees may have.
     left: usize,
@@ -35,13 +29,11 @@ pub fn run(
     let chained = random.percent(12);
     let sizes: &[usize] = if chained { &[24, 30] } else { &[8, 16, 24, 40] };
     let mut forest = Forest {
-        log: vec![0; random.pick(sizes) * SECTOR],
+        log: GrowingLog::new(random.pick(sizes)),
         lent: Parts {
             log: Vec::new(),
             waiting: Vec::new(),
         },
-        used: 0,
-        held: Vec::new(),
         entries: Vec::new(),
         left: random.pick(&[6, 12, 25]),
     };
@@ -51,28 +43,8 @@ pub fn run(
         forest.directory(random, 0)
     };
     let root = forest.root(random, &directory);
-    if random.percent(25) {
-        let at = random.below(forest.log.len());
-        forest.log[at] ^= random.mark();
-        trace.note(|| format!("byte {at} changed"));
-    }
-    if random.percent(2) {
-        forest.log.pop();
-    }
-    forest.lend(random);
-    trace.note(|| {
-        let held: Vec<String> = forest
-            .held
-            .iter()
-            .map(|(kind, score)| format!("{kind}:{}", &hex(score)[..6]))
-            .collect();
-        format!(
-            "a log of {}, waiting {}, with {}",
-            forest.lent.log.len(),
-            forest.lent.waiting.len(),
-            held.join(" ")
-        )
-    });
+    forest.log.damage(random, trace);
+    forest.lent = forest.log.lent(random, trace);
     for _ in 0..6 {
         forest.locate(archive, compare, random, trace)?;
     }
@@ -86,58 +58,6 @@ pub fn run(
 }
 
 impl Forest {
-    /// Stores a block, unless it is one of the holes, and gives its score.
-    fn store(&mut self, random: &mut Random, kind: u8, data: &[u8]) -> Score {
-        let score = sha1(data);
-        let kind = if random.percent(2) {
-            random.pick(&KINDS)
-        } else {
-            kind
-        };
-        let edition = dates::edition(random);
-        let sectors = edition.sectors_for(data.len());
-        let room = self.used + sectors <= self.log.len() / SECTOR;
-        let hole = random.percent(4);
-        if room && !hole && !data.is_empty() && !self.held.contains(&(kind, score)) {
-            write(&mut self.log, self.used, edition, kind, data);
-            self.used += sectors;
-            self.held.push((kind, score));
-        }
-        score
-    }
-
-    /// Cuts what was written into a log and a waiting part, perhaps of no sectors.
-    fn lend(&mut self, random: &mut Random) {
-        let mut log = self.log.clone();
-        let border = match random.below(3) {
-            0 => self.log.len(),
-            _ => random.below(self.used + 1) * SECTOR,
-        };
-        let waiting = log.split_off(border.min(log.len()));
-        if random.percent(20) {
-            log.resize(log.len() + SECTOR * random.below(3), 0);
-        }
-        self.lent = Parts { log, waiting };
-    }
-
-    /// A score for a block of this type that isn't made now: zero, missing or held.
-    fn cheap(&self, random: &mut Random, kind: u8) -> Score {
-        let same: Vec<Score> = self
-            .held
-            .iter()
-            .filter(|held| held.0 == kind)
-            .map(|held| held.1)
-            .collect();
-        match random.below(24) {
-            0 => random.score(),
-            1 => [0; 20],
-            2..=9 => ZERO_SCORE,
-            10 if !self.held.is_empty() => random.pick(&self.held).1,
-            _ if !same.is_empty() => random.pick(&same),
-            _ => ZERO_SCORE,
-        }
-    }
-
     /// The top score of a tree.
     fn tree(&mut self, random: &mut Random, shape: &Shape, level: usize, nest: usize) -> Score {
         let kind = if level > 0 {
@@ -148,7 +68,7 @@ impl Forest {
             13
         };
         if self.left == 0 || random.percent(25) {
-            return self.cheap(random, kind);
+            return self.log.cheap(random, kind);
         }
         self.left -= 1;
         if level > 0 {
@@ -166,7 +86,7 @@ impl Forest {
                     }
                 }
             }
-            return self.store(random, kind, &block);
+            return self.log.store(random, kind, &block);
         }
         if shape.directory {
             return self.directory(random, nest);
@@ -178,7 +98,7 @@ impl Forest {
                 .min(900);
         }
         let data = random.bytes(size);
-        self.store(random, kind, &data)
+        self.log.store(random, kind, &data)
     }
 
     /// The score of a directory block.
@@ -190,7 +110,7 @@ impl Forest {
         if random.percent(20) {
             block.truncate(block.len() - random.between(1, 30));
         }
-        self.store(random, 2, &block)
+        self.log.store(random, 2, &block)
     }
 
     /// An entry with a tree below it.
@@ -220,17 +140,12 @@ impl Forest {
             directory: true,
             depth: 0,
         };
-        let mut inner = self.cheap(random, 13);
+        let mut inner = self.log.cheap(random, 13);
         let mut directory = random.percent(30);
         for _ in 0..random.between(13, 18) {
             let shape = Shape { directory, ..shape };
             let block = shape.bytes(&inner, 40);
-            inner = sha1(&block);
-            if self.used < self.log.len() / SECTOR {
-                write(&mut self.log, self.used, dates::edition(random), 2, &block);
-                self.held.push((2, inner));
-                self.used += 1;
-            }
+            inner = self.log.keep(random, 2, &block);
             directory = true;
         }
         inner
@@ -246,7 +161,7 @@ impl Forest {
             2 => root.truncate(random.between(1, 278)),
             _ => {}
         }
-        self.store(random, 1, &root)
+        self.log.store(random, 1, &root)
     }
 
     /// An entry, and an offset around its file.
@@ -327,7 +242,7 @@ impl Forest {
     ) -> Result<(), String> {
         let score = match random.below(12) {
             0 => ZERO_SCORE,
-            1 if !self.held.is_empty() => random.pick(&self.held).1,
+            1 if !self.log.held.is_empty() => random.pick(&self.log.held).1,
             _ => *root,
         };
         let mut allowance = match random.below(10) {

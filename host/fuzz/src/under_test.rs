@@ -2,6 +2,7 @@
 
 use crate::archive::Archive;
 use boundary as proved;
+use second::changes::{Compared, Part, Side};
 use second::query::Value;
 use second::tree::{Place, Run};
 use second::{Refusal, Score, Session};
@@ -99,6 +100,38 @@ impl Archive for Proved {
     ) -> (Result<(), Refusal>, u64) {
         let walked = proved::walk(log, waiting, score, allowance);
         (walked.outcome.map_err(refused), walked.visits)
+    }
+
+    fn difference<'a>(
+        &mut self,
+        first: &'a [u8],
+        second: &'a [u8],
+    ) -> Result<Option<(Part, &'a [u8])>, u8> {
+        let found = proved::difference(first, second).map_err(proved::Refusal::number)?;
+        Ok(found.map(|found| {
+            let (side, block, bytes) = match found {
+                proved::Difference::First(bytes) => (Side::First, first, bytes),
+                proved::Difference::Second(bytes) => (Side::Second, second, bytes),
+            };
+            let start = bytes.as_ptr() as usize - block.as_ptr() as usize;
+            (Part { side, start }, bytes)
+        }))
+    }
+
+    fn differences(
+        &mut self,
+        log: &[u8],
+        waiting: &[u8],
+        first: &[u8],
+        second: &[u8],
+        allowance: u64,
+    ) -> Compared {
+        let compared = proved::differences(log, waiting, first, second, allowance);
+        Compared {
+            ended: compared.outcome.map_err(refused),
+            count: compared.count,
+            units: compared.units,
+        }
     }
 
     fn search(

@@ -6,6 +6,7 @@
 
 pub mod account;
 pub mod card;
+pub mod changes;
 pub mod crc32;
 pub mod edition;
 pub mod kind;
