@@ -47,6 +47,12 @@ impl Dates {
     }
 }
 
+/// A date with hyphens, such as 2026-11-16.
+pub fn hyphened(date: &Date) -> String {
+    let digits = String::from_utf8_lossy(date);
+    format!("{}-{}-{}", &digits[..4], &digits[4..6], &digits[6..])
+}
+
 /// The value of `--date`.
 pub fn parse(value: &OsStr) -> Result<Date, Failure> {
     let digits = Date::try_from(value.as_encoded_bytes()).ok();

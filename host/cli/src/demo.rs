@@ -50,7 +50,7 @@ query: not Vel and not K
 answer      name      why
 yes         ada.card
 not known   eve.card  nobody tested: Vel
-unreadable  dan.card  refusal 12 (not known), first doubtful sector 2, byte 1024 of the log
+unreadable  dan.card  refusal 12: a part of the log is damaged, first doubtful sector 2, byte 1024 of the log
 no          ben.card
 
 An unreadable card is no answer: it may be a yes or a no. DO NOT READ IT AS ABSENT.

@@ -2,7 +2,7 @@
 //! each step fail, and can take away again what was not synced.
 
 use std::fs::{self, File};
-use std::io;
+use std::io::{self, ErrorKind};
 use std::os::unix::fs::FileExt;
 use std::path::Path;
 
@@ -53,10 +53,38 @@ pub fn sync(file: &File) -> io::Result<()> {
 /// Gives a file the name of another, which it replaces.
 pub fn rename(from: &Path, to: &Path) -> io::Result<()> {
     #[cfg(test)]
-    if let Some(renamed) = faults::rename(from, to) {
+    if let Some(renamed) = faults::rename(to, || fs::rename(from, to)) {
         return renamed;
     }
     fs::rename(from, to)
+}
+
+/// Gives a file another name. Fails where something has that name already.
+pub fn rename_new(from: &Path, to: &Path) -> io::Result<()> {
+    #[cfg(test)]
+    if let Some(renamed) = faults::rename(to, || link_and_remove(from, to)) {
+        return renamed;
+    }
+    link_and_remove(from, to)
+}
+
+/// A link never replaces anything. Where a file can have one name only, the other is looked for first.
+fn link_and_remove(from: &Path, to: &Path) -> io::Result<()> {
+    match fs::hard_link(from, to) {
+        Ok(()) => fs::remove_file(from),
+        Err(e)
+            if matches!(
+                e.kind(),
+                ErrorKind::PermissionDenied | ErrorKind::Unsupported
+            ) =>
+        {
+            match fs::symlink_metadata(to) {
+                Ok(_) => Err(ErrorKind::AlreadyExists.into()),
+                Err(_) => fs::rename(from, to),
+            }
+        }
+        Err(e) => Err(e),
+    }
 }
 
 /// Has a folder's own entries on disk.

@@ -153,7 +153,8 @@ pub fn sync(file: &File) -> Option<io::Result<()>> {
     })
 }
 
-pub fn rename(from: &Path, to: &Path) -> Option<io::Result<()>> {
+/// A file gets this name by what is to be done.
+pub fn rename(to: &Path, act: impl FnOnce() -> io::Result<()>) -> Option<io::Result<()>> {
     with(|disk| {
         let fails = disk.step();
         if !fails || disk.how == How::After {
@@ -161,7 +162,7 @@ pub fn rename(from: &Path, to: &Path) -> Option<io::Result<()>> {
                 path: to.to_path_buf(),
                 before: fs::read(to).ok(),
             });
-            fs::rename(from, to)?;
+            act()?;
         }
         if fails {
             Err(failure())

@@ -49,6 +49,9 @@ impl Finding {
     }
 }
 
+/// What stands in the place of a name that is lost, with the place of its card.
+const LOST: &str = "(name lost:";
+
 /// A card and what came of it.
 #[derive(Debug)]
 pub struct Row {
@@ -60,11 +63,14 @@ pub struct Row {
 }
 
 impl Row {
-    /// The name as it is shown.
+    /// The name as it is shown. None is shown as one that is lost.
     pub fn shown(&self) -> String {
         match &self.name {
+            Some(name) if name.starts_with(LOST) => {
+                format!("\\u{{28}}{}", escape::visible(&name[1..]))
+            }
             Some(name) => escape::visible(name),
-            None => format!("(name lost: file {})", self.place),
+            None => format!("{LOST} file {})", self.place),
         }
     }
 
@@ -91,16 +97,20 @@ impl Row {
 }
 
 /// The rows of a search.
-pub struct Findings(pub Vec<Row>);
+pub struct Findings {
+    pub rows: Vec<Row>,
+    /// Why names are lost, if any are.
+    pub names_lost: Option<Refusal>,
+}
 
 /// What is told beside cards that could not be read.
-pub const NO_ANSWER: &str = "An unreadable card is no answer: it may be a yes or a no. \
+const NO_ANSWER: &str = "An unreadable card is no answer: it may be a yes or a no. \
     DO NOT READ IT AS ABSENT.";
 
 impl Findings {
     /// The rows with an answer, in the order of the cards.
     pub fn with<'a>(&'a self, answer: &'a str) -> impl Iterator<Item = &'a Row> {
-        self.0
+        self.rows
             .iter()
             .filter(move |row| row.finding.answer() == answer)
     }
@@ -114,11 +124,39 @@ impl Findings {
         self.with("unreadable").count()
     }
 
+    /// Whether all could be read, cards and names.
+    pub fn whole(&self) -> bool {
+        self.unreadable() == 0 && self.names_lost.is_none()
+    }
+
+    /// How many names are lost, why, and where the damage begins.
+    pub fn lost_names(&self) -> Option<String> {
+        let why = words::brief(self.names_lost?);
+        let lost = match self.rows.iter().filter(|row| row.name.is_none()).count() {
+            1 => "1 name is lost".to_string(),
+            count => format!("{count} names are lost"),
+        };
+        Some(format!(
+            "{lost}: {why}. A card that had one is listed by its place: it was the file N, from 1 on, \
+             of those that `save` was given."
+        ))
+    }
+
+    /// What is told beside the rows.
+    pub fn warnings(&self) -> Vec<String> {
+        let no_answer = (self.unreadable() > 0).then(|| NO_ANSWER.to_string());
+        no_answer.into_iter().chain(self.lost_names()).collect()
+    }
+
     /// How many cards there are, and how many of each answer.
     pub fn counts(&self) -> String {
         let counts = ANSWERS.map(|answer| format!("{} {answer}", self.with(answer).count()));
-        let cards = if self.0.len() == 1 { "card" } else { "cards" };
-        format!("{} {cards}: {}", self.0.len(), counts.join(", "))
+        let cards = if self.rows.len() == 1 {
+            "card"
+        } else {
+            "cards"
+        };
+        format!("{} {cards}: {}", self.rows.len(), counts.join(", "))
     }
 
     /// The table: answer, name and why.
@@ -141,8 +179,8 @@ impl Findings {
             text.push('\n');
         }
         text.push('\n');
-        if self.unreadable() > 0 {
-            text += &format!("{NO_ANSWER}\n");
+        for warning in self.warnings() {
+            text += &format!("{warning}\n");
         }
         text + &self.counts() + "\n"
     }

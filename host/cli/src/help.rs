@@ -121,7 +121,8 @@ Stores FILE, or standard input (`-`), as a tree: leaves of 57,344 bytes, over th
 2,867 scores, of the least depth; each without the zeros at its end, so that zeros take no room. When
 all of it is on disk and reads back from the file as it was, prints the entry, 80 hex digits, which
 `read` and `search` take. Where the log is full (14), what was stored stays, and the same command goes
-on from there. What comes from standard input is taken into memory first.
+on from there. What comes from standard input or a pipe is taken into memory first, before the log is
+opened, so that a slow sender holds up no other writer.
   --date YYYYMMDD  the date of the blocks that are stored (see put)
   --adopt          take a log without a good mark as it is, and mark it
 ";
@@ -131,7 +132,8 @@ Stores each FILE as `put-file` does, a directory of them and a root over it. Whe
 and reads back from the log's file as it was, prints the root's score, which `restore`, `diff`, `search`
 and `walk` take. A file is saved with its bytes and its name, the last component of its path, and with nothing
 else. Before anything is written it is refused (64) if two files have one name, if a name has a line
-feed in it or is not UTF-8, or if a FILE is a folder. The same files in the same order have the same
+feed in it or is not UTF-8, or if a FILE is a folder. A FILE that is a pipe is taken into memory before
+the log is opened. The same files in the same order have the same
 root; what is stored already is not stored twice.
 The root's type is `skywimple save`. Its directory block has one entry, a directory, of which the first
 file has the names of the others, in their order, each ended by a line feed.
@@ -143,13 +145,15 @@ pub const RESTORE: &str = "\
 Writes the files that `save` stored under ROOT (the score, 40 hex digits) to the folder DIR, which is
 made if it is not there. Where a file of one of the names is there already, nothing is written, and the
 status is 73. Each file is written under another name, synced, and then renamed: it is there whole or
-not at all.
+not at all. One that appears meanwhile is not replaced either (on a file system without hard links it
+is looked for just before): the status is 73 too, and the files before it are written. Where the
+program is ended at once (kill -9), a file .skywimple-restore-* may stay in DIR; remove it.
 A file of which a part cannot be read is not written, since nothing may stand in for what is lost; it is
 told on standard error with the refusal, its block and the log's first doubtful sector. All others are
 written, and the status is 33. A file of which the name is lost is named name-lost-N: it was the file N
-of those that `save` was given. Where the root itself cannot be read, or `save` did not make it,
+of those that `save` was given; the status is 33 then too. Where the root itself cannot be read, or `save` did not make it,
 nothing is written; the status is the refusal's number (16 for a root that `save` did not make).
-  --overwrite  replace files that are there; the log and its mark never
+  --overwrite  replace files that are there; folders, the log and its mark never
   --adopt      take a log without a good mark as it is, and mark it
 ";
 
@@ -195,13 +199,23 @@ A query has at most 256 bytes: names, `not`, `and`, `or` and round brackets, at 
 space between any two of them. `not` binds tightest, `or` least. Quote it for the shell:
 'not Vel and ( K or not Fya )'. One that is ill-formed is refused with 26 before any card is read; the
 place of its first error is told, in bytes from 1 on.
-The status is 0 if each card is yes, no or not known, and 33 if any could not be read. Each card takes
-a scan of the log; at a terminal progress is shown.
+Names are shown so that all of them can be seen: a backslash as \\\\, a character that is hidden or that
+turns the text around by its number, as \\u{200b}, and a space at either end or after another one as
+\\u{20}. Two names are never shown alike, but for characters that merely look alike, such as a letter's NFC
+and NFD, or a Latin and a Greek A; --json keeps those apart too, since its strings have the name's bytes.
+The status is 0 if each card is yes, no or not known, and 33 if any could not be read, or if names are
+lost: then it is told below the table, and on the page, how many, the refusal and for 12 the log's first
+doubtful sector, and a card without a name is listed by its place, (name lost: file N): it was the file
+N of those that `save` was given. Each card takes a scan of the log; at a terminal progress is shown.
   --json       prints JSON, an object on each line: name; answer: \"yes\", \"no\", \"not known\" or
                \"unreadable\"; with not known missing: the antigens; with unreadable number and sector,
                which is null but for 12. Where a name is lost, it is null, and place is the card's place
-  --html FILE  writes a page that stands alone and prints well; overwrites FILE only if it is a page.
-               With - it goes to standard output, in place of the table
+  --html FILE  writes a page that stands alone and prints well, with the query and the day (in UTC, or
+               that of SOURCE_DATE_EPOCH); replaces FILE only if it is a page. It is written under
+               another name, synced, and then renamed, so a search that fails leaves the page before
+               it: look at its day. Where the program is ended at once (kill -9), a file
+               .skywimple-page-* may stay beside it. With - it goes to standard output, in place of
+               the table
   --adopt      take a log without a good mark as it is, and mark it
 ";
 

@@ -144,8 +144,8 @@ impl Mark {
     }
 }
 
-/// Gives a new mark the owner, group and mode of another file, as far as this process may.
-fn keep_access(file: &File, like: &Metadata) -> io::Result<()> {
+/// Gives a new file the owner, group and mode of another, as far as this process may.
+pub fn keep_access(file: &File, like: &Metadata) -> io::Result<()> {
     let own = file.metadata()?;
     let mut mode = like.mode() & 0o777;
     if (own.uid(), own.gid()) != (like.uid(), like.gid()) {

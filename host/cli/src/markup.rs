@@ -28,8 +28,10 @@ pub fn json_string(name: &str) -> String {
             '"' => text.push_str("\\\""),
             '\\' => text.push_str("\\\\"),
             '\n' => text.push_str("\\n"),
-            sign if sign.is_control() || escape::turns(sign) => {
-                text.push_str(&format!("\\u{:04x}", u32::from(sign)));
+            sign if escape::is_hidden(sign) => {
+                for unit in sign.encode_utf16(&mut [0; 2]) {
+                    text += &format!("\\u{unit:04x}");
+                }
             }
             sign => text.push(sign),
         }
@@ -50,8 +52,8 @@ mod tests {
 
     #[test]
     fn strings_of_json() {
-        let name = "ä \"b\" \\ \n\t\u{1b}\u{7f}\u{85}\u{202e}漢😀";
-        let text = r#""ä \"b\" \\ \n\u0009\u001b\u007f\u0085\u202e漢😀""#;
+        let name = "ä \"b\" \\ \n\t\u{1b}\u{7f}\u{85}\u{202e}\u{e0041}漢😀";
+        let text = r#""ä \"b\" \\ \n\u0009\u001b\u007f\u0085\u202e\udb40\udc41漢😀""#;
         assert_eq!(json_string(name), text);
     }
 }

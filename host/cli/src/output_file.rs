@@ -5,8 +5,10 @@ use std::io::Read;
 use std::os::unix::fs::{FileTypeExt, MetadataExt};
 use std::path::Path;
 
+use crate::disk;
 use crate::mark;
 use crate::status::{Failure, EXISTS};
+use crate::unique;
 
 /// What an option writes.
 pub struct Kind {
@@ -30,7 +32,7 @@ pub fn may_write(log: &Path, file: &Path, kind: &Kind) -> Result<(), Failure> {
     let Kind { option, name, .. } = kind;
     if is_log(log, file) {
         let words = format!("{option} would overwrite the log: {}", file.display());
-        return Err(Failure::usage(words));
+        return Err(Failure::new(EXISTS, words));
     }
     if holds_something_else(file, kind.fronts) {
         let words = format!(
@@ -41,6 +43,29 @@ pub fn may_write(log: &Path, file: &Path, kind: &Kind) -> Result<(), Failure> {
         return Err(Failure::new(EXISTS, words));
     }
     Ok(())
+}
+
+/// Puts these bytes in the place of a file, all or nothing, and on disk; the file before it stays until
+/// then, and where this fails. Of a link it is the file that it leads to. A pipe is written to.
+pub fn replace(file: &Path, bytes: &[u8]) -> Result<(), Failure> {
+    let like = fs::metadata(file).ok();
+    if like.as_ref().is_some_and(|like| !like.is_file()) {
+        return fs::write(file, bytes).map_err(|e| Failure::disk("write", file, &e));
+    }
+    let path = mark::resolved(file);
+    let new = path.with_file_name(format!(".skywimple-page-{}", unique::name()));
+    let replaced = disk::create(&new).and_then(|made| {
+        let written = disk::write(&made, bytes, 0)
+            .and_then(|()| like.map_or(Ok(()), |like| mark::keep_access(&made, &like)))
+            .and_then(|()| disk::sync(&made))
+            .and_then(|()| disk::rename(&new, &path));
+        if written.is_err() {
+            let _ = fs::remove_file(&new);
+        }
+        written
+    });
+    let synced = replaced.and_then(|()| mark::sync_folder(&path));
+    synced.map_err(|e| Failure::disk("write", file, &e))
 }
 
 /// Whether a file is there that begins with none of these. Pipes and terminals hold nothing.

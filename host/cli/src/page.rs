@@ -1,7 +1,7 @@
 //! What a search found as a page of HTML that stands alone and prints well. Answers are told by words
 //! and by place, not by colour.
 
-use crate::findings::{Findings, Row, ANSWERS, NO_ANSWER};
+use crate::findings::{Findings, Row, ANSWERS};
 use crate::markup::escaped;
 
 const STYLE: &str = "\
@@ -21,20 +21,20 @@ p.warning { border: 2px solid #000; padding: 0.5em; font-weight: bold; }
 }
 ";
 
-/// What was searched.
+/// What was searched, and on which day.
 pub struct Subject<'a> {
     pub query: &'a str,
+    pub day: &'a str,
     pub log: &'a str,
     pub target: &'a str,
 }
 
 pub fn draw(findings: &Findings, subject: &Subject) -> String {
     let (query, log) = (escaped(subject.query), escaped(subject.log));
-    let (target, counts) = (escaped(subject.target), findings.counts());
-    let warning = match findings.unreadable() {
-        0 => String::new(),
-        _ => format!("<p class=\"warning\">{NO_ANSWER}</p>\n"),
-    };
+    let (target, day) = (escaped(subject.target), escaped(subject.day));
+    let counts = findings.counts();
+    let warning = |words: &String| format!("<p class=\"warning\">{}</p>\n", escaped(words));
+    let warnings: String = findings.warnings().iter().map(warning).collect();
     let groups: String = ANSWERS
         .iter()
         .map(|answer| group(findings, answer))
@@ -42,10 +42,11 @@ pub fn draw(findings: &Findings, subject: &Subject) -> String {
     format!(
         "<!doctype html>\n<html lang=\"en\">\n<head>\n<meta charset=\"utf-8\">\n\
          <meta name=\"viewport\" content=\"width=device-width\">\n\
-         <title>Card search: {query}</title>\n<style>\n{STYLE}</style>\n</head>\n<body>\n\
-         <h1>Card search</h1>\n<dl>\n<dt>Query</dt><dd>{query}</dd>\n<dt>Log</dt><dd>{log}</dd>\n\
+         <title>Card search of {day}: {query}</title>\n<style>\n{STYLE}</style>\n</head>\n<body>\n\
+         <h1>Card search</h1>\n<dl>\n<dt>Query</dt><dd>{query}</dd>\n\
+         <dt>Searched on</dt><dd>{day} (UTC)</dd>\n<dt>Log</dt><dd>{log}</dd>\n\
          <dt>Root or entry</dt><dd>{target}</dd>\n</dl>\n\
-         <p>{counts}.</p>\n{warning}<table>\n\
+         <p>{counts}.</p>\n{warnings}<table>\n\
          <thead><tr><th scope=\"col\">Answer</th><th scope=\"col\">Card</th>\
          <th scope=\"col\">Why</th></tr></thead>\n{groups}</table>\n<p>{counts}.</p>\n</body>\n</html>\n"
     )

@@ -11,6 +11,9 @@ use crate::card_text::{MOST_NAME, RESERVED};
 const MOST: usize = 256;
 const MOST_OPEN: usize = 16;
 
+/// The most characters of a token that are told.
+const MOST_TOLD: usize = 16;
+
 const ONLY_LETTERS: &str = "a name has only letters (A to Z, a to z) and digits, and one space \
     stands between any two words or brackets";
 
@@ -150,15 +153,23 @@ impl Tokens<'_> {
             None => (self.text.len() + 1, "and the query ends".to_string()),
             Some(b"") if self.text.is_empty() => (1, "and the query is empty".to_string()),
             Some(b"") => (self.next + 1, "and there is a space too many".to_string()),
-            Some(token) => {
-                let found = format!("and not `{}`", String::from_utf8_lossy(token));
-                (self.next + 1, found)
-            }
+            Some(token) => (self.next + 1, format!("and not `{}`", front(token))),
         };
         Fault {
             byte,
             words: format!("{words}, {found}"),
         }
+    }
+}
+
+/// A token as it is told: of a long one the front, which is enough to find it.
+fn front(token: &[u8]) -> String {
+    let text = String::from_utf8_lossy(token);
+    let mut signs = text.chars();
+    let front: String = signs.by_ref().take(MOST_TOLD).collect();
+    match signs.next() {
+        None => front,
+        Some(_) => front + "...",
     }
 }
 

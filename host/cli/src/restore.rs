@@ -14,6 +14,7 @@ use crate::entry;
 use crate::escape;
 use crate::hex;
 use crate::interrupt::Held;
+use crate::mark;
 use crate::output_file;
 use crate::progress::Progress;
 use crate::reader;
@@ -106,21 +107,24 @@ impl Target<'_> {
             let path = self.path(name);
             if output_file::is_log(log, &path) {
                 let words = format!("this would overwrite the log: {}", path.display());
-                return Err(Failure::usage(words));
+                return Err(Failure::new(EXISTS, words));
             }
-            if !self.overwrite && fs::symlink_metadata(&path).is_ok() {
-                return Err(exists(&path));
+            match fs::symlink_metadata(&path) {
+                Ok(found) if found.is_dir() => return Err(folder_there(&path)),
+                Ok(_) if !self.overwrite => return Err(exists(&path)),
+                _ => {}
             }
         }
         Ok(())
     }
 
-    /// Makes the folder, unless it is there.
+    /// Makes the folder, unless it is there, and has its name on disk.
     fn make(&self) -> Result<(), Failure> {
-        match fs::create_dir(self.folder) {
+        let made = match fs::create_dir(self.folder) {
             Err(e) if e.kind() == ErrorKind::AlreadyExists && self.folder.is_dir() => Ok(()),
-            made => made.map_err(|e| Failure::disk("make the folder", self.folder, &e)),
-        }
+            made => made.and_then(|()| mark::sync_folder(self.folder)),
+        };
+        made.map_err(|e| Failure::disk("make the folder", self.folder, &e))
     }
 
     /// Restores a file whole, or not at all: then it says why.
@@ -181,11 +185,14 @@ impl Target<'_> {
 
     fn rename(&self, temporary: &Path, path: &Path) -> Result<(), Failure> {
         self.held.check(INTERRUPTED)?;
-        if !self.overwrite && fs::symlink_metadata(path).is_ok() {
-            return Err(exists(path));
-        }
-        let renamed = disk::rename(temporary, path);
-        renamed.map_err(|e| Failure::disk("write", path, &e))
+        let renamed = match self.overwrite {
+            true => disk::rename(temporary, path),
+            false => disk::rename_new(temporary, path),
+        };
+        renamed.map_err(|e| match e.kind() {
+            ErrorKind::AlreadyExists => exists(path),
+            _ => Failure::disk("write", path, &e),
+        })
     }
 
     /// Has the names on disk.
@@ -203,6 +210,14 @@ fn not_whole(log: &mut [u8], entry: &[u8; entry::LENGTH], stopped: Stopped) -> S
         words += &format!(" `skywimple read LOG {entry}` writes what is before that offset.");
     }
     words
+}
+
+fn folder_there(path: &Path) -> Failure {
+    let words = format!(
+        "{} is a folder, and no file replaces it. Give another folder, or move it away.",
+        path.display()
+    );
+    Failure::new(EXISTS, words)
 }
 
 fn exists(path: &Path) -> Failure {

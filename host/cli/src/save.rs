@@ -1,6 +1,6 @@
 //! `save`: stores files under a root, prints the root's score.
 
-use std::ffi::OsString;
+use std::ffi::{OsStr, OsString};
 use std::fs::{self, File};
 use std::path::Path;
 
@@ -11,6 +11,7 @@ use crate::format::Score;
 use crate::hex;
 use crate::names;
 use crate::progress::Progress;
+use crate::put_file;
 use crate::reader;
 use crate::saved::{self, MOST_FILES};
 use crate::status::{Failure, DONE, INPUT_OUTPUT};
@@ -25,15 +26,16 @@ pub fn run(arguments: &Arguments, streams: &mut Streams) -> Result<u8, Failure> 
     let dates = arguments.dates()?;
     let files = &arguments.words[1..];
     let names = checked_names(files)?;
-    files
-        .iter()
-        .try_for_each(|file| is_readable(file.as_ref()))?;
+    let slow = files.iter().map(|file| is_readable(file.as_ref()));
+    let slow: Vec<bool> = slow.collect::<Result<_, _>>()?;
+    let early = files.iter().zip(slow).map(|(file, slow)| early(file, slow));
+    let early: Vec<_> = early.collect::<Result<_, _>>()?;
 
     let mut log = BlockStore::open(path, arguments.flag("--adopt"), dates, streams)?;
     let mut written = Vec::new();
-    for (at, file) in files.iter().enumerate() {
+    for (at, (file, early)) in files.iter().zip(early).enumerate() {
         let doing = format!("file {} of {}, {}", at + 1, files.len(), file.display());
-        written.push(store_file(&mut log, file.as_ref(), &doing, streams)?);
+        written.push(store_file(&mut log, file.as_ref(), early, &doing, streams)?);
     }
     let root = store_root(&mut log, &names, &written, streams)?;
     log.finish(streams)?;
@@ -69,8 +71,9 @@ fn checked_names(files: &[OsString]) -> Result<Vec<&str>, Failure> {
     }
 }
 
-/// Whether a file is there and can be opened. Of a pipe that shows only in reading.
-fn is_readable(file: &Path) -> Result<(), Failure> {
+/// Fails where a file is not there or cannot be opened; of a pipe that shows only in reading. Whether it
+/// is one.
+fn is_readable(file: &Path) -> Result<bool, Failure> {
     let found = fs::metadata(file).map_err(|e| Failure::open(file, &e))?;
     if found.is_dir() {
         let words = format!("{} is a folder: give the files in it", file.display());
@@ -79,17 +82,31 @@ fn is_readable(file: &Path) -> Result<(), Failure> {
     if found.is_file() {
         File::open(file).map_err(|e| Failure::open(file, &e))?;
     }
-    Ok(())
+    Ok(put_file::may_be_slow(&found))
+}
+
+/// What comes from a pipe, before the log's lock is asked for.
+fn early(file: &OsStr, slow: bool) -> Result<Option<Vec<u8>>, Failure> {
+    let file = Path::new(file);
+    if !slow {
+        return Ok(None);
+    }
+    let mut opened = File::open(file).map_err(|e| Failure::open(file, &e))?;
+    put_file::taken_in(file, &mut opened).map(Some)
 }
 
 fn store_file(
     log: &mut BlockStore,
     file: &Path,
+    early: Option<Vec<u8>>,
     doing: &str,
     streams: &mut Streams,
 ) -> Result<Written, Failure> {
-    let mut source = File::open(file).map_err(|e| Failure::open(file, &e))?;
     let subject = Subject { name: file, doing };
+    if let Some(bytes) = early {
+        return log.write(&FILE, &mut &bytes[..], subject, streams);
+    }
+    let mut source = File::open(file).map_err(|e| Failure::open(file, &e))?;
     log.write(&FILE, &mut source, subject, streams)
 }
 

@@ -1,7 +1,6 @@
 //! `search`: asks a query of every card of a root, or of one card.
 
 use std::ffi::OsStr;
-use std::fs;
 use std::path::Path;
 
 use boundary::{fill, search, Refusal, Value};
@@ -9,7 +8,9 @@ use boundary::{fill, search, Refusal, Value};
 use crate::arguments::Arguments;
 use crate::card_text;
 use crate::contents;
+use crate::date::{self, Dates};
 use crate::entry::LENGTH as ENTRY;
+use crate::escape;
 use crate::findings::{Finding, Findings, Row};
 use crate::format::Score;
 use crate::hex;
@@ -42,7 +43,7 @@ enum Target {
 pub fn run(arguments: &Arguments, streams: &mut Streams) -> Result<u8, Failure> {
     let asked = Asked::new(&arguments.words[2])?;
     let target = target(arguments)?;
-    let page = page_path(arguments)?;
+    let page = wanted_page(arguments)?;
     let mut log = reader::read(arguments.path(0), arguments.flag("--adopt"), streams)?;
     let (files, names_lost) = files(&mut log, &target, arguments)?;
 
@@ -60,18 +61,11 @@ pub fn run(arguments: &Arguments, streams: &mut Streams) -> Result<u8, Failure> 
         });
     }
     streams.clear_progress();
-    let findings = Findings(rows);
+    let findings = Findings { rows, names_lost };
     write(&findings, &asked, arguments, page, streams)?;
-    if let Some(refusal) = names_lost {
-        let why = words::brief(refusal);
-        streams.tell(&format!(
-            "names are lost: {why}. Those cards are listed by their place."
-        ));
-    }
-    if let Some(words) = advice(&findings) {
-        streams.tell(&words);
-    }
-    Ok(match findings.unreadable() == 0 && names_lost.is_none() {
+    let told = [findings.lost_names(), advice(&findings)];
+    told.iter().flatten().for_each(|words| streams.tell(words));
+    Ok(match findings.whole() {
         true => DONE,
         false => PARTLY,
     })
@@ -80,29 +74,37 @@ pub fn run(arguments: &Arguments, streams: &mut Streams) -> Result<u8, Failure> 
 const HEAL: &str =
     " `skywimple list LOG` shows the doubtful sectors, and how to restore them from a \
     copy; saving the cards again (`skywimple save`) heals them too.";
+const MISSING: &str = " A block of a card is not held in this log: saving the card again \
+    (`skywimple save`) stores it.";
+const OTHER_MAKE: &str = " An entry or tree that is ill-formed was written wrongly: save the card \
+    again from its file, or check the entry that was given.";
+const NO_CARD: &str = " `skywimple card FILE` says what is wrong with a file that is no card.";
 
-/// What to do about cards that could not be read.
+/// What to do about a card that is refused so.
+fn advice_for(refusal: Refusal) -> &'static str {
+    match refusal {
+        Refusal::NotKnown { .. } => HEAL,
+        Refusal::NotHeld => MISSING,
+        Refusal::Card => NO_CARD,
+        _ => OTHER_MAKE,
+    }
+}
+
+/// What to do about cards that could not be read: each advice once.
 fn advice(findings: &Findings) -> Option<String> {
     let why = |row: &Row| match row.finding {
-        Finding::Unreadable { refusal, .. } => Some(refusal),
+        Finding::Unreadable { refusal, .. } => Some(advice_for(refusal)),
         _ => None,
     };
-    let refusals: Vec<_> = findings.0.iter().filter_map(why).collect();
-    let ill_formed = refusals.contains(&Refusal::Card);
-    let lost = refusals.iter().any(|refusal| *refusal != Refusal::Card);
-    let count = match refusals.len() {
+    let advice: Vec<_> = findings.rows.iter().filter_map(why).collect();
+    let count = match advice.len() {
         0 => return None,
         1 => "1 card".to_string(),
         count => format!("{count} cards"),
     };
-    let mut words = format!("{count} could not be read.");
-    if lost {
-        words += HEAL;
-    }
-    if ill_formed {
-        words += " `skywimple card FILE` says what is wrong with a file that is no card.";
-    }
-    Some(words)
+    let given = [HEAL, MISSING, OTHER_MAKE, NO_CARD].into_iter();
+    let given: String = given.filter(|words| advice.contains(words)).collect();
+    Some(format!("{count} could not be read.{given}"))
 }
 
 /// A query that the proved call takes for one.
@@ -227,21 +229,34 @@ fn files(
     }
 }
 
-/// The file that a page goes to, if one is asked for. A dash is standard output.
-fn page_path(arguments: &Arguments) -> Result<Option<&Path>, Failure> {
+/// A page that is asked for.
+struct Page<'a> {
+    file: &'a Path,
+    /// The day that it tells, so that an old page is seen to be one.
+    day: String,
+}
+
+impl Page<'_> {
+    /// Whether it goes to standard output.
+    fn is_answer(&self) -> bool {
+        self.file == Path::new("-")
+    }
+}
+
+/// The page that is asked for, if one is. Its file may be written then.
+fn wanted_page(arguments: &Arguments) -> Result<Option<Page<'_>>, Failure> {
     let Some(file) = arguments.value("--html").map(Path::new) else {
         return Ok(None);
     };
-    match (file == Path::new("-"), arguments.flag("--json")) {
-        (true, true) => Err(Failure::usage(
-            "--html - has standard output for the page alone, without --json",
-        )),
-        (true, false) => Ok(Some(file)),
-        (false, _) => {
-            output_file::may_write(arguments.path(0), file, &PAGE)?;
-            Ok(Some(file))
-        }
+    let day = date::hyphened(&Dates::choose(None)?.now()?);
+    let page = Page { file, day };
+    if !page.is_answer() {
+        output_file::may_write(arguments.path(0), file, &PAGE)?;
+    } else if arguments.flag("--json") {
+        let words = "--html - has standard output for the page alone, without --json";
+        return Err(Failure::usage(words));
     }
+    Ok(Some(page))
 }
 
 /// Writes the page, and the table or the objects.
@@ -249,20 +264,21 @@ fn write(
     findings: &Findings,
     asked: &Asked,
     arguments: &Arguments,
-    page: Option<&Path>,
+    page: Option<Page>,
     streams: &mut Streams,
 ) -> Result<(), Failure> {
-    let subject = page::Subject {
-        query: asked.text,
-        log: &arguments.path(0).display().to_string(),
-        target: &arguments.path(1).display().to_string(),
-    };
-    if let Some(file) = page {
+    if let Some(page) = page {
+        let subject = page::Subject {
+            query: asked.text,
+            day: &page.day,
+            log: &escape::visible_path(arguments.path(0)),
+            target: &escape::visible_path(arguments.path(1)),
+        };
         let drawn = page::draw(findings, &subject);
-        if file == Path::new("-") {
+        if page.is_answer() {
             return streams.answer(drawn.as_bytes());
         }
-        fs::write(file, drawn).map_err(|e| Failure::disk("write", file, &e))?;
+        output_file::replace(page.file, drawn.as_bytes())?;
     }
     let text = match arguments.flag("--json") {
         true => findings.json(),

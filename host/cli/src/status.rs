@@ -41,7 +41,7 @@ pub const TABLE: [(&str, &str); 14] = [
     ),
     (
         "33",
-        "search, restore, diff: some cards or files could not be read or compared, and are named",
+        "search, restore, diff: some cards, files or names could not be read or compared; it is told which",
     ),
     ("64", "the words given make no command"),
     (
@@ -52,7 +52,7 @@ pub const TABLE: [(&str, &str); 14] = [
     ("69", "./skywimple: the program could not be built"),
     (
         "73",
-        "init, restore, --svg or --html would overwrite a file",
+        "init, restore, --svg or --html would overwrite a file, or the log",
     ),
     ("74", "reading or writing failed"),
     ("75", "another writer holds the log"),

@@ -25,7 +25,7 @@ impl Streams<'_> {
     /// Tells something on standard error, in one line whatever names are in it. Where nobody can be
     /// told, the work goes on.
     pub fn tell(&mut self, words: &str) {
-        self.tell_plain(&format!("skywimple: {}\n", escape::visible(words)));
+        self.tell_plain(&format!("skywimple: {}\n", escape::line(words)));
     }
 
     /// The same, without the name in front.
@@ -37,7 +37,7 @@ impl Streams<'_> {
 
     /// Shows how far the work has come, in place of what was shown before.
     pub fn show_progress(&mut self, line: &str) {
-        let _ = write!(self.err, "\r\x1b[K{}", escape::visible(line));
+        let _ = write!(self.err, "\r\x1b[K{}", escape::line(line));
         let _ = self.err.flush();
         self.progress = true;
     }

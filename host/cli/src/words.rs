@@ -159,7 +159,8 @@ pub fn refusal(refusal: Refusal) -> String {
     told(refusal, None)
 }
 
-/// What a refusal is called, its number, and for 12 the first doubtful sector.
+/// Why a card, a file or its name cannot be read: the refusal's number and what it is called. Of 12 it
+/// is said where the damage begins; "not known", its name for a block, is one of a search's answers.
 pub fn brief(refusal: Refusal) -> String {
     let number = refusal.number();
     let name = entry_of(refusal).map_or("refused", |words| words.name);
@@ -167,7 +168,8 @@ pub fn brief(refusal: Refusal) -> String {
         Some(first) => {
             let byte = first * SECTOR;
             format!(
-                "refusal {number} ({name}), first doubtful sector {first}, byte {byte} of the log"
+                "refusal {number}: a part of the log is damaged, first doubtful sector {first}, \
+                 byte {byte} of the log"
             )
         }
         None => format!("refusal {number} ({name})"),
@@ -266,7 +268,8 @@ mod tests {
     #[test]
     fn in_few_words() {
         let why = Refusal::NotKnown { sector: 3 };
-        let words = "refusal 12 (not known), first doubtful sector 3, byte 1536 of the log";
+        let words = "refusal 12: a part of the log is damaged, first doubtful sector 3, \
+                     byte 1536 of the log";
         assert_eq!(brief(why), words);
         assert_eq!(brief(Refusal::Card), "refusal 25 (not a card)");
     }

@@ -208,7 +208,7 @@ fn damaged_names() {
     }
     assert_eq!(answer.text(), told.trim_end());
     for words in [
-        "skywimple: names of ROOT1 are lost: refusal 12 (not known), first doubtful sector",
+        "skywimple: names of ROOT1 are lost: refusal 12: a part of the log is damaged, first doubtful sector",
         "6 files could not be compared, and may have changed or not. DO NOT READ THIS AS UNCHANGED.",
     ] {
         assert!(answer.err.contains(words), "{words}: {answer:?}");
@@ -216,7 +216,7 @@ fn damaged_names() {
     let answer = diff(&place, &second, &first).with(33).text();
     let byte = sector * SECTOR;
     let row = format!(
-        "unreadable  (name lost: file 1 of ROOT2): refusal 12 (not known), \
+        "unreadable  (name lost: file 1 of ROOT2): refusal 12: a part of the log is damaged, \
          first doubtful sector {sector}, byte {byte} of the log"
     );
     assert!(answer.lines().any(|line| line == row), "{answer}");
@@ -324,7 +324,7 @@ fn odd_names() {
 {"name":"漢","change":"added"}
 "#;
     rows(json(&place, &first, &second), 1, told);
-    let told = "added       ä \"b\" \\\nadded       \\u{1b}[2J\nadded       \\u{202e}cba\nadded       漢\n";
+    let told = "added       ä \"b\" \\\\\nadded       \\u{1b}[2J\nadded       \\u{202e}cba\nadded       漢\n";
     rows(diff(&place, &first, &second), 1, told);
 }
 

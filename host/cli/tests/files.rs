@@ -4,6 +4,7 @@ mod common;
 
 use std::ffi::OsStr;
 use std::fs;
+use std::io::Write;
 use std::os::unix::ffi::OsStrExt;
 use std::os::unix::fs::symlink;
 use std::process::Command;
@@ -211,10 +212,17 @@ fn a_directory_of_two_blocks() {
     let found = place.run(&["search", "log", &root, "A0 or A1498"]).with(33);
     let counts = "1500 cards: 1 yes, 67 not known, 1432 unreadable, 0 no";
     assert!(found.text().ends_with(counts), "{}", found.text());
-    let told = "names are lost: refusal 12 (not known), first doubtful sector";
+    let told = "names are lost: refusal 12: a part of the log is damaged, first doubtful sector";
     assert!(found.err.contains(told), "{}", found.err);
     let row = "\nyes         (name lost: file 1499)\n";
     assert!(found.text().contains(row), "{}", found.text());
+    let lost = format!("1500 {told} {lost}, byte {} of the log. ", lost * SECTOR);
+    assert!(found.text().contains(&lost), "{}", found.text());
+    let words = ["search", "log", &root, "A0 or A1498", "--html", "-"];
+    let page = place.run(&words).with(33).text();
+    let warning = format!("<p class=\"warning\">{lost}");
+    assert!(page.contains(&warning), "{page}");
+    assert!(page.contains("<td class=\"name\">(name lost: file 1499)</td>"));
     let json = place.run(&["search", "log", &root, "A1499", "--json"]);
     let last = r#"{"name":null,"place":1499,"answer":"not known","missing":["A1499"]}"#;
     assert!(json.with(33).text().contains(last));
@@ -325,14 +333,32 @@ fn damage_above_the_files() {
     let (place, root, long) = lost(&|place, _, _| sector_of(place, names));
     let answer = restore(&place, &root).with(33);
     assert_eq!(answer.text(), "3 of 3 files restored to back");
-    assert!(answer
-        .err
-        .contains("names are lost: refusal 12 (not known), first doubtful sector"));
+    assert!(answer.err.contains(
+        "names are lost: refusal 12: a part of the log is damaged, first doubtful sector"
+    ));
     assert!(only(
         &place.path("back"),
         &["name-lost-1", "name-lost-2", "name-lost-3"]
     ));
     assert!(place.file("back/name-lost-2") == long);
+    // No card needs be unreadable for it.
+    let entry = entry_of(b"K=absent\n");
+    place.put(b"K=absent\n");
+    let root = root_over(&place, "other\n", &entry);
+    let sector = sector_of(&place, b"other\n");
+    place.damage(|log| log[sector * SECTOR + 200] ^= 1);
+    let found = place.run(&["search", "log", &root, "K"]).with(33);
+    let told = "\n1 name is lost: refusal 12: a part of the log is damaged, first doubtful sector ";
+    assert!(found.text().contains(told), "{found:?}");
+    assert!(
+        found.text().contains("no      (name lost: file 1)\n"),
+        "{found:?}"
+    );
+    let help = place.run(&["search", "--help"]).with(0).text();
+    assert!(
+        help.contains("33 if any could not be read, or if names are\nlost"),
+        "{help}"
+    );
 
     let root_sector = |place: &Place, root: &str| {
         let (log, line) = (place.file("log"), format!("score={root}"));
@@ -375,14 +401,15 @@ fn nothing_is_overwritten() {
     );
     assert!(only(&place.path("back"), &["first", "last", "long"]));
 
-    fs::remove_file(place.path("back/first")).unwrap();
-    fs::create_dir(place.path("back/first")).unwrap();
-    let answer = restore(&["--overwrite"]).with(74);
-    assert!(answer.err.contains("cannot write back/first"), "{answer:?}");
-    assert!(
-        only(&place.path("back"), &["first", "last", "long"]),
-        "nothing is left over"
-    );
+    for name in ["back/first", "back/last"] {
+        fs::remove_file(place.path(name)).unwrap();
+    }
+    fs::create_dir(place.path("back/last")).unwrap();
+    for words in [&[][..], &["--overwrite"]] {
+        fs::remove_file(place.path("back/long")).unwrap_or_default();
+        restore(words).fails(73, "back/last is a folder");
+        assert!(only(&place.path("back"), &["last"]), "nothing is written");
+    }
     place.write("file", "");
     let file = ["restore", "log", &root, "file"];
     place.run(&file).fails(74, "cannot make the folder file");
@@ -400,7 +427,7 @@ fn the_log_is_never_overwritten() {
         let before = (place.file("log"), place.file("log.mark"));
         for folder in [".", "in/.."] {
             let words = ["restore", "log", &root, folder, "--overwrite"];
-            place.run(&words).fails(64, "would overwrite the log");
+            place.run(&words).fails(73, "would overwrite the log");
         }
         assert!((place.file("log"), place.file("log.mark")) == before);
     }
@@ -527,6 +554,39 @@ fn an_interrupted_restore() {
     );
     assert!(output.stdout.is_empty());
     assert!(only(&place.path("back"), &["first"]));
+}
+
+/// Who is slow to send holds up no other writer.
+#[test]
+fn a_slow_pipe() {
+    let place = Place::with_log(40);
+    let made = Command::new("mkfifo").arg(place.path("pipe")).status();
+    assert!(made.unwrap().success());
+    place.write("plain", "plain file");
+    for words in [
+        &["save", "log", "plain", "pipe"][..],
+        &["put-file", "log", "pipe"],
+    ] {
+        let child = place.command(words).spawn().unwrap();
+        // It is opened when the program opens it too.
+        let mut pipe = fs::OpenOptions::new();
+        let mut pipe = pipe.write(true).open(place.path("pipe")).unwrap();
+        thread::sleep(Duration::from_millis(300));
+        place.put(words[0].as_bytes());
+        pipe.write_all(b"through a pipe").unwrap();
+        drop(pipe);
+        let output = child.wait_with_output().unwrap();
+        assert!(output.status.success(), "{output:?}");
+        let answer = String::from_utf8(output.stdout).unwrap();
+        let answer = answer.trim_end();
+        if words[0] == "save" {
+            place.run(&["restore", "log", answer, "back"]).with(0);
+            assert_eq!(place.file("back/pipe"), b"through a pipe");
+            assert_eq!(place.file("back/plain"), b"plain file");
+        } else {
+            assert_eq!(answer, entry_of(b"through a pipe"));
+        }
+    }
 }
 
 /// One writer at a time, and readers beside it; no log without its mark, unless it is adopted.

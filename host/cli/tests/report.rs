@@ -145,7 +145,7 @@ fn a_picture_never_overwrites_the_log() {
     let whole = place.path("log").display().to_string();
     for file in ["log", "./log.mark", &whole, "same"] {
         let answer = place.run(&["report", "log", "--svg", file]);
-        answer.fails(64, "--svg would overwrite the log");
+        answer.fails(73, "--svg would overwrite the log");
     }
     assert_eq!((place.file("log"), place.file("log.mark")), before);
 }
@@ -171,7 +171,7 @@ fn a_picture_overwrites_pictures_only() {
     fs::create_dir(place.path("folder")).unwrap();
     for mark in ["log.mark", "./folder/../log.mark"] {
         let words = ["report", "log", "--adopt", "--svg", mark];
-        place.run(&words).fails(64, "--svg would overwrite the log");
+        place.run(&words).fails(73, "--svg would overwrite the log");
     }
 }
 

@@ -4,6 +4,8 @@ mod common;
 
 use std::collections::BTreeMap;
 use std::fs;
+use std::os::unix::fs::{symlink, MetadataExt, PermissionsExt};
+use std::process::Command;
 
 use common::*;
 
@@ -121,11 +123,19 @@ fn a_damaged_card_is_no_answer() {
         }
         let answer = search(&place, &root, &[]).with(33);
         let row = format!(
-            "unreadable  dan   refusal 12 (not known), first doubtful sector {sector}, byte {} of the log\n",
+            "unreadable  dan   refusal 12: a part of the log is damaged, first doubtful sector {sector}, byte {} of the log\n",
             sector * SECTOR
         );
         let text = answer.text();
         assert!(text.contains(&row), "{text}");
+        let rows = text.lines().filter(|line| line.starts_with("unreadable"));
+        assert!(rows.clone().count() == 1, "{text}");
+        for row in rows {
+            let other = ["yes", "not known", "no "]
+                .iter()
+                .find(|words| row.contains(**words));
+            assert_eq!(other, None, "another answer's words: {row}");
+        }
         assert!(text.contains("DO NOT READ IT AS ABSENT"), "{text}");
         let counts = "6 cards: 1 yes, 2 not known, 1 unreadable, 2 no";
         assert!(text.ends_with(counts), "{text}");
@@ -294,6 +304,14 @@ fn ill_formed_queries() {
         (&deep, "at byte 33: at most 16 brackets may be open"),
         (&long, "at byte 257: a query has at most 256 bytes"),
         ("\u{e4}", "at byte 1: "),
+        (
+            &"A".repeat(16),
+            "8 letters and digits, and not `AAAAAAAAAAAAAAAA`. ",
+        ),
+        (
+            &"A".repeat(100_000),
+            "8 letters and digits, and not `AAAAAAAAAAAAAAAA...`. ",
+        ),
     ];
     for (query, place_of) in cases {
         for target in [&root[..], &score(b"never"), &"0".repeat(80)] {
@@ -339,6 +357,15 @@ fn one_card_by_its_entry() {
         text.contains("refusal 16 (ill-formed entry or root)\n"),
         "{text}"
     );
+    // The log is sound, so nothing is said of doubtful sectors.
+    for (entry, advice) in [
+        (&never, "A block of a card is not held in this log: "),
+        (&inactive, "check the entry that was given."),
+    ] {
+        let answer = search(&place, entry, &[]).with(33);
+        assert!(answer.err.contains(advice), "{answer:?}");
+        assert!(!answer.err.contains("doubtful"), "{answer:?}");
+    }
 }
 
 const ODD: &str = "a\"b\\c <script>&amp;'\t\u{1b}[2J\u{202e}\u{e4}";
@@ -351,7 +378,7 @@ fn odd_names() {
     let root = place.run(&["save", "log", ODD]).with(0).text();
     let search = ["search", "log", &root, "not A"];
     let text = place.run(&search).with(0).text();
-    let shown = "a\"b\\c <script>&amp;'\\t\\u{1b}[2J\\u{202e}\u{e4}";
+    let shown = "a\"b\\\\c <script>&amp;'\\t\\u{1b}[2J\\u{202e}\u{e4}";
     assert!(text.contains(&format!("\nyes     {shown}\n")), "{text}");
     let json = place.run(&[&search[..], &["--json"]].concat()).with(0);
     let name = r#""a\"b\\c <script>&amp;'\u0009\u001b[2J\u202eä""#;
@@ -360,9 +387,48 @@ fn odd_names() {
         .run(&[&search[..], &["--html", "page.html"]].concat())
         .with(0);
     let page = String::from_utf8(place.file("page.html")).unwrap();
-    let cell = "<td class=\"name\">a&quot;b\\c &lt;script&gt;&amp;amp;&#39;\\t\\u{1b}[2J\\u{202e}\u{e4}</td>";
+    let cell = "<td class=\"name\">a&quot;b\\\\c &lt;script&gt;&amp;amp;&#39;\\t\\u{1b}[2J\\u{202e}\u{e4}</td>";
     assert!(page.contains(cell), "{page}");
     assert!(!page.contains("<script"), "{page}");
+}
+
+/// Names that differ only in what cannot be seen.
+const ALIKE: [(&str, &str); 12] = [
+    ("a b", "a b"),
+    (" a b", "\\u{20}a b"),
+    ("a b ", "a b\\u{20}"),
+    ("a  b", "a \\u{20}b"),
+    ("a\u{a0}b", "a\\u{a0}b"),
+    ("a\\u{a0}b", "a\\\\u{a0}b"),
+    ("a\u{200b} b", "a\\u{200b} b"),
+    ("a\u{ad} b", "a\\u{ad} b"),
+    ("a\u{feff} b", "a\\u{feff} b"),
+    ("a\u{e0041} b", "a\\u{e0041} b"),
+    ("a\u{ffff} b", "a\\u{ffff} b"),
+    ("(name lost: file 1)", "\\u{28}name lost: file 1)"),
+];
+
+#[test]
+fn no_two_names_look_alike() {
+    let place = Place::with_log(40);
+    for (name, _) in ALIKE {
+        place.write(name, "A=absent\n");
+    }
+    let names = ALIKE.map(|(name, _)| name);
+    let root = place.run(&[&["save", "log"], &names[..]].concat());
+    let root = root.with(0).text();
+    let words = ["search", "log", &root, "not A", "--html", "page.html"];
+    let text = place.run(&words).with(0).text();
+    let page = String::from_utf8(place.file("page.html")).unwrap();
+    for (_, shown) in ALIKE {
+        assert!(text.contains(&format!("\nyes     {shown}\n")), "{text}");
+        let cell = format!("<td class=\"name\">{shown}</td>");
+        assert!(page.contains(&cell), "{cell}: {page}");
+    }
+    let help = place.run(&["search", "--help"]).with(0).text();
+    for part in ["as \\\\, ", "\\u{200b}", "\\u{20}", "--json keeps"] {
+        assert!(help.contains(part), "{part}: {help}");
+    }
 }
 
 /// The page stands alone, says the same as the table, and says it in words.
@@ -381,7 +447,7 @@ fn a_page() {
         assert!(!page.contains(outside), "{outside}");
     }
     let why = format!(
-        "refusal 12 (not known), first doubtful sector {sector}, byte {} of the log",
+        "refusal 12: a part of the log is damaged, first doubtful sector {sector}, byte {} of the log",
         sector * SECTOR
     );
     let row = |answer: &str, name: &str, why: &str| {
@@ -389,7 +455,9 @@ fn a_page() {
     };
     let mut rest = &page[..];
     for part in [
+        "<title>Card search of 2026-11-16: not Vel and not K</title>".to_string(),
         "<dt>Query</dt><dd>not Vel and not K</dd>".to_string(),
+        "<dt>Searched on</dt><dd>2026-11-16 (UTC)</dd>".to_string(),
         "DO NOT READ IT AS ABSENT".to_string(),
         ">yes: 1<".to_string(),
         row("yes", "ada", ""),
@@ -426,12 +494,53 @@ fn a_page_overwrites_pages_only() {
     page("mine").fails(73, "mine is there already and no page");
     fs::hard_link(place.path("log"), place.path("same")).unwrap();
     for file in ["log", "same", "log.mark", "./log.mark"] {
-        page(file).fails(64, "--html would overwrite the log");
+        page(file).fails(73, "--html would overwrite the log");
     }
     assert_eq!(place.file("mine"), b"my letter");
     assert!((place.file("log"), place.file("log.mark")) == before);
     let nowhere = page("no/such/page.html").with(74);
     assert!(nowhere.out.is_empty(), "{nowhere:?}");
+}
+
+/// A page is replaced whole, or stays.
+#[test]
+fn the_page_before_stays() {
+    let (place, root) = registry();
+    search(&place, &root, &["--html", "page.html"]).with(0);
+    let before = place.file("page.html");
+    let names = ["page.html", "old.html", "link.html"].map(|name| place.path(name));
+    fs::hard_link(&names[0], &names[1]).unwrap();
+    fs::set_permissions(&names[0], fs::Permissions::from_mode(0o604)).unwrap();
+    symlink("page.html", &names[2]).unwrap();
+    let files: Vec<_> = fs::read_dir(&place.folder).unwrap().collect();
+
+    // Searches that are refused, one whose root is lost, and one that may not write so much.
+    let bad = ["search", "log", &root, "not", "--html", "page.html"];
+    place.run(&bad).fails(26, "at byte 4");
+    search(&place, &score(b"never"), &["--html", "page.html"]).fails(11, "the root block");
+    let mut shell = Command::new("sh");
+    let line = "trap '' XFSZ; ulimit -f 2; exec \"$0\" search log \"$1\" A --html page.html";
+    shell.args(["-c", line, PROGRAM, &root]);
+    let output = shell.current_dir(&place.folder).output().unwrap();
+    assert_eq!(output.status.code(), Some(74), "{output:?}");
+    assert!(output.stdout.is_empty(), "{output:?}");
+    let told = String::from_utf8(output.stderr).unwrap();
+    assert!(told.contains("cannot write page.html"), "{told}");
+    assert_eq!(place.file("page.html"), before);
+    let now = fs::read_dir(&place.folder).unwrap().count();
+    assert_eq!(now, files.len(), "nothing is left over");
+
+    // Who has the old page open goes on reading it. A link is followed.
+    let words = ["search", "log", &root, "not Vel", "--html", "link.html"];
+    place.run(&words).with(0);
+    let page = String::from_utf8(place.file("page.html")).unwrap();
+    assert!(page.contains("<dd>not Vel</dd>"), "{page}");
+    assert_eq!(place.file("old.html"), before);
+    assert!(fs::symlink_metadata(&names[2]).unwrap().is_symlink());
+    assert_eq!(fs::metadata(&names[0]).unwrap().mode() & 0o777, 0o604);
+    let now = fs::read_dir(&place.folder).unwrap().count();
+    assert_eq!(now, files.len(), "nothing is left over");
+    search(&place, &root, &["--html", "/dev/null"]).with(0);
 }
 
 #[test]

@@ -6,8 +6,7 @@ mod common;
 
 use std::io::Write;
 use std::os::unix::process::ExitStatusExt;
-use std::path::{Path, PathBuf};
-use std::process::Command;
+use std::path::Path;
 
 use boundary::MOST_WAITING;
 use common::*;
@@ -22,17 +21,6 @@ const SECTORS: usize = 192;
 const WAITING: usize = MOST_WAITING * SECTOR;
 const REPLY: usize = 57_348;
 const KILLED: Option<i32> = Some(9);
-
-/// Makes the library that stops the program at a step of its writing.
-fn stopper(place: &Place) -> PathBuf {
-    let source = concat!(env!("CARGO_MANIFEST_DIR"), "/tests/common/stop.c");
-    let library = place.path("stop.so");
-    let mut compiler = Command::new("cc");
-    compiler.args("-std=gnu99 -Wall -Wextra -Werror -shared -fPIC -o".split(' '));
-    let made = compiler.arg(&library).arg(source).status();
-    assert!(made.expect("a C compiler").success());
-    library
-}
 
 /// At which step the machine stops, and how what was not synced is torn.
 struct Stop<'a> {
@@ -140,7 +128,7 @@ impl History {
 #[test]
 fn torn_by_a_process_that_dies() {
     let place = Place::new();
-    let library = &stopper(&place);
+    let library = &place.preload("stop");
     let blocks: Vec<_> = (0..14).map(|k| block(k, 1 + 12 * k * k)).collect();
     let (mut killed, mut in_doubt) = (0, 0);
     for log in 0..LOGS {

@@ -119,6 +119,17 @@ impl Place {
         self.folder.join(name)
     }
 
+    /// Makes the library NAME.so of NAME.c beside this file, for LD_PRELOAD.
+    pub fn preload(&self, name: &str) -> PathBuf {
+        let folder = concat!(env!("CARGO_MANIFEST_DIR"), "/tests/common");
+        let library = self.path(&format!("{name}.so"));
+        let mut compiler = Command::new("cc");
+        compiler.args("-std=gnu99 -Wall -Wextra -Werror -shared -fPIC -o".split(' '));
+        let made = compiler.arg(&library).arg(format!("{folder}/{name}.c"));
+        assert!(made.status().expect("a C compiler").success());
+        library
+    }
+
     pub fn file(&self, name: &str) -> Vec<u8> {
         fs::read(self.path(name)).expect(name)
     }
