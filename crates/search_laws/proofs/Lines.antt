@@ -1,7 +1,7 @@
 -- A name with no line is not known; lines added leave a yes and a no.
 use mathlib.Core.Path.{_≡_, refl, sym, ap, _∙_}
 use mathlib.Core.Bool.{true, not, _&&_}
-use mathlib.Core.List.{append-nil}
+use mathlib.Core.List.{_∷_, _++_, append-nil}
 use mathlib.Core.Logic.{_⊎_, inl, inr}
 use mathlib.Core.Option.{Option, none, some}
 use Prim.Native.Nat.{ℕ, _≤_}
@@ -15,10 +15,11 @@ use Rattle.buffer.specs.Bytes.{Bytes}
 use Rattle.refusal.specs.declared.Refusal.the-variants as why
 use Rattle.kleene.specs.declared.Value.{Value}
 use Rattle.kleene.specs.declared.Value.the-variants.{NotKnown}
+use Rattle.kleene.specs.Kleene.{notOf}
 use Rattle.card.specs.Name.{isName, reserved, lettersAndDigits}
 use Rattle.card.specs.Card.{valueIn}
 use Rattle.card.proofs.Says.{says, lines-added}
-use Rattle.query.specs.Reading.{Reading, choice, term, name, tokens, choiceTokens, termTokens, joined, spaced, text, named, choiceNamed, termNamed, depth, choiceDepth, termDepth, Within}
+use Rattle.query.specs.Reading.{Reading, choice, term, name, negated, notWord, tokens, choiceTokens, termTokens, joined, spaced, text, named, choiceNamed, termNamed, depth, choiceDepth, termDepth, Within}
 use Rattle.query.specs.Grammar.{readingOf}
 use Rattle.query.specs.Value.{valueOf, choiceValue, termValue}
 use Rattle.query.proofs.OneToOne.{every-reading-one-text}
@@ -26,7 +27,7 @@ use Rattle.query.proofs.Monotone.{monotone}
 use Rattle.evaluate.specs.declared.Answer.the-variants.{Told, Refused}
 use Rattle.evaluate.specs.Evaluate.{evaluateOf}
 use Rattle.search.specs.Search.{cardOf}
-use Rattle.search_laws.specs.Promises.{NeverTestedNeverAbsent, LinesAddedToACard, LinesAddedOverLogs}
+use Rattle.search_laws.specs.Promises.{NeverTestedNeverAbsent, NeverTestedNeverByNot, LinesAddedToACard, LinesAddedOverLogs}
 use Rattle.search_laws.proofs.Whole.{read-answer}
 
 -- ---- a query that is a name
@@ -64,6 +65,36 @@ never-tested-never-absent log waiting page entry n ls r e f =
     let card = cardOf log waiting entry .bytes in
     read-answer log waiting page entry n ls r
     ∙ rw (just-read n e) (ap (λ (v : Value). Told v) (just-value (valueIn card) n ∙ says card ls (r .lines) .silent n f))
+
+-- ---- and one that is not and a name
+
+abbrev opposite : Bytes → Reading
+opposite n = choice (term (negated (name n)))
+
+opposite-text : (n : Bytes) → text (opposite n) ≡ notWord ++ (0x20 ∷ n)
+unfolding tokens choiceTokens termTokens joined spaced
+opposite-text n = ap (λ (x : Bytes). notWord ++ (0x20 ∷ x)) (append-nil n)
+
+opposite-within : (n : Bytes) → isName n ≡ true → Within (opposite n)
+unfolding named choiceNamed termNamed depth choiceDepth termDepth
+opposite-within n e = record {
+  names = e;
+  brackets = omega arith;
+  bytes = omega (arith, ap length (opposite-text n), name-short n e);
+}
+
+opposite-read : (n : Bytes) → isName n ≡ true → readingOf (notWord ++ (0x20 ∷ n)) ≡ some (opposite n)
+opposite-read n e = ap readingOf (sym (opposite-text n)) ∙ every-reading-one-text (opposite n) (opposite-within n e)
+
+opposite-value : (f : Bytes → Value) (n : Bytes) → f n ≡ NotKnown → valueOf f (opposite n) ≡ NotKnown
+unfolding valueOf choiceValue termValue
+opposite-value f n e = ap notOf e
+
+pub never-tested-never-by-not : NeverTestedNeverByNot
+never-tested-never-by-not log waiting page entry n ls r e f =
+    let card = cardOf log waiting entry .bytes in
+    read-answer log waiting page entry (notWord ++ (0x20 ∷ n)) ls r
+    ∙ rw (opposite-read n e) (ap (λ (v : Value). Told v) (opposite-value (valueIn card) n (says card ls (r .lines) .silent n f)))
 
 -- ---- lines added
 

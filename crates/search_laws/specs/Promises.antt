@@ -2,7 +2,7 @@
 -- lines added leave a yes and a no; a value is given again.
 use mathlib.Core.Path.{_≡_}
 use mathlib.Core.Bool.{true}
-use mathlib.Core.List.{List}
+use mathlib.Core.List.{List, _∷_, _++_}
 use mathlib.Core.Logic.{_≢_}
 use mathlib.Core.Option.{some}
 use Prim.Native.Nat.{ℕ, _≤_, _<_}
@@ -26,6 +26,7 @@ use Rattle.kleene.specs.declared.Value.the-variants.{NotKnown}
 use Rattle.card.specs.Name.{isName}
 use Rattle.card.specs.Card.{Line, linesOf}
 use Rattle.card.specs.Says.{Among}
+use Rattle.query.specs.Reading.{notWord}
 use Rattle.evaluate.specs.declared.Answer.the-variants.{Told, Refused}
 use Rattle.evaluate.specs.Evaluate.{evaluateOf}
 use Rattle.search.specs.Search.{longestCard, cardOf, searchOf}
@@ -68,6 +69,11 @@ EveryBlockHeld = (log waiting page entry query : Bytes) (v : Value) → searchOf
 abbrev pub NeverTestedNeverAbsent : Type 0
 NeverTestedNeverAbsent = (log waiting page entry name : Bytes) (ls : List Line) → ReadAs log waiting page entry ls → isName name ≡ true
     → ((l : Line) → Among l ls → l .name ≢ name) → searchOf log waiting page entry name ≡ Told NotKnown
+
+-- nor is it present where it is asked for with not: "not" of what nobody tested is not known
+abbrev pub NeverTestedNeverByNot : Type 0
+NeverTestedNeverByNot = (log waiting page entry name : Bytes) (ls : List Line) → ReadAs log waiting page entry ls → isName name ≡ true
+    → ((l : Line) → Among l ls → l .name ≢ name) → searchOf log waiting page entry (notWord ++ (0x20 ∷ name)) ≡ Told NotKnown
 
 -- "lines added to a card that stays well-formed and readable never turn a yes or a no into anything else": of two cards
 abbrev pub LinesAddedToACard : Type 0
