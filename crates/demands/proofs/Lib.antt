@@ -1,4 +1,4 @@
--- The archive keeps the ledger's laws, and what follows of it.
+-- The archive keeps the ledger's laws, and so the ledger's theorem holds of it.
 pub mod Tests
 pub mod LookUp
 pub mod First
@@ -9,28 +9,5 @@ pub mod Step
 pub mod TellAdds
 pub mod LogLaws
 pub mod LentLaws
-pub mod Laws
+pub mod Lawful
 pub mod Theorem
-pub mod Greeted
-pub mod Outcomes
-pub mod Keeps
-pub mod Dates
-pub mod Uncovered
-pub mod Known
-pub mod Reflected
-pub mod Twelve
-pub mod Moment
-pub mod Lost
-pub mod Histories
-pub mod Hurt
-pub mod Corollaries
-pub mod Doubt
-pub mod Events
-pub mod Among
-pub mod Splice
-pub mod Hurts
-pub mod MayBe
-pub mod Torn
-pub mod Stored
-pub mod Editions
-pub mod Witness

@@ -1,1 +1,1 @@
-// The three demands as theorems. Nothing here runs: specs/ has the ledger and the claims, proofs/ their proofs.
+// The ledger's theorem, and with it demands 2 and 3, of our archive. Nothing here runs: specs/ has the ledger and the claims, proofs/ their proofs.

@@ -9,7 +9,7 @@ use lib.Seq.{getD-take, getD-drop}
 use Rattle.buffer.specs.Bytes.{Bytes}
 use Rattle.log.specs.LookUp.{lentAllowed}
 use Rattle.log.specs.Parts.{tape, Lent}
-use Rattle.demands.specs.Histories.{afterwards}
+use Rattle.promises.specs.Histories.{afterwards}
 use Rattle.entry.specs.Entry.{entryOf}
 use Rattle.file.specs.File.{extentAt, located}
 use Rattle.file.specs.declared.Extent.{Extent}

@@ -14,7 +14,7 @@ use Rattle.log.specs.Parts.{tape, Lent}
 use Rattle.request.specs.declared.Session.{Session}
 use Rattle.ledger.specs.History.{Item, AllOfBytes}
 use Rattle.demands.specs.Instance.{archive}
-use Rattle.demands.specs.Histories.{afterwards}
+use Rattle.promises.specs.Histories.{afterwards}
 use Rattle.entry.specs.Entry.{entryOf, scoreOf}
 use Rattle.file.specs.File.{pageAllowed, entryReadable, located}
 use Rattle.file.specs.declared.Located.the-variants as run

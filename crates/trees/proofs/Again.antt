@@ -12,8 +12,8 @@ use Rattle.log.proofs.Parts.{held-alone}
 use Rattle.request.specs.Step.{step}
 use Rattle.demands.specs.Ledger.{Extent}
 use Rattle.demands.specs.Instance.{lengthOf, extentOf}
-use Rattle.demands.specs.Histories.{Keeps, afterwards}
-use Rattle.demands.proofs.Keeps.{step-keeps, list-keeps}
+use Rattle.promises.specs.Histories.{Keeps, afterwards}
+use Rattle.promises.proofs.Keeps.{step-keeps, list-keeps}
 use Rattle.file_laws.proofs.Again.{again}
 use Rattle.walk_laws.proofs.Again.{walk-again}
 use Rattle.compare_laws.proofs.Swapped.{compared-again}

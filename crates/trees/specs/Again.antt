@@ -14,7 +14,7 @@ use Rattle.request.specs.Step.{step}
 use Rattle.request.specs.declared.Session.{Session}
 use Rattle.ledger.specs.History.{Item, AllOfBytes}
 use Rattle.demands.specs.Instance.{archive}
-use Rattle.demands.specs.Histories.{Keeps, afterwards}
+use Rattle.promises.specs.Histories.{Keeps, afterwards}
 use Rattle.file.specs.File.{extentAt, located}
 use Rattle.file_laws.specs.Path.{Answers}
 use Rattle.file_laws.specs.Bytes.{runBytes}

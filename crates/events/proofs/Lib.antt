@@ -1,0 +1,4 @@
+-- What whatever happens to a log means, at each moment.
+pub mod Events
+pub mod Among
+pub mod Torn
