@@ -8,6 +8,7 @@ ghost use mathlib.Core.Path.{_≡_};
 ghost use Prim.Native.Nat.{_+_, _*_, _≤_};
 ghost use lib.ListN.{length};
 ghost use Rattle.block.specs.Log.{sectors, joined};
+ghost use Rattle.log.specs.LookUp.{counted};
 ghost use Rattle.reader.specs.Reader.{placed};
 ghost use Rattle.hint.specs.Hint.{trueAt, hint, heldBy, lookUpBy, lookUpByAsked};
 
@@ -98,6 +99,29 @@ pub fn look_up_by<'a>(
     let Place::At(b) = place else {
         return Look::Refused(lookup::why_absent(log, end, waiting));
     };
+    Look::Found(b)
+}
+
+// Look-up by index for a read: also refused if the block is longer than count.
+pub fn fetch_by<'a>(
+    log: &'a [u8],
+    end: SectorNumber,
+    waiting: &'a [u8],
+    index: &[u8],
+    kind: u8,
+    score: &[u8],
+    count: usize,
+) -> Look
+    requires { ⌜ (end .0 ≤ sectors (length (now log))) × (length (now score) ≡ 20) ⌝ }
+    ensures { λ r. ⌜ r ≡ counted count (lookUpBy (joined (end .0) (now (log .entry)) (now (waiting .entry))) (now (index .entry)) kind (now (score .entry))) ⌝ }
+{
+    let look = look_up_by(log, end, waiting, index, kind, score);
+    let Look::Found(b) = look else {
+        return look;
+    };
+    if count < b.size {
+        return Look::Refused(Refusal::OverCount);
+    }
     Look::Found(b)
 }
 

@@ -26,12 +26,12 @@ pub record Stands (log : Bytes) (r : Row) : Type 0 where
   pub within : Inside (sectors (length log)) (placeOf r)
   pub not-many : length (r .bytes) ≤ longest
 
-sound-stands : (log : Bytes) (r : Row) → sound log (r .first) ≡ some r → Stands log r
+pub sound-stands : (log : Bytes) (r : Row) → sound log (r .first) ≡ some r → Stands log r
 sound-stands log r e =
     let p = sound-reads log (r .first) r e in
     record { bytes-there = sound-bytes log (r .first) r e; in-used = sound-used log (r .first) r e; within = inside r (p .0) (sectors (length log)) (omega (arith, p .2)); not-many = (valid-facts r (p .0)) .not-many }
 
-empty-stands : (log : Bytes) (t : ℕ) → Stands log (emptyRow t)
+pub empty-stands : (log : Bytes) (t : ℕ) → Stands log (emptyRow t)
 unfolding partsOf
 empty-stands log t = record { bytes-there = refl; in-used = omega arith; within = (omega arith, omega arith); not-many = omega arith }
 

@@ -16,6 +16,7 @@ use Rattle.message.specs.declared.Request.{Request}
 use Rattle.message.specs.declared.Request.the-variants.{Ping, Hello, Goodbye, Read, Write, Sync, Unknown, Ill}
 use Rattle.kind.specs.Kind.{lawful, longest}
 use Rattle.sector.specs.Sector.{isDate}
+use Rattle.block.specs.Block.{Row}
 use Rattle.log.specs.LookUp.{logAllowed, lentAllowed, held, absence}
 use Rattle.log.specs.Parts.{Lent, beside, oneLog, canSettle, settled}
 use Rattle.log.specs.Store.{store}
@@ -60,12 +61,16 @@ version = 48 ∷ 50 ∷ []
 abbrev pub allowed : Lent → Bool
 allowed L = on (L .waiting) (logAllowed (length (L .log))) (λ w. lentAllowed (length (L .log)) (length w))
 
+-- what a read answers of the block that look-up found, or of none: 12 or 11; "13 is tested on the block found"
+abbrev pub readOf : Option Row → ℕ → ℕ → Lent → Bytes → Outcome
+readOf found count tag L buffer =
+    on found (refused (absence (oneLog L)) tag Greeted L buffer)
+    (λ r. cond (ltb count (length (r .bytes))) (refused OverCount tag Greeted L buffer) (granted (readReply tag (r .bytes)) Greeted L buffer))
+
 -- "a read takes look-up, then 13", after test 9
 unfoldable pub read : ℕ → ℕ → ℕ → Bytes → Lent → Bytes → Outcome
 read kind count tag score L buffer =
-    cond (not (lawful kind)) (refused BlockType tag Greeted L buffer)
-    (on (held (oneLog L) kind score) (refused (absence (oneLog L)) tag Greeted L buffer)
-    (λ r. cond (ltb count (length (r .bytes))) (refused OverCount tag Greeted L buffer) (granted (readReply tag (r .bytes)) Greeted L buffer)))
+    cond (not (lawful kind)) (refused BlockType tag Greeted L buffer) (readOf (held (oneLog L) kind score) count tag L buffer)
 
 -- "A date that isn't eight decimal digits is refusal 24": the contrary. A request of the first edition comes with no date, and has no such test
 abbrev pub dateAllowed : Option Bytes → Bool

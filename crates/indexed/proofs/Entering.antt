@@ -1,0 +1,82 @@
+-- Which requests change the index, and what they leave of it.
+use mathlib.Core.Path.{_≡_, refl, ap, _∙_}
+use mathlib.Core.Bool.{Bool, true, false, cond, not}
+use mathlib.Core.Logic.{_⊎_, inl, inr}
+use mathlib.Core.Option.{Option, none, some}
+use Prim.Native.Nat.{ℕ}
+use lib.Dec.{ltb}
+use lib.ListN.{length, getD}
+use borrow.Author.Tests.{le-ltb}
+use Rattle.sector_number.specs.declared.SectorNumber.{SectorNumber}
+use Rattle.ground.specs.Choice.{on}
+use Rattle.buffer.specs.Bytes.{Bytes, same}
+use Rattle.sha1.specs.Sha1.{sha1Of}
+use Rattle.sha1.proofs.Digest.{digest-length, digest-bytes}
+use Rattle.message.specs.Message.{tagOf, scoreOf, dataOf, requestOf}
+use Rattle.message.specs.declared.Request.the-variants.{Write}
+use Rattle.kind.specs.Kind.{lawful, longest}
+use Rattle.block.specs.Block.{Row}
+use Rattle.log.specs.LookUp.{held}
+use Rattle.log.specs.Parts.{Lent, oneLog, roomFor}
+use Rattle.log.specs.Store.{AfterStore, partsFor, appended, compared, store}
+use Rattle.log.specs.declared.Stored.{Stored}
+use Rattle.log.specs.declared.Stored.the-variants.{New, Duplicate, Refused}
+use Rattle.index.specs.Index.{entered, leftOver}
+use Rattle.index.proofs.Entered.{entered-keeps}
+use Rattle.request.specs.Step.{Outcome, replyRoom, dateOf}
+use Rattle.request.specs.declared.Session.{Session}
+use Rattle.indexed.specs.Indexed.{Indexed, keeping, readBy, enteredBy, indexAfter, writeBy, greetedBy, inSessionBy, stepBy}
+use Rattle.indexed.specs.Promises.{Stores, EntersWhatItStores, OnlyAStoreEnters}
+use Rattle.indexed.proofs.Ways.{step-ways}
+
+-- a receipt has the score of the data
+pub score-stored : (L : Lent) (date : Bytes) (t : ℕ) (d : Bytes) → store L date t d .receipt .score ≡ sha1Of d
+unfolding store
+score-stored L date t d = go (held (oneLog L) t (sha1Of d))
+  where
+    any : (b : Bool) (x y : AfterStore) → x .receipt .score ≡ sha1Of d → y .receipt .score ≡ sha1Of d → cond b x y .receipt .score ≡ sha1Of d
+    any true x y p q = p
+    any false x y p q = q
+
+    go : (o : Option Row) → on o (appended L date t d) (λ r. compared L (r .bytes) (r .first) d) .receipt .score ≡ sha1Of d
+    go none = any (roomFor L (partsFor date d)) _ _ refl refl
+    go (some r) = any (same (r .bytes) d) _ _ refl refl
+
+pub enters-what-it-stores : EntersWhatItStores
+unfolding stepBy inSessionBy greetedBy writeBy indexAfter
+enters-what-it-stores m date index L buffer kind at f room a w l le p =
+    rw (f, le-ltb (length buffer) replyRoom room, a, w, p .0, l, le-ltb longest (length (dataOf m)) le, score-stored L (dateOf date) kind (dataOf m), p .1)
+
+module _ (m : Bytes) (date : Option Bytes) (index : Bytes) (L : Lent) where
+  abbrev Kept : Bytes → Type 0
+  Kept after = (length after ≡ length index) × (leftOver after ≡ leftOver index)
+      × ((after ≡ index)
+      ⊎ ((kind : ℕ) × (at : SectorNumber) × Stores m date L kind at × (after ≡ entered index (sha1Of (dataOf m)) kind (at .0))))
+
+  same-index : Kept index
+  same-index = (refl, refl, inl refl)
+
+  by-store : (kind : ℕ) → requestOf m ≡ Write kind → (w : Stored) → store L (dateOf date) kind (dataOf m) .receipt .stored ≡ w
+      → Kept (enteredBy w (sha1Of (dataOf m)) kind index)
+  by-store kind e (New at) q =
+      let k = entered-keeps index (sha1Of (dataOf m)) kind (at .0) (digest-length (dataOf m)) (digest-bytes (dataOf m) 0) in
+      (k .0, k .1, inr (kind, at, (e, q), refl))
+  by-store kind e (Duplicate at) q = same-index
+  by-store kind e (Refused w) q = same-index
+
+  by-write : (kind : ℕ) → requestOf m ≡ Write kind → Kept (indexAfter (dateOf date) kind (dataOf m) index L)
+  unfolding indexAfter
+  by-write kind e = rw (score-stored L (dateOf date) kind (dataOf m)) (go (not (lawful kind)) (ltb longest (length (dataOf m))))
+    where
+      go : (a b : Bool) → Kept (cond a index (cond b index (enteredBy (store L (dateOf date) kind (dataOf m) .receipt .stored) (sha1Of (dataOf m)) kind index)))
+      go true b = same-index
+      go false true = same-index
+      go false false = by-store kind e (store L (dateOf date) kind (dataOf m) .receipt .stored) refl
+
+pub only-a-store-enters : OnlyAStoreEnters
+unfolding readBy writeBy
+only-a-store-enters s m date index L buffer =
+    step-ways m date index L buffer (λ x o. Kept m date index L (x .index)) (λ o. same-index m date index L)
+    (λ kind count _. same-index m date index L)
+    (λ kind e _ _. by-write m date index L kind e)
+    s
