@@ -1,6 +1,5 @@
 // What changed between two days: the first difference of two directory blocks, and the differences between two trees, of a log and of the
 // sectors that wait behind its used part.
-use difference::Difference;
 ghost use mathlib.Core.Path.{_≡_};
 ghost use Rattle.difference.specs.Difference.{differenceOf};
 ghost use Rattle.comparison.specs.Differences.{differencesOf};
@@ -12,13 +11,7 @@ ghost use Rattle.results.specs.Changes.{differencePacked, counts, comparedResul
 pub extern "C" fn skywimple_difference(first: &[u8], second: &[u8]) -> u64
     ensures { λ r. ⌜ r ≡ differencePacked (differenceOf (now (first .entry)) (now (second .entry))) ⌝ }
 {
-    let found = difference::locate(first, second);
-    match found {
-        Difference::First { at } => 256 * (1 + 4 * (at as u64)),
-        Difference::Second { at } => 256 * (2 + 4 * (at as u64)),
-        Difference::Nowhere => 0,
-        Difference::Refused(why) => refusal::number(why) as u64,
-    }
+    change_calls::difference(first, second)
 }
 
 // Counts the differences between two directory entries. The result is the number of the refusal, 0 for none, then the units in 20 bits,
@@ -34,10 +27,5 @@ pub extern "C" fn skywimple_differences<'a>(
 ) -> u64
     ensures { λ r. ⌜ counts r (now (told .exit)) ≡ comparedResult (differencesOf (now (log .entry)) (now (waiting .entry)) (now (first .entry)) (now (second .entry)) allowance) ⌝ }
 {
-    let compared = compare::differences(log, waiting, first, second, allowance);
-    let end = compared.end;
-    let number = walk::number(end);
-    let sector = crate::tree::end_sector(end);
-    *told = sector as u64;
-    number as u64 + 256 * (compared.units as u64 + 1048576 * (compared.count as u64))
+    change_calls::differences(log, waiting, first, second, allowance, told)
 }

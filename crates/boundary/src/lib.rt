@@ -1,4 +1,4 @@
-// The functions that other languages call: numbers and bytes only, and none with a `requires`.
+// The functions that other languages call: numbers and bytes only, and none with a `requires`. Each hands on to the crate of its subject.
 // A slice is a pointer and a length, an array a pointer. `host/include/skywimple.h` declares them for C.
 pub mod blocks;
 pub mod cards;
@@ -6,14 +6,13 @@ pub mod changes;
 pub mod survey;
 pub mod tree;
 
-use request::Session;
 ghost use mathlib.Core.Path.{_≡_};
 ghost use mathlib.Core.Option.{some};
 ghost use Rattle.crc32_rule.specs.Crc32.{crc32Of};
 ghost use Rattle.log.specs.Parts.{beside};
 ghost use Rattle.request.specs.Step.{step};
-ghost use Rattle.boundary.specs.Digest.{digestNumber, digestBuffer};
-ghost use Rattle.results.specs.Serve.{sessionOf, sessionNumber, served, servedOf};
+ghost use Rattle.digest_calls.specs.Digest.{digestNumber, digestBuffer};
+ghost use Rattle.results.specs.Serve.{sessionOf, served, servedOf};
 
 // The CRC-32 of s.
 #[no_mangle]
@@ -29,35 +28,7 @@ pub extern "C" fn skywimple_sha1(s: &[u8], out: &mut [u8]) -> u32
     ensures number { λ r. ⌜ r ≡ digestNumber (now (out .entry)) ⌝ }
     ensures buffer { λ _. ⌜ now (out .exit) ≡ digestBuffer (now (s .entry)) (now (out .entry)) ⌝ }
 {
-    if out.len() < 20 {
-        return 2;
-    }
-    let digest = sha1::sha1(s);
-    buffer::copy_at(out, 0, &digest);
-    0
-}
-
-// A session as a number: 0 is fresh, 1 greeted, and anything else closed.
-fn session_of(n: u8) -> Session
-    ensures { λ r. ⌜ r ≡ sessionOf n ⌝ }
-{
-    if n == 0 {
-        return Session::Fresh;
-    }
-    if n == 1 {
-        return Session::Greeted;
-    }
-    Session::Closed
-}
-
-fn session_number(s: Session) -> u32
-    ensures { λ r. ⌜ r ≡ sessionNumber s ⌝ }
-{
-    match s {
-        Session::Fresh => 0,
-        Session::Greeted => 1,
-        Session::Closed => 2,
-    }
+    digest_calls::sha1(s, out)
 }
 
 // One request, with a date, the log and its waiting part. The result is the number of the refusal, 0 for none, and 256 times the session afterwards.
@@ -72,7 +43,5 @@ pub extern "C" fn skywimple_serve(
 ) -> u32
     ensures { λ r. ⌜ served r (now (log .exit)) (now (waiting .exit)) (now (reply .exit)) ≡ servedOf (step (sessionOf session) (now (message .entry)) (some (now (date .entry))) (beside (now (log .entry)) (now (waiting .entry))) (now (reply .entry))) ⌝ }
 {
-    let answer = archive::serve(session_of(session), message, date, log, waiting, reply);
-    let after = answer.session;
-    (answer.number as u32) + 256 * session_number(after)
+    serve_calls::serve(session, message, date, log, waiting, reply)
 }

@@ -8,7 +8,8 @@ use Rattle.word.specs.Number.{digits, valueFrom}
 use Rattle.kind.specs.Kind.{longest}
 use Rattle.block.proofs.Counts.{counts}
 use Rattle.utf8.specs.Grammar.{follows}
-use Rattle.message.specs.Message.{framed, textEnd, countedEnd, bytesEnd, exactly, requestOf, dataOf}
+use Rattle.field.specs.Field.{textEnd, countedEnd, bytesEnd}
+use Rattle.message.specs.Message.{framed, exactly, requestOf, dataOf}
 use Rattle.message.specs.Reply.{reply}
 use Rattle.request.specs.Step.{replyRoom, write, fresh, greeted, inSession, step}
 use Rattle.cut.proofs.Examples as cut

@@ -22,7 +22,8 @@ use Rattle.cut.specs.declared.Kept.the-variants.{Length}
 use Rattle.entry.specs.declared.Entry.{Entry}
 use Rattle.entry.specs.Entry.{entryOf, entryAllowed, pointers}
 use Rattle.entry.specs.Examples.{entryBytes}
-use Rattle.file.specs.File.{pageAllowed, pointerIndex, located, answerOf}
+use Rattle.leaf.specs.Leaf.{pointerIndex}
+use Rattle.file.specs.File.{pageAllowed, located, answerOf}
 
 -- an entry of psize 60, dsize 1,024, depth 2 and the greatest size there
 abbrev pub deep : Entry

@@ -22,9 +22,10 @@ use Rattle.log.proofs.Alike.{held-alike, absence-alike}
 use Rattle.lookup.proofs.Both.{used-waits, used-front}
 use Rattle.entry.specs.declared.Entry.{Entry}
 use Rattle.tree.specs.Tree.{pointer, typeAt}
-use Rattle.file.specs.declared.Extent.{Extent}
-use Rattle.file.specs.declared.Extent.the-variants.{Stored, Zeros, Refused}
-use Rattle.file.specs.File.{zeroRun, fetched, pointerIndex, under, split}
+use Rattle.leaf.specs.declared.Extent.{Extent}
+use Rattle.leaf.specs.declared.Extent.the-variants.{Stored, Zeros, Refused}
+use Rattle.leaf.specs.Leaf.{zeroRun, fetched, pointerIndex, under}
+use Rattle.file.specs.File.{split}
 use Rattle.file.proofs.Inside.{Inside, under-in}
 
 -- ---- logs with the same sectors

@@ -19,15 +19,16 @@ use Rattle.log.specs.LookUp.{lentAllowed}
 use Rattle.log.specs.Parts.{tape}
 use Rattle.entry.specs.declared.Entry.{Entry}
 use Rattle.entry.specs.Entry.{entryOf, scoreOf}
-use Rattle.file.specs.declared.Extent.{Extent}
-use Rattle.file.specs.declared.Extent.the-variants.{Stored, Zeros, Refused}
+use Rattle.leaf.specs.declared.Extent.{Extent}
+use Rattle.leaf.specs.declared.Extent.the-variants.{Stored, Zeros, Refused}
 use Rattle.file.specs.declared.Located.{Located}
 use Rattle.file.specs.declared.Located.the-variants as part
-use Rattle.file.specs.File.{zeroRun, payloadIn, placeIn, leafRun, under, extentAt, split, located}
+use Rattle.leaf.specs.Leaf.{zeroRun, payloadIn, placeIn, leafRun, under}
+use Rattle.file.specs.File.{extentAt, split, located}
 use Rattle.lookup.proofs.Held.{Stands}
 use Rattle.file.proofs.Tests.{extent-ind}
-use Rattle.file.proofs.Places.{place-end, place-rest, place-before}
-use Rattle.file.proofs.Under.{under-ind}
+use Rattle.leaf.proofs.Places.{place-end, place-rest, place-before}
+use Rattle.leaf.proofs.Under.{under-ind}
 
 -- in one of the first u sectors of a log, and within a page of p bytes
 abbrev pub Inside : ℕ → ℕ → Extent → Type 0

@@ -17,10 +17,11 @@ use Rattle.log.specs.LookUp.{lentAllowed}
 use Rattle.log.specs.Parts.{tape}
 use Rattle.entry.specs.declared.Entry.{Entry}
 use Rattle.entry.specs.Entry.{entryOf, wellFormed, scoreOf}
-use Rattle.file.specs.declared.Extent.{Extent}
-use Rattle.file.specs.declared.Extent.the-variants.{Refused}
-use Rattle.file.specs.File.{pageAllowed, entryReadable, under, test, extentAt, split, located}
-use Rattle.file.specs.Fetch.{Open}
+use Rattle.leaf.specs.declared.Extent.{Extent}
+use Rattle.leaf.specs.declared.Extent.the-variants.{Refused}
+use Rattle.leaf.specs.Leaf.{under}
+use Rattle.file.specs.File.{pageAllowed, entryReadable, test, extentAt, split, located}
+use Rattle.leaf.specs.Fetch.{Open}
 
 -- ---- the page
 

@@ -1,4 +1,3 @@
 -- What the clauses of `file` cite.
 pub mod File
-pub mod Fetch
 pub mod Run

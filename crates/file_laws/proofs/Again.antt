@@ -19,11 +19,12 @@ use Rattle.log.proofs.Parts.{held-alone, used-alone}
 use Rattle.entry.specs.declared.Entry.{Entry}
 use Rattle.entry.specs.Entry.{entryOf, scoreOf}
 use Rattle.block.specs.Log.{used}
-use Rattle.file.specs.declared.Extent.{Extent}
-use Rattle.file.specs.declared.Extent.the-variants.{Stored, Zeros, Refused}
+use Rattle.leaf.specs.declared.Extent.{Extent}
+use Rattle.leaf.specs.declared.Extent.the-variants.{Stored, Zeros, Refused}
 use Rattle.file.proofs.Inside.{Inside, extent-in}
 use Rattle.tree.specs.Tree.{pointer, typeAt}
-use Rattle.file.specs.File.{zeroRun, leafRun, fetched, pointerIndex, under, pageAllowed, entryReadable, test, extentAt, split, located}
+use Rattle.leaf.specs.Leaf.{zeroRun, leafRun, fetched, pointerIndex, under}
+use Rattle.file.specs.File.{pageAllowed, entryReadable, test, extentAt, split, located}
 use Rattle.file_laws.specs.Path.{Answers}
 use Rattle.file_laws.specs.Bytes.{runBytes, byteUnder}
 use Rattle.file_laws.proofs.Extents.{Reads, extentBytes, shown-bytes, shown-reads}

@@ -14,7 +14,7 @@ use Rattle.entry.specs.declared.Entry.{Entry}
 use Rattle.entry.specs.Entry.{entryOf}
 use Rattle.entry.specs.Examples.{entryBytes}
 use Rattle.tree.specs.Tree.{typeAt, pointer}
-use Rattle.file.specs.File.{leafRun, under}
+use Rattle.leaf.specs.Leaf.{leafRun, under}
 
 -- the entry: psize 60, which makes p 3, dsize 1,024, depth 2, size 9,216
 abbrev pub entry : Entry

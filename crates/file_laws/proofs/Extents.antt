@@ -13,8 +13,8 @@ use Rattle.block.specs.Log.{joined, used}
 use Rattle.block.proofs.Used.{used-le-sectors}
 use Rattle.log.specs.LookUp.{lentAllowed}
 use Rattle.log.specs.Parts.{tape}
-use Rattle.file.specs.declared.Extent.{Extent}
-use Rattle.file.specs.declared.Extent.the-variants.{Stored, Zeros, Refused}
+use Rattle.leaf.specs.declared.Extent.{Extent}
+use Rattle.leaf.specs.declared.Extent.the-variants.{Stored, Zeros, Refused}
 use Rattle.file.specs.declared.Located.{Located}
 use Rattle.file.specs.declared.Located.the-variants as part
 use Rattle.file.specs.File.{extentAt, split, located}

@@ -20,8 +20,8 @@ use Rattle.log.specs.LookUp.{lentAllowed}
 use Rattle.log.specs.Parts.{tape}
 use Rattle.entry.specs.declared.Entry.{Entry}
 use Rattle.entry.specs.Entry.{entryOf}
-use Rattle.file.specs.declared.Extent.{Extent}
-use Rattle.file.specs.declared.Extent.the-variants as run
+use Rattle.leaf.specs.declared.Extent.{Extent}
+use Rattle.leaf.specs.declared.Extent.the-variants as run
 use Rattle.file.specs.declared.Located.the-variants as part
 use Rattle.file.specs.File.{pageAllowed, entryReadable, extentAt, split, located}
 use Rattle.file.proofs.Tests.{stops-log, stops-entry, stops-offset}

@@ -18,8 +18,9 @@ use Rattle.log.specs.LookUp.{held, lentAllowed}
 use Rattle.log.specs.Parts.{tape}
 use Rattle.entry.specs.declared.Entry.{Entry}
 use Rattle.entry.specs.Entry.{entryOf, scoreOf}
-use Rattle.file.specs.declared.Extent.{Extent}
-use Rattle.file.specs.File.{zeroRun, storedRun, pageAllowed, extentAt, located}
+use Rattle.leaf.specs.declared.Extent.{Extent}
+use Rattle.leaf.specs.Leaf.{zeroRun, storedRun}
+use Rattle.file.specs.File.{pageAllowed, extentAt, located}
 use Rattle.fill.proofs.Leaf.{same-leaf}
 use Rattle.file_laws.specs.Path.{Answers}
 use Rattle.file_laws.specs.Bytes.{runBytes, byteUnder, fileByte, laid, RunIsTheFiles, WholeFile}

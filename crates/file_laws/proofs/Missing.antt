@@ -15,10 +15,11 @@ use Rattle.log.specs.LookUp.{held, absence, lentAllowed}
 use Rattle.log.specs.Parts.{tape}
 use Rattle.entry.specs.declared.Entry.{Entry}
 use Rattle.entry.specs.Entry.{entryOf, scoreOf}
-use Rattle.file.specs.declared.Extent.{Extent}
-use Rattle.file.specs.declared.Extent.the-variants.{Refused}
+use Rattle.leaf.specs.declared.Extent.{Extent}
+use Rattle.leaf.specs.declared.Extent.the-variants.{Refused}
 use Rattle.tree.specs.Tree.{pointer, typeAt}
-use Rattle.file.specs.File.{zeroRun, leafRun, fetched, pointerIndex, under, test, extentAt}
+use Rattle.leaf.specs.Leaf.{zeroRun, leafRun, fetched, pointerIndex, under}
+use Rattle.file.specs.File.{test, extentAt}
 use Rattle.file.proofs.Tests.{extent-ind}
 use Rattle.file_laws.specs.Path.{Whole, ReadsWhole}
 use Rattle.file_laws.proofs.Extents.{Reads, shown-reads}

@@ -17,9 +17,10 @@ use Rattle.log.specs.LookUp.{held, absence}
 use Rattle.entry.specs.declared.Entry.{Entry}
 use Rattle.entry.specs.Entry.{entryOf, scoreOf}
 use Rattle.tree.specs.Tree.{pointer}
-use Rattle.file.specs.declared.Extent.{Extent}
-use Rattle.file.specs.declared.Extent.the-variants.{Stored, Zeros, Refused}
-use Rattle.file.specs.File.{zeroRun, storedRun, leafRun, fetched, pointerIndex, under, pageAllowed, entryReadable, extentAt}
+use Rattle.leaf.specs.declared.Extent.{Extent}
+use Rattle.leaf.specs.declared.Extent.the-variants.{Stored, Zeros, Refused}
+use Rattle.leaf.specs.Leaf.{zeroRun, storedRun, leafRun, fetched, pointerIndex, under}
+use Rattle.file.specs.File.{pageAllowed, entryReadable, extentAt}
 use Rattle.file_laws.proofs.Extents.{Reads}
 
 -- why an offset does not read, if it does not

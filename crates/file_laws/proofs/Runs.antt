@@ -14,12 +14,13 @@ use Rattle.block.specs.Block.{Row, placeOf}
 use Rattle.log.specs.LookUp.{held}
 use Rattle.entry.specs.declared.Entry.{Entry}
 use Rattle.entry.specs.Entry.{entryOf, scoreOf, pointers}
-use Rattle.file.specs.declared.Extent.{Extent}
+use Rattle.leaf.specs.declared.Extent.{Extent}
 use Rattle.tree.specs.Tree.{pointer, typeAt}
-use Rattle.file.specs.File.{zeroRun, storedRun, leafRun, pointerIndex, under, pageAllowed, entryReadable, extentAt}
-use Rattle.file.specs.Fetch.{Open}
+use Rattle.leaf.specs.Leaf.{zeroRun, storedRun, leafRun, pointerIndex, under}
+use Rattle.file.specs.File.{pageAllowed, entryReadable, extentAt}
+use Rattle.leaf.specs.Fetch.{Open}
 use Rattle.file_laws.specs.Bytes.{byteUnder}
-use Rattle.file.proofs.Steps.{leaf-in, leaf-past, under-zero}
+use Rattle.leaf.proofs.Steps.{leaf-in, leaf-past, under-zero}
 use Rattle.file.proofs.Tests.{opened, goes-down}
 use Rattle.file_laws.proofs.Extents.{Reads}
 use Rattle.file_laws.proofs.Missing.{tested, passed, looked, held-if}

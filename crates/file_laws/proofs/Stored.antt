@@ -10,9 +10,9 @@ use Rattle.buffer.specs.Bytes.{Bytes}
 use Rattle.block.specs.declared.Block.{Block}
 use Rattle.block.specs.Block.{Row, payload, placeOf}
 use Rattle.log.specs.LookUp.{held}
-use Rattle.file.specs.File.{payloadIn, placeIn}
+use Rattle.leaf.specs.Leaf.{payloadIn, placeIn}
 use Rattle.lookup.proofs.Held.{held-stands}
-use Rattle.file.proofs.Places.{place-within, byte-place}
+use Rattle.leaf.proofs.Places.{place-within, byte-place}
 use Rattle.fill.proofs.Leaf.{same-leaf}
 
 -- i bytes on, in the same payload

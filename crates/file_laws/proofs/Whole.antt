@@ -15,8 +15,8 @@ use Rattle.refusal.specs.declared.Refusal.{Refusal}
 use Rattle.log.specs.LookUp.{lentAllowed}
 use Rattle.log.specs.Parts.{tape}
 use Rattle.entry.specs.Entry.{entryOf}
-use Rattle.file.specs.declared.Extent.{Extent}
-use Rattle.file.specs.declared.Extent.the-variants as run
+use Rattle.leaf.specs.declared.Extent.{Extent}
+use Rattle.leaf.specs.declared.Extent.the-variants as run
 use Rattle.file.specs.File.{pageAllowed, extentAt, located}
 use Rattle.fill.specs.declared.Stop.{Stop}
 use Rattle.fill.specs.declared.Stop.the-variants.{Done, Refused}

@@ -16,7 +16,8 @@ use Rattle.entry.specs.Entry.{entryOf, scoreOf}
 use Rattle.file.specs.declared.Located.{Located}
 use Rattle.file.specs.declared.Located.the-variants.{Stored, Waiting, Zeros, Refused}
 use Rattle.tree.specs.Tree.{pointer, typeAt}
-use Rattle.file.specs.File.{pointerIndex, located}
+use Rattle.leaf.specs.Leaf.{pointerIndex}
+use Rattle.file.specs.File.{located}
 use Rattle.file_laws.specs.Path.{Answers}
 
 -- the bytes of a run: "a part of the log or of the lent blank page", or of the waiting part; "A refusal hands back an empty part"

@@ -11,7 +11,8 @@ use Rattle.log.specs.Parts.{tape}
 use Rattle.entry.specs.declared.Entry.{Entry}
 use Rattle.entry.specs.Entry.{entryOf, scoreOf}
 use Rattle.tree.specs.Tree.{pointer, typeAt}
-use Rattle.file.specs.File.{pointerIndex, located}
+use Rattle.leaf.specs.Leaf.{pointerIndex}
+use Rattle.file.specs.File.{located}
 use Rattle.file.specs.declared.Located.{Located}
 use Rattle.file.specs.declared.Located.the-variants.{Stored, Waiting, Zeros, Refused}
 

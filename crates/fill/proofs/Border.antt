@@ -10,9 +10,9 @@ use Rattle.block.proofs.At.{at-piece}
 use Rattle.block.proofs.Used.{used-le-sectors}
 use Rattle.block.proofs.Alike.{used-alike}
 use Rattle.entry.specs.declared.Entry.{Entry}
-use Rattle.file.specs.declared.Extent.{Extent}
-use Rattle.file.specs.declared.Extent.the-variants.{Stored, Zeros, Refused}
-use Rattle.file.specs.File.{under}
+use Rattle.leaf.specs.declared.Extent.{Extent}
+use Rattle.leaf.specs.declared.Extent.the-variants.{Stored, Zeros, Refused}
+use Rattle.leaf.specs.Leaf.{under}
 use Rattle.file.proofs.Inside.{Inside, under-in}
 use Rattle.file.proofs.Border.{under-alike}
 use Rattle.fill.specs.Fill.{byteOf, byteBelow, byte, gathered, filledWith}

@@ -16,10 +16,10 @@ use Rattle.reader.proofs.Pieces.{length-bytes}
 use Rattle.log.specs.declared.Look.{Look}
 use Rattle.log.specs.declared.Look.the-variants as look
 use Rattle.entry.specs.declared.Entry.{Entry}
-use Rattle.file.specs.File.{leafRun, under}
-use Rattle.file.specs.Fetch.{runIn}
-use Rattle.file.proofs.Places.{byte-place}
-use Rattle.file.proofs.Steps.{leaf-in, leaf-past}
+use Rattle.leaf.specs.Leaf.{leafRun, under}
+use Rattle.leaf.specs.Fetch.{runIn}
+use Rattle.leaf.proofs.Places.{byte-place}
+use Rattle.leaf.proofs.Steps.{leaf-in, leaf-past}
 use Rattle.fill.specs.Fill.{Read, byte, refused, byteOf, byteBelow}
 
 sum-front : (x r j o : ℕ) → x + r ≡ o → o + j ≡ x + (r + j)

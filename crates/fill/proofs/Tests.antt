@@ -12,7 +12,7 @@ use Rattle.refusal.specs.declared.Refusal.the-variants as why
 use Rattle.entry.specs.declared.Entry.{Entry}
 use Rattle.entry.specs.Entry.{entryOf, scoreOf}
 use Rattle.file.specs.File.{pageAllowed, entryReadable}
-use Rattle.file.specs.Fetch.{Open}
+use Rattle.leaf.specs.Fetch.{Open}
 use Rattle.file.proofs.Tests.{goes-down}
 use Rattle.fill.specs.declared.Stop.the-variants.{Refused}
 use Rattle.fill.specs.Fill.{byteOf, byteAt, byteBelow, gathered, FillOutcome, fillOutcome, filledWith, fillIn}

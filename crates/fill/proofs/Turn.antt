@@ -17,8 +17,8 @@ use Rattle.log.specs.declared.Look.{Look}
 use Rattle.log.specs.declared.Look.the-variants as look
 use Rattle.entry.specs.declared.Entry.{Entry}
 use Rattle.tree.proofs.Filled.{length-filled}
-use Rattle.file.specs.File.{under}
-use Rattle.file.specs.Fetch.{LiesIn, runIn}
+use Rattle.leaf.specs.Leaf.{under}
+use Rattle.leaf.specs.Fetch.{LiesIn, runIn}
 use Rattle.fill.specs.declared.Stop.{Stop}
 use Rattle.fill.specs.Fill.{Read, byte, stopOf, byteBelow, gathered, fillOutcome, filledWith}
 use Rattle.fill.proofs.Gather.{Rest, rest-refused, rest-leaf}

@@ -14,9 +14,10 @@ use Rattle.log.specs.LookUp.{lentAllowed}
 use Rattle.log.specs.Parts.{tape}
 use Rattle.entry.specs.declared.Entry.{Entry}
 use Rattle.entry.specs.Entry.{entryOf}
-use Rattle.file.specs.declared.Extent.{Extent}
-use Rattle.file.specs.declared.Extent.the-variants as run
-use Rattle.file.specs.File.{under, entryReadable, extentAt}
+use Rattle.leaf.specs.declared.Extent.{Extent}
+use Rattle.leaf.specs.declared.Extent.the-variants as run
+use Rattle.leaf.specs.Leaf.{under}
+use Rattle.file.specs.File.{entryReadable, extentAt}
 use Rattle.fill.specs.declared.Stop.{Stop}
 use Rattle.fill.specs.declared.Stop.the-variants.{Done, Refused}
 use Rattle.fill.specs.declared.Filled.{Filled}

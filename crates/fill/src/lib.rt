@@ -7,7 +7,7 @@ ghost use mathlib.Core.Path.{_≡_};
 ghost use Prim.Native.Nat.{_-_, _≤_, min};
 ghost use lib.ListN.{length};
 ghost use Rattle.block.specs.Log.{sectors, joined};
-ghost use Rattle.file.specs.Fetch.{Open};
+ghost use Rattle.leaf.specs.Fetch.{Open};
 ghost use Rattle.fill.specs.Fill.{stopNumber, stopOf, fillOutcome, filledWith, byteBelow, gathered, fillOf};
 
 // How filling a buffer ended: the buffer or the file is full, or the refusal at the first offset that has one.
@@ -69,7 +69,7 @@ fn fill_leaves<'a>(
     let mut done: usize = 0;
     while done < count {
         let o = offset + done as u64;
-        let look = file::descend(log, end, waiting, e, o, top);
+        let look = leaf::descend(log, end, waiting, e, o, top);
         let Look::Found(b) = look else {
             return Filled {
                 count: done,

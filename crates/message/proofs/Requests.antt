@@ -1,7 +1,7 @@
 -- What is known of a message from what it asks.
 use mathlib.Core.Path.{_≡_, refl, ap}
 use mathlib.Core.Bool.{Bool, true, false, cond, _&&_}
-use Prim.Native.Nat.{ℕ, _+_, _-_, _≤_, _<_, _^_}
+use Prim.Native.Nat.{ℕ, _-_, _≤_, _<_, _^_}
 use native.Mathlib.Nat.{pow-le-pow-right, lt-of-lt-of-le}
 use native.Mathlib.Omega.{arith}
 use lib.Dec.{leb, eqb}
@@ -15,9 +15,10 @@ use Rattle.word.specs.Number.{beNumber, small}
 use Rattle.word.proofs.NumberLaws.{value-lt}
 use Rattle.message.specs.declared.Request.{Request}
 use Rattle.message.specs.declared.Request.the-variants.{Ping, Hello, Goodbye, Read, Write, Sync, Unknown, Ill}
-use Rattle.message.specs.declared.Next.{Next}
-use Rattle.message.specs.declared.Next.the-variants.{At, Bad}
-use Rattle.message.specs.Message.{framed, typeOf, tagOf, exactly, helloEnd, scoreOf, readOf, writeOf, requestOf}
+use Rattle.field.specs.declared.Next.{Next}
+use Rattle.field.specs.declared.Next.the-variants.{At, Bad}
+use Rattle.field.specs.Field.{helloEnd}
+use Rattle.message.specs.Message.{framed, typeOf, tagOf, exactly, scoreOf, readOf, writeOf, requestOf}
 
 -- ---- numbers
 

@@ -1,4 +1,5 @@
 // Requests taken apart, and replies put together.
+use field::Next;
 use refusal::Doubt;
 use refusal::Refusal;
 use sector_number::SectorNumber;
@@ -8,7 +9,7 @@ ghost use Prim.Native.Nat.{_+_, _≤_};
 ghost use lib.ListN.{length};
 ghost use Rattle.buffer.specs.Bytes.{same, put};
 ghost use Rattle.word.specs.Number.{beBytes};
-ghost use Rattle.message.specs.Message.{framed, tagOf, textEnd, countedEnd, helloEnd, exactly, scoreOf, readOf, dataOf, writeOf, requestOf, versionOf};
+ghost use Rattle.message.specs.Message.{framed, tagOf, exactly, scoreOf, readOf, dataOf, writeOf, requestOf, versionOf};
 ghost use Rattle.message.specs.Reply.{reply, answered, why, place, errorReply, helloReply};
 ghost use Rattle.refusal.specs.declared.Doubt.the-variants.{At};
 
@@ -40,12 +41,6 @@ pub enum Request {
     Unknown,
     // An ill-formed body.
     Ill,
-}
-
-// Where a field of the body ends.
-pub enum Next {
-    At(usize),
-    Bad,
 }
 
 // Whether a message has its head, and its size is the count of bytes after it.
@@ -81,69 +76,6 @@ pub fn data_of(m: &[u8]) -> &[u8]
     ensures { λ r. ⌜ now r ≡ dataOf (now (m .entry)) ⌝ }
 {
     &m[8..]
-}
-
-// Where the text at `at` ends: a two-byte count, and at most 1,024 bytes of UTF-8 without NUL.
-fn text_end(m: &[u8], at: usize) -> Next
-    requires { ⌜ at ≤ length (now m) ⌝ }
-    ensures { λ r. ⌜ r ≡ textEnd (now (m .entry)) at ⌝ }
-{
-    if m.len() - at < 2 {
-        return Next::Bad;
-    }
-    let from = at + 2;
-    let n = word::number::be_number(&m[at..from]) as usize;
-    if m.len() - from < n {
-        return Next::Bad;
-    }
-    if 1024 < n {
-        return Next::Bad;
-    }
-    let end = from + n;
-    if utf8::is_well_formed(&m[from..end]) {
-        Next::At(end)
-    } else {
-        Next::Bad
-    }
-}
-
-// Where the counted bytes at `at` end: a one-byte count, and as many bytes.
-fn counted_end(m: &[u8], at: usize) -> Next
-    requires { ⌜ at ≤ length (now m) ⌝ }
-    ensures { λ r. ⌜ r ≡ countedEnd (now (m .entry)) at ⌝ }
-{
-    if m.len() - at < 1 {
-        return Next::Bad;
-    }
-    let from = at + 1;
-    let n = m[at] as usize;
-    if m.len() - from < n {
-        return Next::Bad;
-    }
-    Next::At(from + n)
-}
-
-// Where the body of a hello ends: version, uid, strength, crypto, codec.
-fn hello_end(m: &[u8]) -> Next
-    requires { ⌜ 4 ≤ length (now m) ⌝ }
-    ensures { λ r. ⌜ r ≡ helloEnd (now (m .entry)) ⌝ }
-{
-    let version = text_end(m, 4);
-    let Next::At(a) = version else {
-        return Next::Bad;
-    };
-    let uid = text_end(m, a);
-    let Next::At(b) = uid else {
-        return Next::Bad;
-    };
-    if m.len() - b < 1 {
-        return Next::Bad;
-    }
-    let crypto = counted_end(m, b + 1);
-    let Next::At(c) = crypto else {
-        return Next::Bad;
-    };
-    counted_end(m, c)
 }
 
 // The request q, if the message ends where its body does.
@@ -193,7 +125,7 @@ pub fn parse(m: &[u8]) -> Request
     let kind = m[2];
     match kind {
         2 => exactly(m, Next::At(4), Request::Ping),
-        4 => exactly(m, hello_end(m), Request::Hello),
+        4 => exactly(m, field::hello_end(m), Request::Hello),
         6 => exactly(m, Next::At(4), Request::Goodbye),
         12 => read_of(m),
         14 => write_of(m),

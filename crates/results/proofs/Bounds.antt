@@ -22,10 +22,11 @@ use Rattle.entry.specs.declared.Entry.{Entry}
 use Rattle.entry.specs.Entry.{entryOf, scoreOf}
 use Rattle.file.specs.declared.Located.{Located}
 use Rattle.file.specs.declared.Located.the-variants.{Stored, Waiting, Zeros, Refused}
-use Rattle.file.specs.declared.Extent.{Extent}
-use Rattle.file.specs.declared.Extent.the-variants as ext
-use Rattle.file.specs.File.{zeroRun, storedRun, payloadIn, placeIn, leafRun, pageAllowed, entryReadable, under, extentAt, split, located}
-use Rattle.file.proofs.Under.{under-ind}
+use Rattle.leaf.specs.declared.Extent.{Extent}
+use Rattle.leaf.specs.declared.Extent.the-variants as ext
+use Rattle.leaf.specs.Leaf.{zeroRun, storedRun, payloadIn, placeIn, leafRun, under}
+use Rattle.file.specs.File.{pageAllowed, entryReadable, extentAt, split, located}
+use Rattle.leaf.proofs.Under.{under-ind}
 use Rattle.block.proofs.Facts.{part-of}
 use Rattle.file.proofs.Tests.{opened}
 use Rattle.results.specs.Tree.{mostBoth}

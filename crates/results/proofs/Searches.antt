@@ -13,7 +13,7 @@ use Rattle.refusal.specs.declared.Refusal.{Refusal}
 use Rattle.log.specs.LookUp.{lentAllowed}
 use Rattle.log.specs.Parts.{tape}
 use Rattle.entry.specs.Entry.{entryOf}
-use Rattle.file.specs.declared.Extent.the-variants as extent
+use Rattle.leaf.specs.declared.Extent.the-variants as extent
 use Rattle.file.specs.declared.Located.the-variants as part
 use Rattle.file.specs.File.{pageAllowed, entryReadable, located}
 use Rattle.file.proofs.Tests.{shown}

@@ -12,8 +12,8 @@ use Rattle.log.specs.Parts.{tape, Lent}
 use Rattle.promises.specs.Histories.{afterwards}
 use Rattle.entry.specs.Entry.{entryOf}
 use Rattle.file.specs.File.{extentAt, located}
-use Rattle.file.specs.declared.Extent.{Extent}
-use Rattle.file.specs.declared.Extent.the-variants as run
+use Rattle.leaf.specs.declared.Extent.{Extent}
+use Rattle.leaf.specs.declared.Extent.the-variants as run
 use Rattle.fill.specs.Fill.{byte, byteOf, byteAt, Gathered}
 use Rattle.fill.proofs.Gather.{gathered-same}
 use Rattle.fill.proofs.Tests.{zero-page}

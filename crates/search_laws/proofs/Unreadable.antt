@@ -13,7 +13,7 @@ use Rattle.log.specs.LookUp.{lentAllowed}
 use Rattle.log.specs.Parts.{tape}
 use Rattle.entry.specs.Entry.{entryOf}
 use Rattle.file.specs.File.{extentAt, located}
-use Rattle.file.specs.declared.Extent.the-variants as extent
+use Rattle.leaf.specs.declared.Extent.the-variants as extent
 use Rattle.file.specs.declared.Located.{Located}
 use Rattle.file.specs.declared.Located.the-variants as run
 use Rattle.file.proofs.Tests.{stops-log, stops-page, stops-entry, shown}

@@ -14,7 +14,7 @@ use Rattle.log.specs.LookUp.{lentAllowed}
 use Rattle.log.specs.Parts.{tape}
 use Rattle.entry.specs.Entry.{entryOf}
 use Rattle.file.specs.File.{pageAllowed, located}
-use Rattle.file.specs.declared.Extent.the-variants as extent
+use Rattle.leaf.specs.declared.Extent.the-variants as extent
 use Rattle.file.specs.declared.Located.the-variants as run
 use Rattle.file.proofs.Tests.{shown}
 use Rattle.fill.specs.declared.Stop.{Stop}

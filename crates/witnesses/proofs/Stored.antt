@@ -14,7 +14,8 @@ use Rattle.word.specs.Number.{digits, valueFrom, small}
 use Rattle.sha1_block.specs.Block.{wordsOf, snocWord, scheduleOf, roundOf, roundsOf, addHash, compressOf}
 use Rattle.sha1.specs.Sha1.{hashOf, padOf, paddedMessage, digestOf, sha1Of}
 use Rattle.utf8.specs.Grammar.{follows}
-use Rattle.message.specs.Message.{framed, textEnd, countedEnd, bytesEnd, exactly, writeOf, requestOf, tagOf}
+use Rattle.field.specs.Field.{textEnd, countedEnd, bytesEnd}
+use Rattle.message.specs.Message.{framed, exactly, writeOf, requestOf, tagOf}
 use Rattle.message.specs.Reply.{helloReply, writeReply}
 use Rattle.kind.specs.Kind.{lawful, zeroScore}
 use Rattle.block.specs.Block.{Row, partsOf}

@@ -9,7 +9,7 @@ use Rattle.lookup.proofs.Laws.{lent-sectors}
 use Rattle.entry.specs.Entry.{scoreOf}
 use Rattle.file.specs.File.{split}
 use Rattle.file.proofs.Tests.{entry-whole, readable-length, opened, stops-log, stops-page, stops-entry, stops-offset, goes-down, shown}
-use Rattle.file.proofs.Places.{lies-more, few-sectors}
+use Rattle.leaf.proofs.Places.{lies-more, few-sectors}
 use Rattle.file.proofs.Border.{border-split}
 use borrow.Author.Needs.{needs}
 use Rattle.file.proofs.locate.Statement.{statement}

@@ -1,2 +1,0 @@
--- What the proofs of the exported functions cite.
-pub mod Laws

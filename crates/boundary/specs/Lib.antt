@@ -1,2 +1,0 @@
--- What the clauses of `boundary` cite.
-pub mod Digest

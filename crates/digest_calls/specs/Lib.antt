@@ -1,0 +1,2 @@
+-- What the clauses of `digest_calls` cite.
+pub mod Digest

@@ -1,0 +1,3 @@
+-- What the clauses of `leaf` cite.
+pub mod Leaf
+pub mod Fetch

@@ -1,0 +1,24 @@
+use mathlib.Core.Path.{_≡_, sym, ap, _∙_}
+use Prim.Native.Nat.{_+_, _*_, _≤_}
+use native.Mathlib.Omega.{arith}
+use Rattle.buffer.specs.Bytes.{Bytes}
+use Rattle.request.specs.Step.{step}
+use Rattle.request.specs.declared.Session.{Session}
+use Rattle.results.proofs.ServeLaws.{is-fresh, is-greeted, is-closed, session-most, served-so}
+use borrow.Author.Needs.{needs}
+use Rattle.serve_calls.proofs.session_of.Statement.{statement}
+use Rattle.serve_calls.proofs.session_of.Tie as tie
+use Rattle.serve_calls.proofs.session_of.Reads as reads
+use Rattle.serve_calls.proofs.session_of.Lts as lts
+
+returns : tie.Need-returns
+returns c = is-fresh ((c .before .args .n)) ((c .if1 .taken))
+
+returns-2 : tie.Need-returns-2
+returns-2 c = is-greeted ((c .before .before .args .n)) ((c .before .if1 .left)) ((c .if2 .taken))
+
+returns-3 : tie.Need-returns-3
+returns-3 c = is-closed ((c .before .before .args .n)) ((c .before .if1 .left)) ((c .if2 .left))
+
+pub session-of-spec : {M : Type 1} → statement M
+session-of-spec = tie.close (tie.spec returns returns-2 returns-3)
