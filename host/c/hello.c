@@ -7,10 +7,11 @@
 
 #include "skywimple.h"
 
-enum { LOG = 16 * 512, WAITING = 8 * 512, REPLY = 57348 };
+enum { LOG = 16 * 512, WAITING = 8 * 512, INDEX = 6400, REPLY = 57348 };
 
 static uint8_t log_bytes[LOG];
 static uint8_t waiting[WAITING];
+static uint8_t index_bytes[INDEX];
 static uint8_t reply[REPLY];
 static uint8_t session = 0;
 static const uint8_t date[8] = {'2', '0', '2', '6', '1', '1', '1', '6'};
@@ -20,7 +21,7 @@ static void ask(const char *what, const uint8_t *message, size_t length, uint32_
                 size_t expected_length) {
     memset(reply, 0xee, sizeof reply);
     uint32_t result = skywimple_serve(session, message, length, date, sizeof date, log_bytes, sizeof log_bytes, waiting,
-                                      sizeof waiting, reply, sizeof reply);
+                                      sizeof waiting, index_bytes, sizeof index_bytes, reply, sizeof reply);
     if (result % 256 != number || memcmp(reply, expected, expected_length) != 0 || reply[expected_length] != 0xee) {
         fprintf(stderr, "%s: number %u, reply %02x %02x %02x %02x ..\n", what, (unsigned)(result % 256), reply[0], reply[1],
                 reply[2], reply[3]);
@@ -58,6 +59,23 @@ int main(void) {
         return 1;
     }
     ask("read after it", read, sizeof read, 0, bytes, sizeof bytes);
+
+    /* the write entered its block: one entry in the bucket of its score's first byte, which rebuilding makes again */
+    const uint8_t *entry = index_bytes + 25 * 0xa9;
+    if (memcmp(entry, written + 4, 20) != 0 || entry[20] != 13 || memcmp(entry + 21, "\0\0\0\0", 4) != 0) {
+        return 1;
+    }
+    uint8_t kept[INDEX];
+    memcpy(kept, index_bytes, INDEX);
+    memset(index_bytes, 0xee, INDEX);
+    if (skywimple_rebuild(log_bytes, sizeof log_bytes, index_bytes, sizeof index_bytes) != 0 || memcmp(kept, index_bytes, INDEX) != 0) {
+        return 1;
+    }
+
+    /* look-up by it finds three bytes at sector 0 */
+    if (skywimple_look_up_by(log_bytes, sizeof log_bytes, waiting, sizeof waiting, index_bytes, sizeof index_bytes, 13, written + 4) != 3 * 256) {
+        return 1;
+    }
 
     /* a blank sector is written over: it is doubtful now, and so are the blank ones before it, from 1 on */
     log_bytes[5 * 512] = 7;

@@ -34,10 +34,27 @@ uint32_t skywimple_sha1(const uint8_t *s, size_t s_len, uint8_t *out, size_t out
    number is 24; a block that is held already keeps the date that it has, or has none. 14 ("no room"):
    log has too few sectors beyond the used ones of both, or waiting too few blank ones left, which a
    sync mends. An error reply's text is why= and two digits,
-   and for 12 also " at=" and the first doubtful sector in eight lower-case hex digits. */
+   and for 12 also " at=" and the first doubtful sector in eight lower-case hex digits.
+   index has any length and any bytes, and only makes reads faster: each entry is checked against the
+   log. A read looks its block up by it, a write enters the block that it stores, and nothing else
+   changes it; with index_len 0 all goes by the scan. */
 uint32_t skywimple_serve(uint8_t session, const uint8_t *message, size_t message_len,
                          const uint8_t *date, size_t date_len, uint8_t *log, size_t log_len,
-                         uint8_t *waiting, size_t waiting_len, uint8_t *reply, size_t reply_len);
+                         uint8_t *waiting, size_t waiting_len, uint8_t *index, size_t index_len,
+                         uint8_t *reply, size_t reply_len);
+
+/* Looks up a score, 20 bytes, and type by index, of any length and bytes: the block of the first true
+   entry of its bucket, else the one that the scan finds. number = result % 256 (3, 9, 11 or 12), the
+   block's size in bytes = result / 256 % 65536, and the sector where it starts, or the first doubtful
+   one for 12 = result / 16777216. The empty block has size 0 and sector 0. */
+uint64_t skywimple_look_up_by(const uint8_t *log, size_t log_len, const uint8_t *waiting,
+                              size_t waiting_len, const uint8_t *index, size_t index_len,
+                              uint8_t kind, const uint8_t score[20]);
+
+/* Rebuilds index from log alone, which has nothing waiting: its places, 25 bytes each and as many as
+   index_len / 6400 in each of 256 buckets, become free, and every sound block is entered as far as
+   its bucket has one. Returns the number (3 for a log that is not allowed: index stays). */
+uint32_t skywimple_rebuild(const uint8_t *log, size_t log_len, uint8_t *index, size_t index_len);
 
 /* Writes the report of log, without what waits, to the front of buffer, which needs 128 bytes. The result is the number,
    and 256 times the length of the text. */

@@ -1,4 +1,4 @@
-// One request: a session, a message, a date, the lent log with its waiting part, and the lent reply buffer. Any bytes are answered.
+// One request: a session, a message, a date, the lent log with its waiting part, an index, and the lent reply buffer. Any bytes are answered.
 use block::Block;
 use kind::LONGEST;
 use log::Look;
@@ -24,7 +24,8 @@ ghost use Rattle.message.specs.Reply.{readReply};
 ghost use Rattle.message.specs.Reply.{reply as replyOf};
 ghost use Rattle.message.specs.declared.Request.the-variants.{Hello, Read, Write};
 ghost use Rattle.request.specs.declared.Session.the-variants.{Greeted, Closed as Shut};
-ghost use Rattle.request.specs.Step.{replyRoom, outcomeOf, silent, refused, granted, read, written, write, sync, fresh, greeted, step};
+ghost use Rattle.request.specs.Step.{replyRoom, outcomeOf, silent, refused, granted, written, sync, fresh};
+ghost use Rattle.indexed.specs.Indexed.{indexedOf, readBy, enteredBy, writeBy, greetedBy, stepBy};
 
 // The least length of a reply buffer.
 pub const REPLY_ROOM: usize = 57348;
@@ -40,7 +41,7 @@ fn refuse_silently(why: Refusal, session: Session) -> Answer
 }
 
 // A refusal with its error reply.
-fn refuse(why: Refusal, tag: u8, session: Session, reply: &mut [u8]) -> Answer
+pub fn refuse(why: Refusal, tag: u8, session: Session, reply: &mut [u8]) -> Answer
     requires { ⌜ replyRoom ≤ length (now reply) ⌝ }
     ensures { λ r. ⌜ ((log waiting : Bytes) → outcomeOf r log waiting (now (reply .exit)) ≡ refused why tag session (beside log waiting) (now (reply .entry))) ⌝ }
 {
@@ -52,7 +53,7 @@ fn refuse(why: Refusal, tag: u8, session: Session, reply: &mut [u8]) -> Answer
 }
 
 // A reply that has no body, in a greeted session.
-fn acknowledge(kind: u8, tag: u8, reply: &mut [u8]) -> Answer
+pub fn acknowledge(kind: u8, tag: u8, reply: &mut [u8]) -> Answer
     requires { ⌜ replyRoom ≤ length (now reply) ⌝ }
     ensures { λ r. ⌜ ((log waiting : Bytes) → outcomeOf r log waiting (now (reply .exit)) ≡ granted (replyOf kind tag []) Greeted (beside log waiting) (now (reply .entry))) ⌝ }
 {
@@ -109,7 +110,7 @@ fn serve_fresh(message: &[u8], reply: &mut [u8]) -> Answer
 }
 
 // The reply to a read of the block at a place.
-fn answer_read<'a>(
+pub fn answer_read<'a>(
     log: &'a [u8],
     end: SectorNumber,
     waiting: &'a [u8],
@@ -128,24 +129,26 @@ fn answer_read<'a>(
     }
 }
 
-// A read: test 9, the look-up, test 13.
+// A read: test 9, the look-up by index, test 13.
 fn serve_read<'a>(
     message: &[u8],
     log: &'a [u8],
     waiting: &'a [u8],
+    index: &[u8],
     reply: &mut [u8],
     kind: u8,
     count: usize,
 ) -> Answer
     requires { ⌜ (requestOf (now message) ≡ Read kind count) × (replyRoom ≤ length (now reply)) ⌝ }
-    ensures { λ r. ⌜ outcomeOf r (now (log .entry)) (now (waiting .entry)) (now (reply .exit)) ≡ read kind count (tagOf (now (message .entry))) (scoreOf (now (message .entry))) (beside (now (log .entry)) (now (waiting .entry))) (now (reply .entry)) ⌝ }
+    ensures { λ r. ⌜ indexedOf r (now (log .entry)) (now (waiting .entry)) (now (reply .exit)) (now (index .entry)) ≡ readBy kind count (tagOf (now (message .entry))) (scoreOf (now (message .entry))) (now (index .entry)) (beside (now (log .entry)) (now (waiting .entry))) (now (reply .entry)) ⌝ }
 {
     let tag = message::tag_of(message);
     if !kind::is_lawful(kind) {
         return refuse(Refusal::BlockType, tag, Session::Greeted, reply);
     }
     let end = lookup::border(log, waiting);
-    let look = lookup::fetch(log, end, waiting, kind, message::score_of(message), count);
+    let score = message::score_of(message);
+    let look = index_lookup::fetch_by(log, end, waiting, index, kind, score, count);
     match look {
         Look::Found(b) => answer_read(log, end, waiting, b, tag, reply),
         Look::Refused(why) => refuse(why, tag, Session::Greeted, reply),
@@ -153,7 +156,7 @@ fn serve_read<'a>(
 }
 
 // The reply to a write, by what the store did.
-fn answer_store(receipt: Receipt, tag: u8, reply: &mut [u8]) -> Answer
+pub fn answer_store(receipt: Receipt, tag: u8, reply: &mut [u8]) -> Answer
     requires { ⌜ replyRoom ≤ length (now reply) ⌝ }
     ensures { λ r. ⌜ ((log waiting : Bytes) → outcomeOf r log waiting (now (reply .exit)) ≡ written (receipt .stored) tag (receipt .score) (beside log waiting) (now (reply .entry))) ⌝ }
 {
@@ -169,17 +172,28 @@ fn answer_store(receipt: Receipt, tag: u8, reply: &mut [u8]) -> Answer
     }
 }
 
-// A write: tests 9 and 10, then the store.
+// Enters a block that was stored into the index; a duplicate and a refusal leave it.
+pub fn enter_stored(index: &mut [u8], stored: Stored, score: &[u8], kind: u8)
+    requires { ⌜ length (now score) ≡ 20 ⌝ }
+    ensures { λ _. ⌜ now (index .exit) ≡ enteredBy stored (now (score .entry)) kind (now (index .entry)) ⌝ }
+{
+    if let Stored::New(at) = stored {
+        index::enter(index, score, kind, at);
+    }
+}
+
+// A write: tests 9 and 10, then the store, which decides by the scan; a block that it stores is entered.
 fn serve_write(
     message: &[u8],
     date: &[u8],
     log: &[u8],
     waiting: &mut [u8],
+    index: &mut [u8],
     reply: &mut [u8],
     kind: u8,
 ) -> Answer
     requires { ⌜ (requestOf (now message) ≡ Write kind) × (replyRoom ≤ length (now reply)) × (length (now date) ≡ 8) ⌝ }
-    ensures { λ r. ⌜ outcomeOf r (now (log .entry)) (now (waiting .exit)) (now (reply .exit)) ≡ write (now (date .entry)) kind (tagOf (now (message .entry))) (dataOf (now (message .entry))) (beside (now (log .entry)) (now (waiting .entry))) (now (reply .entry)) ⌝ }
+    ensures { λ r. ⌜ indexedOf r (now (log .entry)) (now (waiting .exit)) (now (reply .exit)) (now (index .exit)) ≡ writeBy (now (date .entry)) kind (tagOf (now (message .entry))) (dataOf (now (message .entry))) (now (index .entry)) (beside (now (log .entry)) (now (waiting .entry))) (now (reply .entry)) ⌝ }
 {
     let tag = message::tag_of(message);
     if !kind::is_lawful(kind) {
@@ -190,6 +204,7 @@ fn serve_write(
         return refuse(Refusal::DataLength, tag, Session::Greeted, reply);
     }
     let receipt = store::store(log, waiting, date, kind, data);
+    enter_stored(index, receipt.stored, &receipt.score, kind);
     answer_store(receipt, tag, reply)
 }
 
@@ -210,10 +225,11 @@ fn serve_greeted(
     date: &[u8],
     log: &mut [u8],
     waiting: &mut [u8],
+    index: &mut [u8],
     reply: &mut [u8],
 ) -> Answer
     requires { ⌜ (4 ≤ length (now message)) × (replyRoom ≤ length (now reply)) × (length (now date) ≡ 8) ⌝ }
-    ensures { λ r. ⌜ outcomeOf r (now (log .exit)) (now (waiting .exit)) (now (reply .exit)) ≡ greeted (now (date .entry)) (requestOf (now (message .entry))) (tagOf (now (message .entry))) (now (message .entry)) (beside (now (log .entry)) (now (waiting .entry))) (now (reply .entry)) ⌝ }
+    ensures { λ r. ⌜ indexedOf r (now (log .exit)) (now (waiting .exit)) (now (reply .exit)) (now (index .exit)) ≡ greetedBy (now (date .entry)) (requestOf (now (message .entry))) (tagOf (now (message .entry))) (now (message .entry)) (now (index .entry)) (beside (now (log .entry)) (now (waiting .entry))) (now (reply .entry)) ⌝ }
 {
     let tag = message::tag_of(message);
     let request = message::parse(message);
@@ -224,21 +240,24 @@ fn serve_greeted(
         Request::Hello => refuse(Refusal::Hello, tag, Session::Greeted, reply),
         Request::Ping => acknowledge(message::PING_REPLY, tag, reply),
         Request::Sync => serve_sync(log, waiting, tag, reply),
-        Request::Read { kind, count } => serve_read(message, log, waiting, reply, kind, count),
-        Request::Write { kind } => serve_write(message, date, log, waiting, reply, kind),
+        Request::Read { kind, count } => {
+            serve_read(message, log, waiting, index, reply, kind, count)
+        }
+        Request::Write { kind } => serve_write(message, date, log, waiting, index, reply, kind),
     }
 }
 
-// Answers a request: tests 1 to 4, and 24, then what the session allows.
+// Answers a request: tests 1 to 4, and 24, then what the session allows. The index may have any length and any bytes; an empty one is the scan.
 pub fn serve(
     session: Session,
     message: &[u8],
     date: &[u8],
     log: &mut [u8],
     waiting: &mut [u8],
+    index: &mut [u8],
     reply: &mut [u8],
 ) -> Answer
-    ensures { λ r. ⌜ outcomeOf r (now (log .exit)) (now (waiting .exit)) (now (reply .exit)) ≡ step session (now (message .entry)) (some (now (date .entry))) (beside (now (log .entry)) (now (waiting .entry))) (now (reply .entry)) ⌝ }
+    ensures { λ r. ⌜ indexedOf r (now (log .exit)) (now (waiting .exit)) (now (reply .exit)) (now (index .exit)) ≡ stepBy session (now (message .entry)) (some (now (date .entry))) (now (index .entry)) (beside (now (log .entry)) (now (waiting .entry))) (now (reply .entry)) ⌝ }
 {
     if !message::is_framed(message) {
         return refuse_silently(Refusal::Frame, session);
@@ -261,7 +280,7 @@ pub fn serve(
             if !sector::is_date(date) {
                 return refuse_silently(Refusal::Date, session);
             }
-            serve_greeted(message, date, log, waiting, reply)
+            serve_greeted(message, date, log, waiting, index, reply)
         }
     }
 }

@@ -3,6 +3,7 @@
 pub mod blocks;
 pub mod cards;
 pub mod changes;
+pub mod hints;
 pub mod survey;
 pub mod tree;
 
@@ -10,7 +11,7 @@ ghost use mathlib.Core.Path.{_≡_};
 ghost use mathlib.Core.Option.{some};
 ghost use Rattle.crc32_rule.specs.Crc32.{crc32Of};
 ghost use Rattle.log.specs.Parts.{beside};
-ghost use Rattle.request.specs.Step.{step};
+ghost use Rattle.indexed.specs.Indexed.{stepBy};
 ghost use Rattle.digest_calls.specs.Digest.{digestNumber, digestBuffer};
 ghost use Rattle.results.specs.Serve.{sessionOf, served, servedOf};
 
@@ -31,7 +32,7 @@ pub extern "C" fn skywimple_sha1(s: &[u8], out: &mut [u8]) -> u32
     digest_calls::sha1(s, out)
 }
 
-// One request, with a date, the log and its waiting part. The result is the number of the refusal, 0 for none, and 256 times the session afterwards.
+// One request, with a date, the log and its waiting part, and an index of any length; an empty one is the scan. The result is the number of the refusal, 0 for none, and 256 times the session afterwards.
 #[no_mangle]
 pub extern "C" fn skywimple_serve(
     session: u8,
@@ -39,9 +40,10 @@ pub extern "C" fn skywimple_serve(
     date: &[u8],
     log: &mut [u8],
     waiting: &mut [u8],
+    index: &mut [u8],
     reply: &mut [u8],
 ) -> u32
-    ensures { λ r. ⌜ served r (now (log .exit)) (now (waiting .exit)) (now (reply .exit)) ≡ servedOf (step (sessionOf session) (now (message .entry)) (some (now (date .entry))) (beside (now (log .entry)) (now (waiting .entry))) (now (reply .entry))) ⌝ }
+    ensures { λ r. ⌜ served r (now (log .exit)) (now (waiting .exit)) (now (reply .exit)) (now (index .exit)) ≡ servedOf (stepBy (sessionOf session) (now (message .entry)) (some (now (date .entry))) (now (index .entry)) (beside (now (log .entry)) (now (waiting .entry))) (now (reply .entry))) ⌝ }
 {
-    serve_calls::serve(session, message, date, log, waiting, reply)
+    serve_calls::serve(session, message, date, log, waiting, index, reply)
 }

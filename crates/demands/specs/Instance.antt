@@ -21,7 +21,8 @@ use Rattle.request.specs.declared.Session.the-variants.{Fresh}
 use Rattle.ledger.specs.Archive.{Archive, Seen}
 use Rattle.demands.specs.Ledger.{Asked, Answer, Extent, roomFrom, tell}
 
--- the step of the archive, which the contract of the request call equals, as it is seen: the answer, the session, the log and its waiting part
+-- the step of the archive, as it is seen: the answer, the session, the log and its waiting part. The request call's contract is `stepBy`, whose outcome this is
+-- with any index where no two sound blocks clash, and on any log with an empty one
 abbrev pub served : Lent → Session → Asked → Seen Answer Session Lent
 served L s q =
     let o = step s (q .message) (q .date) L (q .buffer) in

@@ -1,14 +1,14 @@
--- Two logs with the same sectors: look-up by index is the same.
+-- Two logs with the same sectors: look-up by index is the same, and so is the index rebuilt from them.
 use mathlib.Core.Path.{_≡_, ap, _∙_}
-use Prim.Native.Nat.{ℕ, _-_}
+use Prim.Native.Nat.{ℕ}
 use Rattle.buffer.specs.Bytes.{Bytes}
 use Rattle.block.specs.Log.{Alike}
 use Rattle.block.proofs.Alike.{sound-alike}
 use Rattle.log.proofs.Alike.{blocks-alike, absence-alike}
-use Rattle.index.specs.Index.{bucketOf, sectorAt}
+use Rattle.index.specs.Index.{sectorAt}
 use Rattle.hint.specs.Hint.{soundWith, trueAt, hint, heldBy, lookUpBy}
-use Rattle.hint.specs.Promises.{AlikeByIndex}
-use Rattle.hint.proofs.Found.{found-same}
+use Rattle.hint.specs.Rebuilt.{rebuilt}
+use Rattle.hint.specs.Promises.{AlikeByIndex, RebuiltAlike}
 
 module _ (a b : Bytes) (f : Alike a b) (index : Bytes) (t : ℕ) (s : Bytes) where
   with-alike : (n : ℕ) → soundWith a n t s ≡ soundWith b n t s
@@ -19,10 +19,12 @@ module _ (a b : Bytes) (f : Alike a b) (index : Bytes) (t : ℕ) (s : Bytes) whe
   unfolding trueAt
   true-alike p = rw (with-alike (sectorAt index p))
 
+  each-alike : trueAt a index t s ≡ trueAt b index t s
+  each-alike = λ i p. true-alike p i
+
   pub hint-alike : hint a index t s ≡ hint b index t s
   unfolding hint
-  hint-alike =
-      found-same (trueAt a index t s) (trueAt b index t s) (bucketOf index s .to - bucketOf index s .from) (bucketOf index s .from) (λ p _ _. true-alike p)
+  hint-alike = rw each-alike
 
   pub held-by-alike : heldBy a index t s ≡ heldBy b index t s
   unfolding heldBy
@@ -31,3 +33,7 @@ module _ (a b : Bytes) (f : Alike a b) (index : Bytes) (t : ℕ) (s : Bytes) whe
 pub look-up-by-alike : AlikeByIndex
 unfolding lookUpBy
 look-up-by-alike a b f index t s = rw (held-by-alike a b f index t s, absence-alike a b f)
+
+pub rebuilt-alike : RebuiltAlike
+unfolding rebuilt
+rebuilt-alike a b f index = rw (blocks-alike a b f)

@@ -19,7 +19,7 @@ use Rattle.hint.specs.Rebuilt.{enteredRow, enteredAll, rebuilt}
 use Rattle.hint.specs.Promises.{RebuiltFromLog}
 use Rattle.hint.proofs.Sound.{head-lt}
 use Rattle.hint.proofs.Filled.{Each, Valid}
-use Rattle.hint.proofs.Appended.{bucket-alike}
+use Rattle.hint.proofs.Entered.{bucket-alike}
 use Rattle.hint.proofs.Rebuilt.{all-valid, rebuilt-keeps}
 
 -- two indices of one length with the same bytes at every place

@@ -1,7 +1,7 @@
 -- What is found at the first place where anything is.
 use mathlib.Core.Path.{_≡_, refl, ap, _∙_}
 use mathlib.Core.Bool.{Bool, true, false, cond}
-use mathlib.Core.Logic.{_≢_}
+use mathlib.Core.Logic.{_⊎_, _≢_, inl, inr}
 use mathlib.Core.Option.{Option, none, some}
 use Prim.Native.Nat.{ℕ, zero, suc, _+_, _≤_, _<_}
 use native.Mathlib.Omega.{arith}
@@ -57,3 +57,17 @@ pub found-same : {A : Type 0} (f g : ℕ → Option A) (k n : ℕ) → ((m : ℕ
 unfolding firstFound
 found-same f g zero n e = refl
 found-same f g (suc k) n e = rw (e n (omega arith) (omega arith), found-same f g k (suc n) (λ m a b. e m (omega arith) (omega arith)))
+
+-- where every place gives what it gave, or r
+pub found-or : {A : Type 0} (f g : ℕ → Option A) (r : A) → ((m : ℕ) → (g m ≡ f m) ⊎ (g m ≡ some r)) → (k n : ℕ) (x : A) → firstFound f k n ≡ some x
+    → (firstFound g k n ≡ some x) ⊎ (firstFound g k n ≡ some r)
+unfolding firstFound
+found-or f g r h zero n x e = inl e
+found-or {A} f g r h (suc k) n x e = go (f n) refl (h n) (found-or f g r h k (suc n) x) e
+  where
+    go : (o : Option A) → f n ≡ o → (g n ≡ f n) ⊎ (g n ≡ some r) → (firstFound f k (suc n) ≡ some x → (firstFound g k (suc n) ≡ some x) ⊎ (firstFound g k (suc n) ≡ some r))
+        → on o (firstFound f k (suc n)) some ≡ some x
+        → (on (g n) (firstFound g k (suc n)) some ≡ some x) ⊎ (on (g n) (firstFound g k (suc n)) some ≡ some r)
+    go o q (inr w) i d = inr (rw w)
+    go none q (inl w) i d = rw (w ∙ q) (i d)
+    go (some y) q (inl w) i d = inl (rw (w ∙ q) d)

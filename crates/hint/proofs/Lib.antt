@@ -1,8 +1,11 @@
 pub mod Found
 pub mod Sound
+pub mod Leads
+pub mod Entered
 pub mod Scan
 pub mod Filled
 pub mod Rebuilt
 pub mod Appended
 pub mod Alike
 pub mod Alone
+pub mod Short

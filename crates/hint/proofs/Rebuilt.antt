@@ -19,13 +19,15 @@ use Rattle.block.proofs.Sound.{sound-reads}
 use Rattle.log.specs.LookUp.{blocks, firstOf}
 use Rattle.log.proofs.Blocks.{blocks-out}
 use Rattle.log.proofs.First.{first-sound}
+use Rattle.log.proofs.Appended.{blocks-added}
 use Rattle.index.specs.Index.{places, bucketOf, placeAt, leftOver, entered, cleared}
 use Rattle.index.proofs.Buckets.{bucket-whole}
 use Rattle.index.proofs.Entered.{left-over-entered, length-cleared, left-over-cleared, cleared-place}
 use Rattle.hint.specs.Hint.{trueAt, firstFound, hint}
 use Rattle.hint.specs.Rebuilt.{enteredRow, enteredAll, rebuilt}
-use Rattle.hint.specs.Promises.{ofBucket, Exact, RebuiltHits, RebuiltKeeps}
-use Rattle.hint.proofs.Sound.{head-lt, hint-finds}
+use Rattle.hint.specs.Promises.{ofBucket, Exact, RebuiltHits, RebuiltKeeps, RebuiltAppends}
+use Rattle.hint.proofs.Sound.{head-lt}
+use Rattle.hint.proofs.Leads.{hint-finds}
 use Rattle.hint.proofs.Filled.{Each, Valid, filled-first, Holds, length-row, holds-own, holds-other}
 
 -- ---- the rows of a bucket
@@ -130,6 +132,16 @@ module _ (log index : Bytes) where
   unfolding rebuilt
   rebuilt-holds room b h =
       all-hold (places (length index)) (blocks log) (cleared index) (λ _. []) (ap places (length-cleared index)) all-valid (λ c x m. absurd (List·Memᴰ·not-nil m)) cleared-holds room b h
+
+-- one list of rows and then another
+all-append : (index : Bytes) (rows more : List Row) → enteredAll index (rows ++ more) ≡ enteredAll (enteredAll index rows) more
+unfolding enteredAll
+all-append index [] more = refl
+all-append index (r ∷ rows) more = all-append (enteredRow index r) rows more
+
+pub rebuilt-appends : RebuiltAppends
+unfolding rebuilt enteredAll
+rebuilt-appends log index r a = ap (enteredAll (cleared index)) (blocks-added log r (a .0) (a .1) (a .2)) ∙ all-append (cleared index) (blocks log) (r ∷ [])
 
 -- length and bytes left over
 all-keep : (rows : List Row) (index : Bytes) → Each Valid rows → (length (enteredAll index rows) ≡ length index) × (leftOver (enteredAll index rows) ≡ leftOver index)

@@ -20,7 +20,7 @@ use Rattle.log.proofs.First.{first-sound}
 use Rattle.hint.specs.Hint.{hint, heldBy, lookUpBy}
 use Rattle.hint.specs.Promises.{NoClash, bytesOf, HintIsScan, RefusesAlike, HintHolds, Exact, ExactIsScan}
 use Rattle.hint.proofs.Found.{some-not-none, is-some}
-use Rattle.hint.proofs.Sound.{hint-sound, hint-finds}
+use Rattle.hint.proofs.Leads.{hint-sound, hint-finds}
 
 -- what is seen of a look-up by index is what is seen of the scan, if that is so of any hint
 module _ {A : Type 0} (see : Option Row → A) (log index : Bytes) (t : ℕ) (s : Bytes) where

@@ -1,8 +1,8 @@
--- What a hint leads to is sound there; and a place with an entry leads to its block, a free one to none.
+-- What an entry is true of is sound at its sector; and a place with an entry leads to its block, a free one to none.
 use mathlib.Core.Path.{_≡_, refl, sym, ap, ap₂, _∙_, subst}
-use mathlib.Core.Bool.{Bool, true, false, cond, _&&_, true≢false, false≢true}
-use mathlib.Core.List.{List, [], _∷_, _++_, List·Memᴰ, List·Memᴰ·not-nil, List·Memᴰ·cases-cons}
-use mathlib.Core.Logic.{_≢_, _⊎_, inl, inr}
+use mathlib.Core.Bool.{Bool, true, false, cond, _&&_, false≢true}
+use mathlib.Core.List.{[], _∷_, _++_}
+use mathlib.Core.Logic.{_≢_}
 use mathlib.Core.Option.{Option, none, some}
 use Prim.Native.Nat.{ℕ, _+_, _-_, _^_, _≤_, _<_}
 use native.Mathlib.Omega.{arith}
@@ -23,12 +23,10 @@ use Rattle.block.specs.Log.{soundAs, sound}
 use Rattle.block.proofs.Cases.{cond-some}
 use Rattle.block.proofs.Facts.{valid-facts, parts-pos, score-length}
 use Rattle.block.proofs.Sound.{sound-reads, as-reads, as-other}
-use Rattle.log.specs.LookUp.{blocks, firstOf}
-use Rattle.log.proofs.Blocks.{blocks-in}
-use Rattle.index.specs.Index.{bucketOf, placeAt, named, entryBytes, sectorAt, free}
+use Rattle.index.specs.Index.{placeAt, named, entryBytes, sectorAt, free}
 use Rattle.index.proofs.Places.{length-named}
-use Rattle.hint.specs.Hint.{soundWith, trueAt, firstFound, hint}
-use Rattle.hint.proofs.Found.{some-not-none, cond-or-none, cond-of-none, found-at}
+use Rattle.hint.specs.Hint.{soundWith, trueAt}
+use Rattle.hint.proofs.Found.{cond-or-none, cond-of-none}
 
 pub with-reads : (log : Bytes) (n t : ℕ) (s : Bytes) (r : Row) → soundWith log n t s ≡ some r → (sound log n ≡ some r) × (r .kind ≡ t) × (r .score ≡ s)
 unfolding soundWith
@@ -67,42 +65,6 @@ true-reads log index t s p r e =
     let q = cond-or-none (same (take 21 (placeAt index p)) (named s t)) (soundWith log (sectorAt index p) t s) r e in
     let w = with-reads log (sectorAt index p) t s r (q .1) in
     (same-true (take 21 (placeAt index p)) (named s t) (q .0), w .0, w .1, w .2)
-
-pub hint-reads : (log index : Bytes) (t : ℕ) (s : Bytes) (r : Row) → hint log index t s ≡ some r
-    → (p : ℕ) × (bucketOf index s .from ≤ p) × (p < bucketOf index s .from + (bucketOf index s .to - bucketOf index s .from)) × (trueAt log index t s p ≡ some r)
-unfolding hint
-hint-reads log index t s r e = found-at (trueAt log index t s) (bucketOf index s .to - bucketOf index s .from) (bucketOf index s .from) r e
-
-pub hint-sound : (log index : Bytes) (t : ℕ) (s : Bytes) (r : Row) → hint log index t s ≡ some r → (sound log (r .first) ≡ some r) × (r .kind ≡ t) × (r .score ≡ s)
-hint-sound log index t s r e =
-    let h = hint-reads log index t s r e in
-    let q = true-reads log index t s (h .0) r (h .3) in
-    let here : r .first ≡ sectorAt index (h .0) = (sound-reads log (sectorAt index (h .0)) r (q .1)) .1 in
-    (ap (sound log) here ∙ q .1, q .2, q .3)
-
--- a row that is there is found by its type and score
-first-has : (r : Row) (rows : List Row) → List·Memᴰ r rows → firstOf (r .kind) (r .score) rows ≢ none
-unfolding firstOf
-first-has r [] m = absurd (List·Memᴰ·not-nil m)
-first-has r (x ∷ rows) m = go (eqb (x .kind) (r .kind) && same (x .score) (r .score)) refl (List·Memᴰ·cases-cons m) (first-has r rows)
-  where
-    go : (b : Bool) → (eqb (x .kind) (r .kind) && same (x .score) (r .score)) ≡ b → (r ≡ x) ⊎ List·Memᴰ r rows
-        → (List·Memᴰ r rows → firstOf (r .kind) (r .score) rows ≢ none) → cond b (some x) (firstOf (r .kind) (r .score) rows) ≢ none
-    go true q c g = some-not-none x
-    go false q (inr m′) g = g m′
-    go false q (inl e) g =
-        let y : (eqb (x .kind) (r .kind) && same (x .score) (r .score)) ≡ true =
-        ap (λ (z : Row). eqb (x .kind) (z .kind) && same (x .score) (z .score)) e ∙ rw (eq-eqb (x .kind) (x .kind) refl, same-refl (x .score)) in
-        absurd (true≢false (sym y ∙ q))
-
-pub first-finds : (log : Bytes) (r : Row) → sound log (r .first) ≡ some r → firstOf (r .kind) (r .score) (blocks log) ≢ none
-first-finds log r e = first-has r (blocks log) (blocks-in log r e)
-
--- so a hint never finds what the scan does not
-pub hint-finds : (log index : Bytes) (t : ℕ) (s : Bytes) (r : Row) → hint log index t s ≡ some r → firstOf t s (blocks log) ≢ none
-hint-finds log index t s r e =
-    let h = hint-sound log index t s r e in
-    subst (λ (x : Bytes). firstOf t x (blocks log) ≢ none) (h .2) (subst (λ (k : ℕ). firstOf k (r .score) (blocks log) ≢ none) (h .1) (first-finds log r (h .0)))
 
 -- ---- what a row that can be written has for an entry
 

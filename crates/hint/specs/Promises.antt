@@ -11,9 +11,9 @@ use Rattle.buffer.specs.Bytes.{Bytes}
 use Rattle.kind.specs.Kind.{zeroScore}
 use Rattle.block.specs.Block.{Row, parts, valid, written}
 use Rattle.block.specs.Log.{sectors, Alike, used, sound}
-use Rattle.log.specs.LookUp.{blocks, firstOf, emptyRow, held, lookUp, lookNumber, lookSector}
+use Rattle.log.specs.LookUp.{blocks, firstOf, emptyRow, held, lookUp, lookUpAsked, lookNumber, lookSector}
 use Rattle.index.specs.Index.{places, placeAt, hasFree, leftOver}
-use Rattle.hint.specs.Hint.{hint, heldBy, lookUpBy}
+use Rattle.hint.specs.Hint.{hint, heldBy, lookUpBy, lookUpByAsked}
 use Rattle.hint.specs.Rebuilt.{enteredRow, rebuilt}
 
 -- "sound blocks of one score and type have the same bytes"
@@ -51,6 +51,10 @@ ExactIsScan = (log index : Bytes) → Exact log index → (t : ℕ) (s : Bytes) 
 abbrev pub AlikeByIndex : Type 0
 AlikeByIndex = (a b : Bytes) → Alike a b → (index : Bytes) (t : ℕ) (s : Bytes) → lookUpBy a index t s ≡ lookUpBy b index t s
 
+-- an index too short for one place in each bucket, on any log: "an empty index is the scan"
+abbrev pub EmptyIsScan : Type 0
+EmptyIsScan = (log waiting index : Bytes) (t : ℕ) (s : Bytes) → length index < 6400 → lookUpByAsked log waiting index t s ≡ lookUpAsked log waiting t s
+
 -- the rows whose score begins with byte b
 unfoldable pub ofBucket : ℕ → List Row → List Row
 ofBucket b [] = []
@@ -81,7 +85,12 @@ Complete log index = (r : Row) → sound log (r .first) ≡ some r → hint log 
 abbrev pub Appends : Bytes → Row → Type 0
 Appends log r = (valid r ≡ true) × (r .first ≡ used log) × (r .first + parts r ≤ sectors (length log))
 
--- entered where its bucket has a free place, a block that is stored keeps the index complete,
+-- entered where its bucket has a free place, a block that is stored is found by the index, whatever else is there: "the first entry of its bucket that holds
+-- true", so that one which no longer does hides none
+abbrev pub EnteredFound : Type 0
+EnteredFound = (log index : Bytes) (r : Row) → Appends log r → hasFree index (r .score) ≡ true → hint (written log r) (enteredRow index r) (r .kind) (r .score) ≢ none
+
+-- it keeps the index complete,
 abbrev pub EnteredHits : Type 0
 EnteredHits = (log index : Bytes) (r : Row) → Appends log r → hasFree index (r .score) ≡ true → Complete log index → Complete (written log r) (enteredRow index r)
 
@@ -89,3 +98,16 @@ EnteredHits = (log index : Bytes) (r : Row) → Appends log r → hasFree index 
 abbrev pub EnteredExact : Type 0
 EnteredExact = (log index : Bytes) (r : Row) → Appends log r → hasFree index (r .score) ≡ true → firstOf (r .kind) (r .score) (blocks log) ≡ none
     → Exact log index → Exact (written log r) (enteredRow index r)
+
+-- with room or without: what the index led to it leads to still, but that the block that is stored may come before one of its score and type
+abbrev pub HintStays : Type 0
+HintStays = (log index : Bytes) (r : Row) → Appends log r → (t : ℕ) (s : Bytes) (x : Row) → hint log index t s ≡ some x
+    → (hint (written log r) (enteredRow index r) t s ≡ some x) ⊎ (hint (written log r) (enteredRow index r) t s ≡ some r)
+
+-- an index that is kept by entering each block that is stored is the one that rebuilding makes,
+abbrev pub RebuiltAppends : Type 0
+RebuiltAppends = (log index : Bytes) (r : Row) → Appends log r → rebuilt (written log r) index ≡ enteredRow (rebuilt log index) r
+
+-- which the log's sectors decide
+abbrev pub RebuiltAlike : Type 0
+RebuiltAlike = (a b : Bytes) → Alike a b → (index : Bytes) → rebuilt a index ≡ rebuilt b index

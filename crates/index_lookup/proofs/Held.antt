@@ -9,14 +9,27 @@ use Rattle.ground.specs.Choice.{on}
 use Rattle.buffer.specs.Bytes.{Bytes}
 use Rattle.refusal.specs.declared.Refusal.{Refusal}
 use Rattle.kind.specs.Kind.{longest}
-use Rattle.block.specs.Block.{Row, placeOf, Inside}
+use Rattle.block.specs.Block.{Row, partsOf, placeOf, Inside}
 use Rattle.block.specs.declared.Block.{Block}
-use Rattle.block.specs.Log.{sectors, bytesOf}
+use Rattle.block.specs.Log.{sectors, bytesOf, sound}
+use Rattle.block.proofs.Facts.{valid-facts, inside}
+use Rattle.block.proofs.Sound.{sound-reads, sound-bytes}
+use Rattle.block.proofs.Apart.{sound-used}
 use Rattle.log.specs.declared.Look.the-variants.{Found, Refused}
-use Rattle.log.specs.LookUp.{absence}
+use Rattle.log.specs.LookUp.{emptyRow, absence}
 use Rattle.hint.specs.Hint.{heldBy, lookUpBy}
 use Rattle.hint.proofs.Scan.{hint-holds}
-use Rattle.lookup.proofs.Held.{Stands, sound-stands, empty-stands}
+use Rattle.lookup.proofs.Held.{Stands}
+
+sound-stands : (log : Bytes) (r : Row) → sound log (r .first) ≡ some r → Stands log r
+sound-stands log r e =
+    let p = sound-reads log (r .first) r e in
+    record { bytes-there = sound-bytes log (r .first) r e; in-used = sound-used log (r .first) r e; within = inside r (p .0) (sectors (length log)) (omega (arith, p .2)); not-many = (valid-facts r (p .0)) .not-many }
+
+-- the empty block is held in any log
+empty-stands : (log : Bytes) (t : ℕ) → Stands log (emptyRow t)
+unfolding partsOf
+empty-stands log t = record { bytes-there = refl; in-used = omega arith; within = (omega arith, omega arith); not-many = omega arith }
 
 -- what was found, as a row
 pub record ShownBy (log index : Bytes) (t : ℕ) (s : Bytes) (b : Block) : Type 0 where
@@ -25,7 +38,7 @@ pub record ShownBy (log index : Bytes) (t : ℕ) (s : Bytes) (b : Block) : Type 
   pub place : b ≡ placeOf row
 
 module _ (log index : Bytes) (t : ℕ) (s : Bytes) where
-  held-by-stands : (r : Row) → heldBy log index t s ≡ some r → Stands log r
+  pub held-by-stands : (r : Row) → heldBy log index t s ≡ some r → Stands log r
   held-by-stands r e = ⊎-elim (λ p. rw (p .1) (empty-stands log t)) (λ p. sound-stands log r (p .0)) (hint-holds log index t s r e)
 
   pub look-by-found : (b : Block) → lookUpBy log index t s ≡ Found b → ShownBy log index t s b

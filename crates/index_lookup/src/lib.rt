@@ -1,4 +1,4 @@
-// Look-up by index in a log and the sectors that wait behind its used part, and the index rebuilt from a log.
+// Look-up by index in a log and the sectors that wait behind its used part.
 use log::Look;
 use reader::Place;
 use refusal::Refusal;
@@ -36,7 +36,7 @@ fn true_at<'a>(
 }
 
 // The block of the first entry of the bucket that is true.
-fn find_hint<'a>(
+pub fn find_hint<'a>(
     log: &'a [u8],
     end: SectorNumber,
     waiting: &'a [u8],

@@ -23,8 +23,11 @@ use Rattle.log.specs.declared.Stored.{Stored}
 use Rattle.log.specs.declared.Stored.the-variants.{New, Duplicate, Refused}
 use Rattle.index.specs.Index.{entered, leftOver}
 use Rattle.index.proofs.Entered.{entered-keeps}
-use Rattle.request.specs.Step.{Outcome, replyRoom, dateOf}
+use Rattle.refusal.specs.Number.{numberOf}
+use Rattle.refusal.specs.declared.Refusal.the-variants.{BlockType, DataLength}
+use Rattle.request.specs.Step.{Outcome, replyRoom, dateOf, refused, written, write}
 use Rattle.request.specs.declared.Session.{Session}
+use Rattle.request.specs.declared.Session.the-variants.{Greeted}
 use Rattle.indexed.specs.Indexed.{Indexed, keeping, readBy, enteredBy, indexAfter, writeBy, greetedBy, inSessionBy, stepBy}
 use Rattle.indexed.specs.Promises.{Stores, EntersWhatItStores, OnlyAStoreEnters}
 use Rattle.indexed.proofs.Ways.{step-ways}
@@ -47,36 +50,42 @@ unfolding stepBy inSessionBy greetedBy writeBy indexAfter
 enters-what-it-stores m date index L buffer kind at f room a w l le p =
     rw (f, le-ltb (length buffer) replyRoom room, a, w, p .0, l, le-ltb longest (length (dataOf m)) le, score-stored L (dateOf date) kind (dataOf m), p .1)
 
-module _ (m : Bytes) (date : Option Bytes) (index : Bytes) (L : Lent) where
-  abbrev Kept : Bytes → Type 0
-  Kept after = (length after ≡ length index) × (leftOver after ≡ leftOver index)
+module _ (m : Bytes) (date : Option Bytes) (index : Bytes) (L : Lent) (buffer : Bytes) where
+  abbrev Kept : Session → ℕ → Bytes → Type 0
+  Kept s number after = (length after ≡ length index) × (leftOver after ≡ leftOver index)
       × ((after ≡ index)
-      ⊎ ((kind : ℕ) × (at : SectorNumber) × Stores m date L kind at × (after ≡ entered index (sha1Of (dataOf m)) kind (at .0))))
+      ⊎ ((s ≡ Greeted) × (number ≡ 0)
+      × ((kind : ℕ) × (at : SectorNumber) × Stores m date L kind at × (after ≡ entered index (sha1Of (dataOf m)) kind (at .0)))))
 
-  same-index : Kept index
-  same-index = (refl, refl, inl refl)
+  same-index : (s : Session) (number : ℕ) → Kept s number index
+  same-index s number = (refl, refl, inl refl)
 
-  by-store : (kind : ℕ) → requestOf m ≡ Write kind → (w : Stored) → store L (dateOf date) kind (dataOf m) .receipt .stored ≡ w
-      → Kept (enteredBy w (sha1Of (dataOf m)) kind index)
-  by-store kind e (New at) q =
+  by-store : (kind : ℕ) → requestOf m ≡ Write kind → (w : Stored) → store L (dateOf date) kind (dataOf m) .receipt .stored ≡ w → (score : Bytes) (K : Lent)
+      → Kept Greeted (written w (tagOf m) score K buffer .number) (enteredBy w (sha1Of (dataOf m)) kind index)
+  by-store kind e (New at) q score K =
       let k = entered-keeps index (sha1Of (dataOf m)) kind (at .0) (digest-length (dataOf m)) (digest-bytes (dataOf m) 0) in
-      (k .0, k .1, inr (kind, at, (e, q), refl))
-  by-store kind e (Duplicate at) q = same-index
-  by-store kind e (Refused w) q = same-index
+      (k .0, k .1, inr (refl, refl, (kind, at, (e, q), refl)))
+  by-store kind e (Duplicate at) q score K = same-index Greeted 0
+  by-store kind e (Refused w) q score K = same-index Greeted (numberOf w)
 
-  by-write : (kind : ℕ) → requestOf m ≡ Write kind → Kept (indexAfter (dateOf date) kind (dataOf m) index L)
-  unfolding indexAfter
+  by-write : (kind : ℕ) → requestOf m ≡ Write kind
+      → Kept Greeted (write (dateOf date) kind (tagOf m) (dataOf m) L buffer .number) (indexAfter (dateOf date) kind (dataOf m) index L)
+  unfolding indexAfter write
   by-write kind e = rw (score-stored L (dateOf date) kind (dataOf m)) (go (not (lawful kind)) (ltb longest (length (dataOf m))))
     where
-      go : (a b : Bool) → Kept (cond a index (cond b index (enteredBy (store L (dateOf date) kind (dataOf m) .receipt .stored) (sha1Of (dataOf m)) kind index)))
-      go true b = same-index
-      go false true = same-index
-      go false false = by-store kind e (store L (dateOf date) kind (dataOf m) .receipt .stored) refl
+      go : (a b : Bool) → let w = store L (dateOf date) kind (dataOf m) in
+          Kept Greeted
+          (cond a (refused BlockType (tagOf m) Greeted L buffer)
+          (cond b (refused DataLength (tagOf m) Greeted L buffer) (written (w .receipt .stored) (tagOf m) (sha1Of (dataOf m)) (w .lent) buffer)) .number)
+          (cond a index (cond b index (enteredBy (w .receipt .stored) (sha1Of (dataOf m)) kind index)))
+      go true b = same-index Greeted 9
+      go false true = same-index Greeted 10
+      go false false = let w = store L (dateOf date) kind (dataOf m) in by-store kind e (w .receipt .stored) refl (sha1Of (dataOf m)) (w .lent)
 
 pub only-a-store-enters : OnlyAStoreEnters
 unfolding readBy writeBy
 only-a-store-enters s m date index L buffer =
-    step-ways m date index L buffer (λ x o. Kept m date index L (x .index)) (λ o. same-index m date index L)
-    (λ kind count _. same-index m date index L)
-    (λ kind e _ _. by-write m date index L kind e)
+    step-ways m date index L buffer (λ s x o. Kept m date index L buffer s (x .outcome .number) (x .index)) (λ s o _. same-index m date index L buffer s (o .number))
+    (λ kind count _. same-index m date index L buffer Greeted _)
+    (λ kind e _ _. by-write m date index L buffer kind e)
     s

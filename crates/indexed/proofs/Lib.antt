@@ -1,3 +1,5 @@
 pub mod Ways
-pub mod Scan
+pub mod AsScan
 pub mod Entering
+pub mod OfScore
+pub mod Short

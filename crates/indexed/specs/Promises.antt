@@ -8,7 +8,8 @@ use lib.ListN.{length}
 use Rattle.sector_number.specs.declared.SectorNumber.{SectorNumber}
 use Rattle.buffer.specs.Bytes.{Bytes}
 use Rattle.sha1.specs.Sha1.{sha1Of}
-use Rattle.message.specs.Message.{framed, dataOf, requestOf}
+use Rattle.message.specs.Message.{framed, tagOf, scoreOf, dataOf, requestOf}
+use Rattle.message.specs.Reply.{answered, readReply}
 use Rattle.message.specs.declared.Request.the-variants.{Read, Write}
 use Rattle.kind.specs.Kind.{lawful, longest}
 use Rattle.log.specs.Parts.{Lent, oneLog}
@@ -32,6 +33,15 @@ abbrev pub OnlyReadsLook : Type 0
 OnlyReadsLook = (s : Session) (m : Bytes) (date : Option Bytes) (index : Bytes) (L : Lent) (buffer : Bytes)
     → ((kind count : ℕ) → requestOf m ≢ Read kind count) → stepBy s m date index L buffer .outcome ≡ step s m date L buffer
 
+-- on any log, one where sound blocks clash too: the session and what is lent are as without an index, and a read that is answered 0 gives bytes that have the
+-- SHA-1 it asked for
+abbrev pub AnyLogByIndex : Type 0
+AnyLogByIndex = (s : Session) (m : Bytes) (date : Option Bytes) (index : Bytes) (L : Lent) (buffer : Bytes)
+    → let o = stepBy s m date index L buffer .outcome in
+    (o .session ≡ step s m date L buffer .session) × (o .lent ≡ step s m date L buffer .lent)
+    × ((kind count : ℕ) → requestOf m ≡ Read kind count → o .number ≡ 0
+    → (b : Bytes) × (sha1Of b ≡ scoreOf m) × (o .reply ≡ answered buffer (readReply (tagOf m) b)))
+
 -- an index too short for one place in each bucket is the scan, on any log, and stays as it is: "an empty index is the scan"
 abbrev pub EmptyIsScan : Type 0
 EmptyIsScan = (s : Session) (m : Bytes) (date : Option Bytes) (index : Bytes) (L : Lent) (buffer : Bytes) → length index < 6400
@@ -47,10 +57,12 @@ EntersWhatItStores = (m : Bytes) (date : Option Bytes) (index : Bytes) (L : Lent
     → framed m ≡ true → replyRoom ≤ length buffer → allowed L ≡ true → dateAllowed date ≡ true → lawful kind ≡ true → length (dataOf m) ≤ longest
     → Stores m date L kind at → stepBy Greeted m date index L buffer .index ≡ entered index (sha1Of (dataOf m)) kind (at .0)
 
--- "A write message ... also enters the block it stores; nothing else changes the index", and "bytes left over at the end stay untouched"
+-- "A write message ... also enters the block it stores; nothing else changes the index", and "bytes left over at the end stay untouched": where the index
+-- changes the session was greeted, the request is answered 0, and stored the block that is entered
 abbrev pub OnlyAStoreEnters : Type 0
 OnlyAStoreEnters = (s : Session) (m : Bytes) (date : Option Bytes) (index : Bytes) (L : Lent) (buffer : Bytes)
-    → let after = stepBy s m date index L buffer .index in
-    (length after ≡ length index) × (leftOver after ≡ leftOver index)
-    × ((after ≡ index)
-    ⊎ ((kind : ℕ) × (at : SectorNumber) × Stores m date L kind at × (after ≡ entered index (sha1Of (dataOf m)) kind (at .0))))
+    → let after = stepBy s m date index L buffer in
+    (length (after .index) ≡ length index) × (leftOver (after .index) ≡ leftOver index)
+    × ((after .index ≡ index)
+    ⊎ ((s ≡ Greeted) × (after .outcome .number ≡ 0)
+    × ((kind : ℕ) × (at : SectorNumber) × Stores m date L kind at × (after .index ≡ entered index (sha1Of (dataOf m)) kind (at .0)))))

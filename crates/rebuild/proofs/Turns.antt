@@ -81,7 +81,7 @@ module _ (log : Bytes) (n : ℕ) (r : Row) (e : sound log n ≡ some r) where
   pub score-hex : isHex (scoreDigits (behind (at log n))) ≡ true
   score-hex = ap isHex (same-true (scoreDigits (behind (at log n))) (hexBytes (r .score)) (as-digits log n (r .kind) (r .score) r (as-finds log n r e))) ∙ isHex-hexBytes (r .score)
 
-  fields : (r .kind ≡ kindField (behind (at log n))) × (r .score ≡ scoreField (behind (at log n)))
+  pub fields : (r .kind ≡ kindField (behind (at log n))) × (r .score ≡ scoreField (behind (at log n)))
   unfolding sound
   fields = let p = as-reads log n (kindField (behind (at log n))) (scoreField (behind (at log n))) r e in (p .1, p .2)
 

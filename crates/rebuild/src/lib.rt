@@ -22,7 +22,7 @@ ghost use Rattle.rebuild.specs.Rebuild.{enteredFound};
 const KIND: usize = 36;
 
 // The type that two hex digits name.
-fn read_kind(digits: &[u8]) -> u8
+pub fn read_kind(digits: &[u8]) -> u8
     requires { ⌜ (length (now digits) ≡ 2) × (isHex (now digits) ≡ true) ⌝ }
     ensures { λ r. ⌜ r ≡ hexValue (now (digits .entry)) ⌝ }
 {

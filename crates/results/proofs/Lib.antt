@@ -11,3 +11,4 @@ pub mod Unpacked
 pub mod Fills
 pub mod Searches
 pub mod Changes
+pub mod HintLaws

@@ -5,7 +5,7 @@ use native.Mathlib.Omega.{arith}
 use lib.Dec.{eqb}
 use borrow.Author.Tests.{eq-eqb, ne-eqb}
 use Rattle.buffer.specs.Bytes.{Bytes}
-use Rattle.request.specs.Step.{Outcome, outcomeOf}
+use Rattle.indexed.specs.Indexed.{Indexed, indexedOf}
 use Rattle.request.specs.declared.Session.{Session}
 use Rattle.request.specs.declared.Session.the-variants.{Fresh, Greeted, Closed}
 use Rattle.request.specs.declared.Answer.{Answer}
@@ -28,5 +28,6 @@ session-most Fresh k e = omega arith
 session-most Greeted k e = omega arith
 session-most Closed k e = omega arith
 
-pub served-so : (a : Answer) (log waiting reply : Bytes) (o : Outcome) (k : ℕ) → outcomeOf a log waiting reply ≡ o → k ≡ sessionNumber (a .session) → served (a .number + 256 * k) log waiting reply ≡ servedOf o
-served-so a log waiting reply o k e f = ap (λ (x : ℕ). served (a .number + 256 * x) log waiting reply) f ∙ ap servedOf e
+pub served-so : (a : Answer) (log waiting reply index : Bytes) (x : Indexed) (k : ℕ) → indexedOf a log waiting reply index ≡ x → k ≡ sessionNumber (a .session)
+    → served (a .number + 256 * k) log waiting reply index ≡ servedOf x
+served-so a log waiting reply index x k e f = ap (λ (n : ℕ). served (a .number + 256 * n) log waiting reply index) f ∙ ap servedOf e

@@ -3,7 +3,7 @@ use mathlib.Core.Path.{_≡_, refl, sym, ap, _∙_}
 use mathlib.Core.Option.{Option}
 use mathlib.Core.Bool.{Bool, true, false, cond, not}
 use mathlib.Core.List.{[], _∷_}
-use Prim.Native.Nat.{ℕ, _+_, _*_, _/_, _%_, _<_}
+use Prim.Native.Nat.{ℕ, _+_, _*_, _/_, _%_, _≤_, _<_}
 use native.Mathlib.Omega.{arith}
 use lib.Dec.{ltb}
 use lib.ListN.{length}
@@ -19,12 +19,17 @@ use Rattle.message.specs.Message.{framed, tagOf, versionOf, scoreOf, dataOf, re
 use Rattle.message.specs.declared.Request.{Request}
 use Rattle.message.specs.declared.Request.the-variants.{Ping, Hello, Goodbye, Read, Write, Sync, Unknown, Ill}
 use Rattle.block.specs.Log.{sound}
-use Rattle.log.specs.LookUp.{held, absence, logAllowed}
+use Rattle.log.specs.LookUp.{held, absence, lookNumber, logAllowed}
+use Rattle.log.specs.declared.Look.{Look}
+use Rattle.log.specs.declared.Look.the-variants as look
 use Rattle.log.specs.Store.{store}
 use Rattle.log.specs.declared.Stored.{Stored}
 use Rattle.log.specs.declared.Stored.the-variants as stored
 use Rattle.report.specs.declared.Reported.the-variants as told
 use Rattle.log.specs.Parts.{Lent, oneLog, canSettle}
+use Rattle.hint.specs.Hint.{heldBy, lookUpByAsked}
+use Rattle.indexed.specs.Indexed.{readBy, writeBy, stepBy}
+use Rattle.indexed.proofs.Ways.{step-ways}
 use Rattle.request.specs.Step as steps
 use Rattle.request.specs.Step.{Outcome, step}
 use Rattle.request.specs.declared.Session.{Session}
@@ -36,15 +41,18 @@ use Rattle.fill.proofs.Tests.{zero-page}
 use Rattle.file_laws.proofs.Filled.{fill-refusal}
 use Rattle.visit.specs.declared.End.{End}
 use Rattle.visit.specs.declared.End.the-variants.{Done, Refused}
-use Rattle.walk.specs.Walk.{walkOf}
+use Rattle.visit.specs.declared.Walked.{Walked}
+use Rattle.walk.specs.Walk.{walkOf, mostAllowance}
 use Rattle.visit.specs.Visit.{endNumber}
 use Rattle.results.specs.Serve.{sessionOf, sessionNumber}
 use Rattle.results.specs.Survey.{soundResult, sizeOf}
+use Rattle.results.specs.Hints.{SmallLook, lookResult}
 use Rattle.results.specs.Blocks.{typeResult}
-use Rattle.results.specs.Tree.{run, runOf, stopSector, endSector}
+use Rattle.results.specs.Tree.{run, runOf, stopSector, endSector, walkResult}
 use Rattle.results.specs.Unpacked as claims
 use Rattle.results.specs.Unpacked.{numberIn, answerIn, wireNumber, typeIn}
 use Rattle.results.proofs.Numbers.{number-bounds}
+use Rattle.results.proofs.HintLaws.{asked-small}
 use Rattle.results.proofs.BlockLaws.{cut-kept, cut-refused}
 use Rattle.results.proofs.Packed.{nothing-lost}
 use Rattle.results.proofs.Visits.{walk-within}
@@ -125,6 +133,17 @@ module _ (m : Bytes) (date : Option Bytes) (L : Lent) (buffer : Bytes) where
       cond-ind Few (ltb (length buffer) steps.replyRoom) _ _ (λ _. omega arith) (λ _.
       cond-ind Few (not (steps.allowed L)) _ _ (λ _. omega arith) (λ _. session-few s)))
 
+  read-by-few : (index : Bytes) (t count : ℕ) → Few (readBy t count (tagOf m) (scoreOf m) index L buffer .outcome)
+  unfolding readBy
+  read-by-few index t count =
+      cond-ind Few (not (lawful t)) _ _ (λ _. omega arith) (λ _.
+      on-ind Few (heldBy (oneLog L) index t (scoreOf m)) _ _ (λ _. few (absence (oneLog L))) (λ r _. cond-ind Few (ltb count (length (r .bytes))) _ _ (λ _. omega arith) (λ _. omega arith)))
+
+  step-by-few : (index : Bytes) (s : Session) → Few (stepBy s m date index L buffer .outcome)
+  unfolding writeBy
+  step-by-few index s =
+      step-ways m date index L buffer (λ _ x o. Few o → Few (x .outcome)) (λ _ o _ h. h) (λ t count _ _. read-by-few index t count) (λ t _ _ _ h. h) s (step-few s)
+
 pub session-goes-round : claims.SessionGoesRound
 unfolding sessionOf
 session-goes-round Fresh = refl
@@ -132,10 +151,20 @@ session-goes-round Greeted = refl
 session-goes-round Shut = refl
 
 pub request-unpacks : claims.RequestUnpacks
-request-unpacks s m date L buffer =
-    let o = step s m date L buffer in
-    let b = beside (o .number) (sessionNumber (o .session)) (step-few m date L buffer s) in
+request-unpacks s m date index L buffer =
+    let o = stepBy s m date index L buffer .outcome in
+    let b = beside (o .number) (sessionNumber (o .session)) (step-by-few m date L buffer index s) in
     (b .0, ap sessionOf (b .1) ∙ session-goes-round (o .session))
+
+-- ---- look-up by index
+
+look-parts : (l : Look) → SmallLook l
+    → (numberIn (lookResult l) ≡ lookNumber l) × (claims.sizeIn (lookResult l) ≡ claims.sizeFound l) × (claims.firstIn (lookResult l) ≡ claims.firstTold l)
+look-parts (look.Found b) S = (omega arith, omega (arith, S .0), omega (arith, S .0))
+look-parts (look.Refused w) S = (omega (arith, number-bounds w .1), omega (arith, number-bounds w .1), omega (arith, number-bounds w .1))
+
+pub look-unpacks : claims.LookUnpacks
+look-unpacks log waiting index t s = look-parts (lookUpByAsked log waiting index t s) (asked-small log waiting index t s)
 
 -- ---- the other calls
 
@@ -162,17 +191,20 @@ end-few : (e : End) → endNumber e < 256
 end-few Done = omega arith
 end-few (Refused w) = few w
 
-pub walk-unpacks : claims.WalkUnpacks
-walk-unpacks log waiting score allowance =
-    let w = walkOf log waiting score allowance in
+-- the answer of a walk, or of a copy, whose visits are few
+pub walked-back : (w : Walked) → w .visits ≤ mostAllowance
+    → (numberIn (walkResult w) ≡ endNumber (w .end)) × (claims.visitsIn (walkResult w) ≡ w .visits) × (claims.sectorIn (walkResult w) ≡ endSector (w .end))
+walked-back w short =
     let n = endNumber (w .end) in
     let v = w .visits in
     let s = endSector (w .end) in
     let r = n + 256 * (v + 1048576 * s) in
     let few = end-few (w .end) in
-    let short = walk-within log waiting score allowance .1 .few in
     let u : r / 256 ≡ v + 1048576 * s = omega arith in
     (omega arith, ap (λ (x : ℕ). x % 1048576) u ∙ omega arith, ap (λ (x : ℕ). x / 1048576) u ∙ omega arith)
+
+pub walk-unpacks : claims.WalkUnpacks
+walk-unpacks log waiting score allowance = walked-back (walkOf log waiting score allowance) (walk-within log waiting score allowance .1 .few)
 
 pub report-unpacks : claims.ReportUnpacks
 report-unpacks (told.Written n) = above n

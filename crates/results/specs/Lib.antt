@@ -3,6 +3,7 @@ pub mod Serve
 pub mod Blocks
 pub mod Survey
 pub mod Tree
+pub mod Hints
 pub mod Search
 pub mod Changes
 pub mod Unpacked

@@ -4,7 +4,7 @@ use Prim.Native.Nat.{ℕ, _+_, _*_}
 use lib.Dec.{eqb}
 use Rattle.buffer.specs.Bytes.{Bytes}
 use Rattle.log.specs.Parts.{Lent, beside}
-use Rattle.request.specs.Step.{Outcome}
+use Rattle.indexed.specs.Indexed.{Indexed}
 use Rattle.request.specs.declared.Session.{Session}
 use Rattle.request.specs.declared.Session.the-variants.{Fresh, Greeted, Closed}
 
@@ -17,15 +17,16 @@ sessionNumber Fresh = 0
 sessionNumber Greeted = 1
 sessionNumber Closed = 2
 
--- what the call gives: its result, and what the log, its waiting part and the reply buffer then hold
+-- what the call gives: its result, and what the log, its waiting part, the reply buffer and the index then hold
 pub record Served : Type 0 where
   pub result : ℕ
   pub lent : Lent
   pub reply : Bytes
+  pub index : Bytes
 
-abbrev pub served : ℕ → Bytes → Bytes → Bytes → Served
-served r log waiting reply = record { result = r; lent = beside log waiting; reply = reply }
+abbrev pub served : ℕ → Bytes → Bytes → Bytes → Bytes → Served
+served r log waiting reply index = record { result = r; lent = beside log waiting; reply = reply; index = index }
 
 -- the same of the archive's step: the number, and 256 times the session
-abbrev pub servedOf : Outcome → Served
-servedOf o = record { result = o .number + 256 * sessionNumber (o .session); lent = o .lent; reply = o .reply }
+abbrev pub servedOf : Indexed → Served
+servedOf x = let o = x .outcome in record { result = o .number + 256 * sessionNumber (o .session); lent = o .lent; reply = o .reply; index = x .index }

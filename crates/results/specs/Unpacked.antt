@@ -17,9 +17,12 @@ use Rattle.cut.specs.declared.Kept.the-variants.{Length, Refused}
 use Rattle.cut.specs.Cut.{cutOf}
 use Rattle.report.specs.declared.Reported.{Reported}
 use Rattle.report.specs.declared.Reported.the-variants as told
-use Rattle.log.specs.LookUp.{logAllowed}
+use Rattle.log.specs.LookUp.{lookNumber, logAllowed}
+use Rattle.log.specs.declared.Look.{Look}
+use Rattle.log.specs.declared.Look.the-variants as look
+use Rattle.hint.specs.Hint.{lookUpByAsked}
 use Rattle.log.specs.Parts.{Lent}
-use Rattle.request.specs.Step.{step}
+use Rattle.indexed.specs.Indexed.{stepBy}
 use Rattle.request.specs.declared.Session.{Session}
 use Rattle.file.specs.File.{located}
 use Rattle.fill.specs.declared.Stop.the-variants as stop
@@ -33,6 +36,7 @@ use Rattle.results.specs.Serve.{sessionOf, sessionNumber, servedOf}
 use Rattle.visit.specs.Visit.{endNumber}
 use Rattle.results.specs.Blocks.{typeResult, cutResult}
 use Rattle.results.specs.Survey.{reportNumber, textLength, soundResult, sizeOf}
+use Rattle.results.specs.Hints.{lookResult}
 use Rattle.results.specs.Tree.{packed, unpacked, run, runOf, fillResult, walkResult, endSector}
 use Rattle.results.specs.Search.{valueNumber, valueFrom, answerSector, searchResult}
 
@@ -48,8 +52,29 @@ abbrev pub SessionGoesRound : Type 0
 SessionGoesRound = (s : Session) → sessionOf (sessionNumber s) ≡ s
 
 abbrev pub RequestUnpacks : Type 0
-RequestUnpacks = (s : Session) (m : Bytes) (date : Option Bytes) (L : Lent) (buffer : Bytes)
-    → let o = step s m date L buffer in (numberIn (servedOf o .result) ≡ o .number) × (sessionOf (answerIn (servedOf o .result)) ≡ o .session)
+RequestUnpacks = (s : Session) (m : Bytes) (date : Option Bytes) (index : Bytes) (L : Lent) (buffer : Bytes)
+    → let x = stepBy s m date index L buffer in
+    (numberIn (servedOf x .result) ≡ x .outcome .number) × (sessionOf (answerIn (servedOf x .result)) ≡ x .outcome .session)
+
+-- look-up by index: the number, the size of the block, and its first sector, or the one that a refusal tells of
+abbrev pub sizeIn : ℕ → ℕ
+sizeIn r = r / 256 % 65536
+
+abbrev pub firstIn : ℕ → ℕ
+firstIn r = r / 256 / 65536
+
+abbrev pub sizeFound : Look → ℕ
+sizeFound (look.Found b) = b .size
+sizeFound (look.Refused w) = 0
+
+abbrev pub firstTold : Look → ℕ
+firstTold (look.Found b) = b .first .0
+firstTold (look.Refused w) = toldSector w
+
+abbrev pub LookUnpacks : Type 0
+LookUnpacks = (log waiting index : Bytes) (t : ℕ) (s : Bytes)
+    → let l = lookUpByAsked log waiting index t s in
+    (numberIn (lookResult l) ≡ lookNumber l) × (sizeIn (lookResult l) ≡ sizeFound l) × (firstIn (lookResult l) ≡ firstTold l)
 
 -- a file's run: the number, the slice in which it lies, its start and its length
 abbrev pub RunUnpacks : Type 0

@@ -32,6 +32,7 @@ pub fn run(lengths: &[usize]) {
                     &DATE,
                     &mut log,
                     &mut waiting,
+                    &mut [],
                     &mut reply,
                 );
                 answer = served.outcome;

@@ -48,7 +48,16 @@ pub fn run() {
         log.fill(0);
         other.fill(0);
         let mut ask = |log: &mut [u8], waiting: &mut [u8], message: &[u8]| {
-            serve(Session::Greeted, message, &DATE, log, waiting, &mut reply).outcome
+            serve(
+                Session::Greeted,
+                message,
+                &DATE,
+                log,
+                waiting,
+                &mut [],
+                &mut reply,
+            )
+            .outcome
         };
         let ours = time(|| {
             for batch in messages.chunks(BATCH) {

@@ -14,6 +14,8 @@ extern "C" {
         log_len: usize,
         waiting: *mut u8,
         waiting_len: usize,
+        index: *mut u8,
+        index_len: usize,
         reply: *mut u8,
         reply_len: usize,
     ) -> u32;
@@ -22,6 +24,22 @@ extern "C" {
         log_len: usize,
         buffer: *mut u8,
         buffer_len: usize,
+    ) -> u32;
+    pub fn skywimple_look_up_by(
+        log: *const u8,
+        log_len: usize,
+        waiting: *const u8,
+        waiting_len: usize,
+        index: *const u8,
+        index_len: usize,
+        kind: u8,
+        score: *const [u8; 20],
+    ) -> u64;
+    pub fn skywimple_rebuild(
+        log: *const u8,
+        log_len: usize,
+        index: *mut u8,
+        index_len: usize,
     ) -> u32;
     pub fn skywimple_sound_at(log: *const u8, log_len: usize, sector: usize) -> u32;
     pub fn skywimple_cut(kind: u8, block: *const u8, block_len: usize) -> usize;

@@ -25,13 +25,15 @@ const DOUBT_AT: &[u8] = b"why=12 at=";
 /// Answers one request. The reply stands at the front of `reply`, its length in the first two bytes;
 /// an appended block in `waiting`, until a sync moves what is there into `log`. A waiting part begins
 /// all zeros, and each request is lent the one that the last request left. An appended block gets
-/// `date`, which is eight decimal digits with any message.
+/// `date`, which is eight decimal digits with any message. A read looks its block up by `index`, of any
+/// length and any bytes, and a write enters the block that it stores; an empty index is the scan.
 pub fn serve(
     session: Session,
     message: &[u8],
     date: &[u8],
     log: &mut [u8],
     waiting: &mut [u8],
+    index: &mut [u8],
     reply: &mut [u8],
 ) -> Served {
     let number = match session {
@@ -52,6 +54,8 @@ pub fn serve(
             log.len(),
             waiting.as_mut_ptr(),
             waiting.len(),
+            index.as_mut_ptr(),
+            index.len(),
             reply.as_mut_ptr(),
             reply.len(),
         )

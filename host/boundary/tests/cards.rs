@@ -16,6 +16,7 @@ fn ask(log: &mut [u8], waiting: &mut [u8], kind: u8, body: &[u8]) {
         b"20261116",
         log,
         waiting,
+        &mut [],
         &mut reply,
     );
     assert_eq!(served.outcome, Ok(()));

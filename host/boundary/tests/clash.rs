@@ -43,6 +43,7 @@ fn a_block_of_the_same_score_with_other_bytes_is_refused() {
             b"20261116",
             &mut log,
             &mut waiting,
+            &mut [],
             &mut reply,
         );
         assert_eq!(served.session, Session::Greeted);

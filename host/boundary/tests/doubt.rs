@@ -27,6 +27,7 @@ fn ask_both(log: &mut [u8], waiting: &mut [u8], message: &[u8]) -> (Result<(), R
         b"20261116",
         log,
         waiting,
+        &mut [],
         &mut reply,
     );
     let size = 2 + usize::from(reply[0]) * 256 + usize::from(reply[1]);

@@ -43,6 +43,7 @@ impl Archive {
             date,
             &mut self.log,
             &mut self.waiting,
+            &mut [],
             &mut self.reply,
         );
         self.session = served.session;

@@ -115,7 +115,7 @@ impl Answers for Reader {
         let log = &mut self.bytes[..lent];
         let mut unsound = Vec::new();
         loop {
-            let served = boundary::serve(session, message, &NO_DAY, log, &mut [], reply);
+            let served = boundary::serve(session, message, &NO_DAY, log, &mut [], &mut [], reply);
             if served.outcome.is_ok() {
                 if let Some(damaged) = held::damaged(log, &self.file, message, reply) {
                     streams.tell(&held::words(&damaged, &self.path));

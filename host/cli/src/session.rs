@@ -95,7 +95,16 @@ impl Client {
         let mut waiting = vec![0; boundary::MOST_WAITING * crate::format::SECTOR];
         let mut ask = |message: &[u8]| {
             let reply = &mut self.reply;
-            serve(self.session, message, &NO_DAY, log, &mut waiting, reply).outcome
+            serve(
+                self.session,
+                message,
+                &NO_DAY,
+                log,
+                &mut waiting,
+                &mut [],
+                reply,
+            )
+            .outcome
         };
         ask(&write_message(kind, data))?;
         ask(&SYNC)?;
@@ -117,7 +126,7 @@ impl Client {
     /// Asks of a log with nothing waiting, and gives the reply's body.
     fn ask(&mut self, log: &mut [u8], message: &[u8]) -> Result<&[u8], Refusal> {
         let reply = &mut self.reply;
-        let served = serve(self.session, message, &NO_DAY, log, &mut [], reply);
+        let served = serve(self.session, message, &NO_DAY, log, &mut [], &mut [], reply);
         self.session = served.session;
         served.outcome?;
         Ok(&whole_reply(&self.reply)[4..])

@@ -164,7 +164,7 @@ impl Writer {
     ) -> Result<boundary::Served, Failure> {
         let date = self.dates.now()?;
         let (log, waiting) = (&mut self.bytes, &mut self.waiting);
-        let served = boundary::serve(session, message, &date, log, waiting, reply);
+        let served = boundary::serve(session, message, &date, log, waiting, &mut [], reply);
         self.waits = used(&self.waiting);
         self.keep()?;
         Ok(served)

@@ -41,7 +41,7 @@ impl Archive for Proved {
             Session::Ready => proved::Session::Greeted,
             Session::Closed => proved::Session::Closed,
         };
-        let served = proved::serve(before, message, date, log, waiting, reply);
+        let served = proved::serve(before, message, date, log, waiting, &mut [], reply);
         let after = match served.session {
             proved::Session::Fresh => Session::Fresh,
             proved::Session::Greeted => Session::Ready,

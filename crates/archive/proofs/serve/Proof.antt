@@ -1,156 +1,130 @@
 -- `archive::serve` meets its contract: tests 1 to 4 in their order, 24, then the session.
-use mathlib.Core.Path.{sym, ap, _∙_}
+use mathlib.Core.Path.{sym, _∙_}
 use mathlib.Core.Option.{some}
 use borrow.Author.Tests.{not-true, not-false}
-use Rattle.refusal.specs.declared.Refusal.the-variants.{Closed, Date}
 use Rattle.message.proofs.Requests.{framed-head}
 use Rattle.sector.proofs.Dates.{date-length}
 use Rattle.log.specs.Parts.{beside}
-use Rattle.request.specs.declared.Session.{Session}
-use Rattle.request.specs.Step.{silent}
 use Rattle.archive.proofs.Laws.{step-frame, step-buffer, step-log, step-in, in-closed, fresh-undated, in-fresh, greeted-undated, in-greeted}
 use borrow.Author.Needs.{needs}
 use Rattle.archive.proofs.serve.Statement.{statement}
 use Rattle.archive.proofs.serve.Tie as tie
-use Rattle.archive.proofs.serve.Reads as reads
-use Rattle.archive.proofs.serve.Lts as lts
-use Rattle.archive.proofs.refuse_silently.Reads as refuse-silently-reads
-use Rattle.archive.proofs.serve_fresh.Reads as serve-fresh-reads
-use Rattle.archive.proofs.serve_greeted.Reads as serve-greeted-reads
-use Rattle.lookup.proofs.are_allowed.Reads as are-allowed-reads
-use Rattle.message.proofs.is_framed.Reads as is-framed-reads
-use Rattle.sector.proofs.is_date.Reads as is-date-reads
 
--- src/lib.rt:243:9
 is-framed-requires : tie.Need-is-framed-requires
 is-framed-requires c κs = search needs
 
--- src/lib.rt:244:9
 refuse-silently-requires : tie.Need-refuse-silently-requires
 refuse-silently-requires c κs = search needs
 
--- src/lib.rt:244:9
 returns : tie.Need-returns
 returns c =
-    (c .refuse-silently .ensures) _ _ ((c .before .before .before .before .before .before .before .before .args .reply .now))
-    ∙ step-frame _ ((c .before .before .before .before .before .before .before .before .args .message .now)) (some ((c .before .before .before .before .before .before .before .before .args .date .now))) (beside ((c .before .before .before .before .before .before .before .before .args .log .now)) ((c .before .before .before .before .before .before .before .before .args .waiting .now))) _ _ ((c .before .before .is-framed .ensures)) (not-true _ ((c .before .if1 .taken)))
+    let a = (c .before .before .before .before .before .before .before .before .before .args) in
+    let L = beside (a .log .now) (a .waiting .now) in
+    step-frame _ (a .message .now) (some (a .date .now)) (a .index .now) L _ _ (c .before .before .is-framed .ensures) (not-true _ (c .before .if1 .taken)) _ ((c .refuse-silently .ensures) _ _ (a .reply .now))
 
--- src/lib.rt:247:9
 refuse-silently-requires-2 : tie.Need-refuse-silently-requires-2
 refuse-silently-requires-2 c κs = search needs
 
--- src/lib.rt:247:9
 returns-2 : tie.Need-returns-2
 returns-2 c =
-    (c .refuse-silently2 .ensures) _ _ ((c .before .before .before .before .before .before .before .before .before .args .reply .now))
-    ∙ step-buffer _ ((c .before .before .before .before .before .before .before .before .before .args .message .now)) (some ((c .before .before .before .before .before .before .before .before .before .args .date .now))) (beside ((c .before .before .before .before .before .before .before .before .before .args .log .now)) ((c .before .before .before .before .before .before .before .before .before .args .waiting .now))) _ _ ((c .before .before .before .is-framed .ensures)) (not-false _ ((c .before .before .if1 .left))) ((c .before .if2 .taken))
+    let a = (c .before .before .before .before .before .before .before .before .before .before .args) in
+    let L = beside (a .log .now) (a .waiting .now) in
+    step-buffer _ (a .message .now) (some (a .date .now)) (a .index .now) L _ _ (c .before .before .before .is-framed .ensures) (not-false _ (c .before .before .if1 .left)) (c .before .if2 .taken) _ ((c .refuse-silently2 .ensures) _ _ (a .reply .now))
 
--- src/lib.rt:249:9
 are-allowed-requires : tie.Need-are-allowed-requires
 are-allowed-requires c κs = search needs
 
--- src/lib.rt:250:9
 refuse-silently-requires-3 : tie.Need-refuse-silently-requires-3
 refuse-silently-requires-3 c κs = search needs
 
--- src/lib.rt:250:9
 returns-3 : tie.Need-returns-3
 returns-3 c =
-    (c .refuse-silently3 .ensures) _ _ ((c .before .before .before .before .before .before .before .before .before .before .before .args .reply .now))
-    ∙ step-log _ ((c .before .before .before .before .before .before .before .before .before .before .before .args .message .now)) (some ((c .before .before .before .before .before .before .before .before .before .before .before .args .date .now))) (beside ((c .before .before .before .before .before .before .before .before .before .before .before .args .log .now)) ((c .before .before .before .before .before .before .before .before .before .before .before .args .waiting .now))) _ _ ((c .before .before .before .before .before .is-framed .ensures)) (not-false _ ((c .before .before .before .before .if1 .left))) ((c .before .before .before .if2 .left)) _ ((c .before .before .are-allowed .ensures)) (not-true _ ((c .before .if3 .taken)))
+    let a = (c .before .before .before .before .before .before .before .before .before .before .before .before .args) in
+    let L = beside (a .log .now) (a .waiting .now) in
+    step-log _ (a .message .now) (some (a .date .now)) (a .index .now) L _ _ (c .before .before .before .before .before .is-framed .ensures) (not-false _ (c .before .before .before .before .if1 .left)) (c .before .before .before .if2 .left) _ (c .before .before .are-allowed .ensures) (not-true _ (c .before .if3 .taken))
+    _ ((c .refuse-silently3 .ensures) _ _ (a .reply .now))
 
--- src/lib.rt:253:44
 enum-told : tie.Need-enum-told
 enum-told c = search needs
 
--- src/lib.rt:253:28
 refuse-silently-requires-4 : tie.Need-refuse-silently-requires-4
 refuse-silently-requires-4 c κs = search needs
 
--- src/lib.rt:255:17
 enum-told-2 : tie.Need-enum-told-2
 enum-told-2 c = search needs
 
--- src/lib.rt:255:17
 is-date-requires : tie.Need-is-date-requires
 is-date-requires c κs = search needs
 
--- src/lib.rt:256:17
 refuse-silently-requires-5 : tie.Need-refuse-silently-requires-5
 refuse-silently-requires-5 c κs = search needs
 
--- src/lib.rt:256:17
 returns-4 : tie.Need-returns-4
 returns-4 c =
-    let L = beside ((c .before .before .before .before .before .before .before .before .before .before .before .before .before .before .before .args .log .now)) ((c .before .before .before .before .before .before .before .before .before .before .before .before .before .before .before .args .waiting .now)) in
-    step-in _ ((c .before .before .before .before .before .before .before .before .before .before .before .before .before .before .before .args .message .now)) (some ((c .before .before .before .before .before .before .before .before .before .before .before .before .before .before .before .args .date .now))) L _ _ ((c .before .before .before .before .before .before .before .before .before .is-framed .ensures)) (not-false _ ((c .before .before .before .before .before .before .before .before .if1 .left))) ((c .before .before .before .before .before .before .before .if2 .left)) _ ((c .before .before .before .before .before .before .are-allowed .ensures)) (not-false _ ((c .before .before .before .before .before .if3 .left))) _ _ ((c .before .before .before .enum-told2 .given .1))
-    ((c .refuse-silently5 .ensures) _ _ ((c .before .before .before .before .before .before .before .before .before .before .before .before .before .before .before .args .reply .now)) ∙ ap (λ (s : Session). silent Date s L ((c .before .before .before .before .before .before .before .before .before .before .before .before .before .before .before .args .reply .now))) ((c .before .before .before .enum-told2 .given .1)) ∙ fresh-undated ((c .before .before .before .before .before .before .before .before .before .before .before .before .before .before .before .args .message .now)) ((c .before .before .before .before .before .before .before .before .before .before .before .before .before .before .before .args .date .now)) L _ _ ((c .before .before .is-date .ensures)) (not-true _ ((c .before .if4 .taken))))
+    let a = (c .before .before .before .before .before .before .before .before .before .before .before .before .before .before .before .before .args) in
+    let L = beside (a .log .now) (a .waiting .now) in
+    step-in _ (a .message .now) (some (a .date .now)) (a .index .now) L _ _ (c .before .before .before .before .before .before .before .before .before .is-framed .ensures) (not-false _ (c .before .before .before .before .before .before .before .before .if1 .left)) (c .before .before .before .before .before .before .before .if2 .left) _ (c .before .before .before .before .before .before .are-allowed .ensures) (not-false _ (c .before .before .before .before .before .if3 .left)) _ _ (c .before .before .before .enum-told2 .given .1)
+    (fresh-undated (a .message .now) (a .date .now) (a .index .now) L _ _ (c .before .before .is-date .ensures) (not-true _ (c .before .if4 .taken)) _ _ ((c .refuse-silently5 .ensures) _ _ (a .reply .now)) (c .before .before .before .enum-told2 .given .1))
 
--- src/lib.rt:258:13
 serve-fresh-requires : tie.Need-serve-fresh-requires
 serve-fresh-requires c κs =
-    (framed-head _ (sym ((c .before .before .before .before .before .before .before .before .before .is-framed .ensures)) ∙ not-false _ ((c .before .before .before .before .before .before .before .before .if1 .left))) .0, (c .before .before .before .before .before .before .before .if2 .left))
+    (framed-head _ (sym (c .before .before .before .before .before .before .before .before .before .is-framed .ensures) ∙ not-false _ (c .before .before .before .before .before .before .before .before .if1 .left)) .0, (c .before .before .before .before .before .before .before .if2 .left))
 
--- src/lib.rt:261:17
 enum-told-3 : tie.Need-enum-told-3
 enum-told-3 c = search needs
 
--- src/lib.rt:261:17
 is-date-requires-2 : tie.Need-is-date-requires-2
 is-date-requires-2 c κs = search needs
 
--- src/lib.rt:262:17
 refuse-silently-requires-6 : tie.Need-refuse-silently-requires-6
 refuse-silently-requires-6 c κs = search needs
 
--- src/lib.rt:262:17
 returns-5 : tie.Need-returns-5
 returns-5 c =
-    let L = beside ((c .before .before .before .before .before .before .before .before .before .before .before .before .before .before .before .args .log .now)) ((c .before .before .before .before .before .before .before .before .before .before .before .before .before .before .before .args .waiting .now)) in
-    step-in _ ((c .before .before .before .before .before .before .before .before .before .before .before .before .before .before .before .args .message .now)) (some ((c .before .before .before .before .before .before .before .before .before .before .before .before .before .before .before .args .date .now))) L _ _ ((c .before .before .before .before .before .before .before .before .before .is-framed .ensures)) (not-false _ ((c .before .before .before .before .before .before .before .before .if1 .left))) ((c .before .before .before .before .before .before .before .if2 .left)) _ ((c .before .before .before .before .before .before .are-allowed .ensures)) (not-false _ ((c .before .before .before .before .before .if3 .left))) _ _ ((c .before .before .before .enum-told3 .given .1))
-    ((c .refuse-silently6 .ensures) _ _ ((c .before .before .before .before .before .before .before .before .before .before .before .before .before .before .before .args .reply .now)) ∙ ap (λ (s : Session). silent Date s L ((c .before .before .before .before .before .before .before .before .before .before .before .before .before .before .before .args .reply .now))) ((c .before .before .before .enum-told3 .given .1)) ∙ greeted-undated ((c .before .before .before .before .before .before .before .before .before .before .before .before .before .before .before .args .message .now)) ((c .before .before .before .before .before .before .before .before .before .before .before .before .before .before .before .args .date .now)) L _ _ ((c .before .before .is-date2 .ensures)) (not-true _ ((c .before .if5 .taken))))
+    let a = (c .before .before .before .before .before .before .before .before .before .before .before .before .before .before .before .before .args) in
+    let L = beside (a .log .now) (a .waiting .now) in
+    step-in _ (a .message .now) (some (a .date .now)) (a .index .now) L _ _ (c .before .before .before .before .before .before .before .before .before .is-framed .ensures) (not-false _ (c .before .before .before .before .before .before .before .before .if1 .left)) (c .before .before .before .before .before .before .before .if2 .left) _ (c .before .before .before .before .before .before .are-allowed .ensures) (not-false _ (c .before .before .before .before .before .if3 .left)) _ _ (c .before .before .before .enum-told3 .given .1)
+    (greeted-undated (a .message .now) (a .date .now) (a .index .now) L _ _ (c .before .before .is-date2 .ensures) (not-true _ (c .before .if5 .taken)) _ _ ((c .refuse-silently6 .ensures) _ _ (a .reply .now)) (c .before .before .before .enum-told3 .given .1))
 
--- src/lib.rt:264:13
 serve-greeted-requires : tie.Need-serve-greeted-requires
 serve-greeted-requires c κs =
-    (framed-head _ (sym ((c .before .before .before .before .before .before .before .before .before .before .before .is-framed .ensures)) ∙ not-false _ ((c .before .before .before .before .before .before .before .before .before .before .if1 .left))) .0, (c .before .before .before .before .before .before .before .before .before .if2 .left), date-length ((c .before .before .before .before .before .before .before .before .before .before .before .before .before .before .before .before .before .args .date .now)) (sym ((c .before .before .before .before .is-date2 .ensures)) ∙ not-false _ ((c .before .before .before .if5 .left))))
+    (framed-head _ (sym (c .before .before .before .before .before .before .before .before .before .before .before .before .is-framed .ensures) ∙ not-false _ (c .before .before .before .before .before .before .before .before .before .before .before .if1 .left)) .0, (c .before .before .before .before .before .before .before .before .before .before .if2 .left), date-length (c .before .before .before .before .before .before .before .before .before .before .before .before .before .before .before .before .before .before .before .args .date .now) (sym (c .before .before .before .before .before .is-date2 .ensures) ∙ not-false _ (c .before .before .before .before .if5 .left)))
 
--- src/lib.rt:233:1
 returns-6 : tie.Need-returns-6
 returns-6 c =
-    let L = beside ((c .before .before .before .before .before .before .before .before .before .before .before .before .before .args .log .now)) ((c .before .before .before .before .before .before .before .before .before .before .before .before .before .args .waiting .now)) in
-    step-in _ ((c .before .before .before .before .before .before .before .before .before .before .before .before .before .args .message .now)) (some ((c .before .before .before .before .before .before .before .before .before .before .before .before .before .args .date .now))) L _ _ ((c .before .before .before .before .before .before .before .is-framed .ensures)) (not-false _ ((c .before .before .before .before .before .before .if1 .left))) ((c .before .before .before .before .before .if2 .left)) _ ((c .before .before .before .before .are-allowed .ensures)) (not-false _ ((c .before .before .before .if3 .left))) _ _ ((c .before .enum-told .given .1))
-    ((c .refuse-silently4 .ensures) _ _ ((c .before .before .before .before .before .before .before .before .before .before .before .before .before .args .reply .now)) ∙ ap (λ (s : Session). silent Closed s L ((c .before .before .before .before .before .before .before .before .before .before .before .before .before .args .reply .now))) ((c .before .enum-told .given .1)) ∙ in-closed ((c .before .before .before .before .before .before .before .before .before .before .before .before .before .args .message .now)) ((c .before .before .before .before .before .before .before .before .before .before .before .before .before .args .date .now)) L _)
+    let a = (c .before .before .before .before .before .before .before .before .before .before .before .before .before .before .args) in
+    let L = beside (a .log .now) (a .waiting .now) in
+    step-in _ (a .message .now) (some (a .date .now)) (a .index .now) L _ _ (c .before .before .before .before .before .before .before .is-framed .ensures) (not-false _ (c .before .before .before .before .before .before .if1 .left)) (c .before .before .before .before .before .if2 .left) _ (c .before .before .before .before .are-allowed .ensures) (not-false _ (c .before .before .before .if3 .left)) _ _ (c .before .enum-told .given .1)
+    (in-closed (a .message .now) (a .date .now) (a .index .now) L _ _ _ ((c .refuse-silently4 .ensures) _ _ (a .reply .now)) (c .before .enum-told .given .1))
 
--- src/lib.rt:233:1
 same-length : tie.Need-same-length
 same-length c = search needs
 
--- src/lib.rt:233:1
 returns-7 : tie.Need-returns-7
 returns-7 c =
-    let L = beside ((c .before .before .before .before .before .before .before .before .before .before .before .before .before .before .before .before .before .before .args .log .now)) ((c .before .before .before .before .before .before .before .before .before .before .before .before .before .before .before .before .before .before .args .waiting .now)) in
-    step-in _ ((c .before .before .before .before .before .before .before .before .before .before .before .before .before .before .before .before .before .before .args .message .now)) (some ((c .before .before .before .before .before .before .before .before .before .before .before .before .before .before .before .before .before .before .args .date .now))) L _ _ ((c .before .before .before .before .before .before .before .before .before .before .before .before .is-framed .ensures)) (not-false _ ((c .before .before .before .before .before .before .before .before .before .before .before .if1 .left))) ((c .before .before .before .before .before .before .before .before .before .before .if2 .left)) _ ((c .before .before .before .before .before .before .before .before .before .are-allowed .ensures)) (not-false _ ((c .before .before .before .before .before .before .before .before .if3 .left))) _ _ ((c .before .before .before .before .before .before .enum-told2 .given .1))
-    (in-fresh ((c .before .before .before .before .before .before .before .before .before .before .before .before .before .before .before .before .before .before .args .message .now)) ((c .before .before .before .before .before .before .before .before .before .before .before .before .before .before .before .before .before .before .args .date .now)) L _ _ ((c .before .before .before .before .before .is-date .ensures)) (not-false _ ((c .before .before .before .before .if4 .left))) _ ((c .before .before .serve-fresh .ensures) _ _))
+    let a = (c .before .before .before .before .before .before .before .before .before .before .before .before .before .before .before .before .before .before .before .args) in
+    let L = beside (a .log .now) (a .waiting .now) in
+    step-in _ (a .message .now) (some (a .date .now)) (a .index .now) L _ _ (c .before .before .before .before .before .before .before .before .before .before .before .before .is-framed .ensures) (not-false _ (c .before .before .before .before .before .before .before .before .before .before .before .if1 .left)) (c .before .before .before .before .before .before .before .before .before .before .if2 .left) _ (c .before .before .before .before .before .before .before .before .before .are-allowed .ensures) (not-false _ (c .before .before .before .before .before .before .before .before .if3 .left)) _ _ (c .before .before .before .before .before .before .enum-told2 .given .1)
+    (in-fresh (a .message .now) (a .date .now) (a .index .now) L _ _ (c .before .before .before .before .before .is-date .ensures) (not-false _ (c .before .before .before .before .if4 .left)) _ ((c .before .before .serve-fresh .ensures) _ _))
 
--- src/lib.rt:233:1
 same-length-2 : tie.Need-same-length-2
 same-length-2 c = search needs
 
--- src/lib.rt:233:1
 same-length-3 : tie.Need-same-length-3
 same-length-3 c = search needs
 
--- src/lib.rt:233:1
 same-length-4 : tie.Need-same-length-4
 same-length-4 c = search needs
 
--- src/lib.rt:233:1
+same-length-5 : tie.Need-same-length-5
+same-length-5 c = search needs
+
 returns-8 : tie.Need-returns-8
 returns-8 c =
-    let L = beside ((c .before .before .before .before .before .before .before .before .before .before .before .before .before .before .before .before .before .before .before .before .before .before .before .before .args .log .now)) ((c .before .before .before .before .before .before .before .before .before .before .before .before .before .before .before .before .before .before .before .before .before .before .before .before .args .waiting .now)) in
-    step-in _ ((c .before .before .before .before .before .before .before .before .before .before .before .before .before .before .before .before .before .before .before .before .before .before .before .before .args .message .now)) (some ((c .before .before .before .before .before .before .before .before .before .before .before .before .before .before .before .before .before .before .before .before .before .before .before .before .args .date .now))) L _ _ ((c .before .before .before .before .before .before .before .before .before .before .before .before .before .before .before .before .before .before .is-framed .ensures)) (not-false _ ((c .before .before .before .before .before .before .before .before .before .before .before .before .before .before .before .before .before .if1 .left))) ((c .before .before .before .before .before .before .before .before .before .before .before .before .before .before .before .before .if2 .left)) _ ((c .before .before .before .before .before .before .before .before .before .before .before .before .before .before .before .are-allowed .ensures)) (not-false _ ((c .before .before .before .before .before .before .before .before .before .before .before .before .before .before .if3 .left))) _ _ ((c .before .before .before .before .before .before .before .before .before .before .before .before .enum-told3 .given .1))
-    (in-greeted ((c .before .before .before .before .before .before .before .before .before .before .before .before .before .before .before .before .before .before .before .before .before .before .before .before .args .message .now)) ((c .before .before .before .before .before .before .before .before .before .before .before .before .before .before .before .before .before .before .before .before .before .before .before .before .args .date .now)) L _ _ ((c .before .before .before .before .before .before .before .before .before .before .before .is-date2 .ensures)) (not-false _ ((c .before .before .before .before .before .before .before .before .before .before .if5 .left))) _ ((c .before .before .before .before .before .before .serve-greeted .ensures)))
+    let a = (c .before .before .before .before .before .before .before .before .before .before .before .before .before .before .before .before .before .before .before .before .before .before .before .before .before .before .before .before .args) in
+    let L = beside (a .log .now) (a .waiting .now) in
+    step-in _ (a .message .now) (some (a .date .now)) (a .index .now) L _ _ (c .before .before .before .before .before .before .before .before .before .before .before .before .before .before .before .before .before .before .before .before .before .is-framed .ensures) (not-false _ (c .before .before .before .before .before .before .before .before .before .before .before .before .before .before .before .before .before .before .before .before .if1 .left)) (c .before .before .before .before .before .before .before .before .before .before .before .before .before .before .before .before .before .before .before .if2 .left) _ (c .before .before .before .before .before .before .before .before .before .before .before .before .before .before .before .before .before .before .are-allowed .ensures) (not-false _ (c .before .before .before .before .before .before .before .before .before .before .before .before .before .before .before .before .before .if3 .left)) _ _ (c .before .before .before .before .before .before .before .before .before .before .before .before .before .before .before .enum-told3 .given .1)
+    (in-greeted (a .message .now) (a .date .now) (a .index .now) L _ _ (c .before .before .before .before .before .before .before .before .before .before .before .before .before .before .is-date2 .ensures) (not-false _ (c .before .before .before .before .before .before .before .before .before .before .before .before .before .if5 .left)) _ (c .before .before .before .before .before .before .before .before .serve-greeted .ensures))
 
 pub serve-spec : {M : Type 1} → statement M
 serve-spec =
@@ -182,4 +156,5 @@ serve-spec =
     same-length-2
     same-length-3
     same-length-4
+    same-length-5
     returns-8)

@@ -8,78 +8,65 @@ use Rattle.archive.proofs.Laws.{write-kind, write-long, write-stored, w
 use borrow.Author.Needs.{needs}
 use Rattle.archive.proofs.serve_write.Statement.{statement}
 use Rattle.archive.proofs.serve_write.Tie as tie
-use Rattle.archive.proofs.serve_write.Reads as reads
-use Rattle.archive.proofs.serve_write.Lts as lts
-use Rattle.archive.proofs.answer_store.Reads as answer-store-reads
-use Rattle.archive.proofs.refuse.Reads as refuse-reads
-use Rattle.kind.proofs.is_lawful.Reads as is-lawful-reads
-use Rattle.message.proofs.data_of.Reads as data-of-reads
-use Rattle.message.proofs.tag_of.Reads as tag-of-reads
-use Rattle.store.proofs.store.Reads as store-reads
 
--- src/lib.rt:184:9
 tag-of-requires : tie.Need-tag-of-requires
 tag-of-requires c κs =
-    omega (arith, write-length _ _ ((c .before .before .before .before .before .pre .0)))
+    omega (arith, write-length _ _ (c .before .before .before .before .before .before .pre .0))
 
--- src/lib.rt:185:9
 is-lawful-requires : tie.Need-is-lawful-requires
 is-lawful-requires c κs = search needs
 
--- src/lib.rt:186:9
 refuse-requires : tie.Need-refuse-requires
 refuse-requires c κs = search needs
 
--- src/lib.rt:186:9
 same-length : tie.Need-same-length
 same-length c = search needs
 
--- src/lib.rt:186:9
 returns : tie.Need-returns
 returns c =
-    write-as ((c .before .before .before .before .before .before .before .before .before .before .before .before .args .message .now)) (beside ((c .before .before .before .before .before .before .before .before .before .before .before .before .args .log .now)) ((c .before .before .before .before .before .before .before .before .before .before .before .before .args .waiting .now))) _ _ _ ((c .before .before .before .before .before .before .tag-of .ensures)) ((c .before .before .before .before .before .before .before .before .before .before .before .before .args .date .now)) ((c .before .before .before .before .before .before .before .before .before .before .before .before .args .kind)) _ refl
-    ((c .before .before .refuse .ensures) _ _ ∙ write-kind _ _ _ _ _ _ _ ((c .before .before .before .before .before .is-lawful .ensures)) (not-true _ ((c .before .before .before .before .if1 .taken))))
+    let a = (c .before .before .before .before .before .before .before .before .before .before .before .before .before .args) in
+    write-as (a .message .now) (a .index .now) (beside (a .log .now) (a .waiting .now)) _ _ (c .before .before .before .before .before .before .tag-of .ensures) (a .date .now) (a .kind) _ _ refl
+    (write-kind _ _ _ _ _ _ _ _ (c .before .before .before .before .before .is-lawful .ensures) (not-true _ (c .before .before .before .before .if1 .taken)) _ ((c .before .before .refuse .ensures) _ _))
 
--- src/lib.rt:188:9
 data-of-requires : tie.Need-data-of-requires
 data-of-requires c κs =
-    write-length _ _ ((c .before .before .before .before .before .before .before .before .pre .0))
+    write-length _ _ (c .before .before .before .before .before .before .before .before .before .pre .0)
 
--- src/lib.rt:190:9
 refuse-requires-2 : tie.Need-refuse-requires-2
 refuse-requires-2 c κs = search needs
 
--- src/lib.rt:190:9
 same-length-2 : tie.Need-same-length-2
 same-length-2 c = search needs
 
--- src/lib.rt:190:9
 returns-2 : tie.Need-returns-2
 returns-2 c =
-    write-as ((c .before .before .before .before .before .before .before .before .before .before .before .before .before .before .args .message .now)) (beside ((c .before .before .before .before .before .before .before .before .before .before .before .before .before .before .args .log .now)) ((c .before .before .before .before .before .before .before .before .before .before .before .before .before .before .args .waiting .now))) _ _ _ ((c .before .before .before .before .before .before .before .before .tag-of .ensures)) ((c .before .before .before .before .before .before .before .before .before .before .before .before .before .before .args .date .now)) ((c .before .before .before .before .before .before .before .before .before .before .before .before .before .before .args .kind)) _ ((c .before .before .before .before .before .data-of .ensures))
-    ((c .before .before .refuse2 .ensures) _ _ ∙ write-long _ _ _ _ _ _ _ ((c .before .before .before .before .before .before .before .is-lawful .ensures)) (not-false _ ((c .before .before .before .before .before .before .if1 .left))) ((c .before .before .before .before .if2 .taken)))
+    let a = (c .before .before .before .before .before .before .before .before .before .before .before .before .before .before .before .args) in
+    write-as (a .message .now) (a .index .now) (beside (a .log .now) (a .waiting .now)) _ _ (c .before .before .before .before .before .before .before .before .tag-of .ensures) (a .date .now) (a .kind) _ _ (c .before .before .before .before .before .data-of .ensures)
+    (write-long _ _ _ _ _ _ _ _ (c .before .before .before .before .before .before .before .is-lawful .ensures) (not-false _ (c .before .before .before .before .before .before .if1 .left)) (c .before .before .before .before .if2 .taken) _ ((c .before .before .refuse2 .ensures) _ _))
 
--- src/lib.rt:192:9
 store-requires : tie.Need-store-requires
 store-requires c κs = search needs
 
--- src/lib.rt:193:5
+enter-stored-requires : tie.Need-enter-stored-requires
+enter-stored-requires c κs = search needs
+
 answer-store-requires : tie.Need-answer-store-requires
 answer-store-requires c κs = search needs
 
--- src/lib.rt:173:1
 same-length-3 : tie.Need-same-length-3
 same-length-3 c = search needs
 
--- src/lib.rt:173:1
 same-length-4 : tie.Need-same-length-4
 same-length-4 c = search needs
 
--- src/lib.rt:173:1
+same-length-5 : tie.Need-same-length-5
+same-length-5 c = search needs
+
 returns-3 : tie.Need-returns-3
 returns-3 c =
-    write-as ((c .before .before .before .before .before .before .before .before .before .before .before .before .before .before .before .before .before .before .args .message .now)) (beside ((c .before .before .before .before .before .before .before .before .before .before .before .before .before .before .before .before .before .before .args .log .now)) ((c .before .before .before .before .before .before .before .before .before .before .before .before .before .before .before .before .before .before .args .waiting .now))) _ _ _ ((c .before .before .before .before .before .before .before .before .before .before .before .before .tag-of .ensures)) ((c .before .before .before .before .before .before .before .before .before .before .before .before .before .before .before .before .before .before .args .date .now)) ((c .before .before .before .before .before .before .before .before .before .before .before .before .before .before .before .before .before .before .args .kind)) _ ((c .before .before .before .before .before .before .before .before .before .data-of .ensures))
-    (write-stored _ _ _ _ _ _ _ ((c .before .before .before .before .before .before .before .before .before .before .before .is-lawful .ensures)) (not-false _ ((c .before .before .before .before .before .before .before .before .before .before .if1 .left))) _ _ _ ((c .before .before .before .before .before .before .before .before .if2 .left)) ((c .before .before .before .before .before .before .store .ensures)) ((c .before .before .answer-store .ensures) _ _))
+    let a = (c .before .before .before .before .before .before .before .before .before .before .before .before .before .before .before .before .before .before .before .before .before .before .before .before .before .before .args) in
+    write-as (a .message .now) (a .index .now) (beside (a .log .now) (a .waiting .now)) _ _ (c .before .before .before .before .before .before .before .before .before .before .before .before .before .before .before .before .before .before .before .tag-of .ensures) (a .date .now) (a .kind) _ _ (c .before .before .before .before .before .before .before .before .before .before .before .before .before .before .before .before .data-of .ensures)
+    (write-stored _ _ _ _ _ _ _ _ (c .before .before .before .before .before .before .before .before .before .before .before .before .before .before .before .before .before .before .is-lawful .ensures) (not-false _ (c .before .before .before .before .before .before .before .before .before .before .before .before .before .before .before .before .before .if1 .left)) _ _ _ _ (c .before .before .before .before .before .before .before .before .before .before .before .before .before .before .before .if2 .left) (c .before .before .before .before .before .before .before .before .before .before .before .before .before .store .ensures) ((c .before .before .answer-store .ensures) _ _) (c .before .before .before .before .before .before .enter-stored .ensures))
 
 pub serve-write-spec : {M : Type 1} → statement M
 serve-write-spec =
@@ -95,7 +82,9 @@ serve-write-spec =
     same-length-2
     returns-2
     store-requires
+    enter-stored-requires
     answer-store-requires
     same-length-3
     same-length-4
+    same-length-5
     returns-3)

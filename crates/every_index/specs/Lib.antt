@@ -1,0 +1,3 @@
+pub mod EveryIndex
+pub mod Kept
+pub mod AsRebuilt

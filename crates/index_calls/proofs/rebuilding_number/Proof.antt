@@ -1,0 +1,28 @@
+-- `index_calls::rebuilding_number` meets its contract, case by case.
+use mathlib.Core.Path.{sym, ap, _∙_}
+use Rattle.hint.specs.Rebuilt.{rebuildingNumber}
+use borrow.Author.Needs.{needs}
+use Rattle.index_calls.proofs.rebuilding_number.Statement.{statement}
+use Rattle.index_calls.proofs.rebuilding_number.Tie as tie
+
+enum-told : tie.Need-enum-told
+enum-told c = search needs
+
+enum-known-answer : tie.Need-enum-known-answer
+enum-known-answer c = search needs
+
+number-requires : tie.Need-number-requires
+number-requires c κs = search needs
+
+cast-result : tie.Need-cast-result
+cast-result c = search needs
+
+returns : tie.Need-returns
+returns c = search needs
+
+returns-2 : tie.Need-returns-2
+returns-2 c = c .number .ensures ∙ sym (ap rebuildingNumber (c .before .before .answer .given .1))
+
+pub rebuilding-number-spec : {M : Type 1} → statement M
+rebuilding-number-spec =
+    tie.close (tie.spec enum-told enum-known-answer number-requires cast-result returns returns-2)
