@@ -1,17 +1,15 @@
 -- The entries of the worked examples, and two more than the marked ones.
 use mathlib.Core.Path.{_≡_}
 use mathlib.Core.Bool.{true, false}
-use mathlib.Core.List.{_∷_, _++_}
-use Prim.Native.Nat.{ℕ, _+_, _*_}
+use Prim.Native.Nat.{ℕ}
 use lib.ListN.{replicate}
 use Rattle.buffer.specs.Bytes.{Bytes}
-use Rattle.word.specs.Number.{beBytes}
 use Rattle.entry.specs.Entry.{entryAllowed}
+use Rattle.entry.specs.Made.{madeEntry}
 
 -- an active data entry whose score is twenty zero bytes
 abbrev pub entryBytes : ℕ → ℕ → ℕ → ℕ → Bytes
-entryBytes psize dsize depth size =
-    replicate 4 0 ++ (beBytes 2 psize ++ (beBytes 2 dsize ++ (((1 + 4 * depth) ∷ replicate 5 0) ++ (beBytes 6 size ++ replicate 20 0))))
+entryBytes psize dsize depth size = madeEntry psize dsize depth size (replicate 20 0)
 
 -- p is psize over 20 rounded down: 79 makes 3, so 3,073 bytes are too many
 abbrev pub RoundedDown : Type 0

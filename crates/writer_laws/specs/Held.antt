@@ -1,0 +1,44 @@
+-- What the blocks of a list are in a log that holds them.
+use mathlib.Core.Path.{_≡_}
+use mathlib.Core.Bool.{true}
+use mathlib.Core.List.{List, [], _∷_, _++_}
+use mathlib.Core.Option.{some}
+use Prim.Native.Nat.{ℕ, _≤_}
+use lib.ListN.{length}
+use Rattle.buffer.specs.Bytes.{Bytes}
+use Rattle.word.specs.Number.{small}
+use Rattle.sha1.specs.Sha1.{sha1Of}
+use Rattle.kind.specs.Kind.{lawful, longest}
+use Rattle.sector.specs.Sector.{isDate}
+use Rattle.block.specs.Block.{Row}
+use Rattle.log.specs.Parts.{beside, tape}
+use Rattle.log.specs.LookUp.{held, lentAllowed}
+use Rattle.writer.specs.Blocks.{Typed}
+use Rattle.writer.specs.WriteFile.{afterAll, storeAll}
+use Rattle.writer.specs.declared.End.the-variants.{Done}
+
+-- look-up finds a block with these very bytes
+abbrev pub Holds : Bytes → Typed → Type 0
+Holds log x = (r : Row) × (held log (x .kind) (sha1Of (x .bytes)) ≡ some r) × (r .bytes ≡ x .bytes)
+
+abbrev pub HoldsAll : Bytes → List Typed → Type 0
+HoldsAll log [] = Unit {0}
+HoldsAll log (x ∷ xs) = Holds log x × HoldsAll log xs
+
+-- a block that a write message may have
+abbrev pub Writable : Typed → Type 0
+Writable x = (lawful (x .kind) ≡ true) × (length (x .bytes) ≤ longest) × (small (x .bytes) ≡ true)
+
+abbrev pub AllWritable : List Typed → Type 0
+AllWritable [] = Unit {0}
+AllWritable (x ∷ xs) = Writable x × AllWritable xs
+
+-- "The first block refused with 14 or 15 ends the call; the blocks stored before it stay": the log is as they leave it, and holds them all, and what it held
+-- before; where none is refused they are all
+abbrev pub Stays : Type 0
+Stays = (log w date : Bytes) (xs : List Typed) → lentAllowed (length log) (length w) ≡ true → isDate date ≡ true → AllWritable xs
+    → let a = storeAll (beside log w) date xs in
+    (w′ : Bytes) × (before rest : List Typed)
+    × (a .lent ≡ beside log w′) × (length w′ ≡ length w) × (xs ≡ before ++ rest) × (storeAll (beside log w) date before ≡ afterAll Done (a .lent))
+    × HoldsAll (tape log w′) before × ((t : ℕ) (s : Bytes) (r : Row) → held (tape log w) t s ≡ some r → held (tape log w′) t s ≡ some r)
+    × (a .end ≡ Done → rest ≡ [])

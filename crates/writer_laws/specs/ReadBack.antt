@@ -1,0 +1,42 @@
+-- "Gives the slice back": what the writer wrote is read through the entry that it hands back, on any log.
+use mathlib.Core.Path.{_≡_}
+use mathlib.Core.Bool.{true}
+use mathlib.Core.List.{List, _++_}
+use mathlib.Core.Option.{some}
+use Prim.Native.Nat.{ℕ, _≤_, _<_}
+use lib.ListN.{length, drop, getD}
+use Rattle.buffer.specs.Bytes.{Bytes}
+use Rattle.word.specs.Number.{small}
+use Rattle.log.specs.Parts.{Lent, tape}
+use Rattle.request.specs.declared.Session.{Session}
+use Rattle.file.specs.File.{pageAllowed, located}
+use Rattle.fill.specs.Fill.{fillOf}
+use Rattle.file_laws.specs.Path.{Answers}
+use Rattle.file_laws.specs.Bytes.{fileByte, laid}
+use Rattle.ledger.specs.History.{Item, AllOfBytes}
+use Rattle.demands.specs.Instance.{archive}
+use Rattle.promises.specs.Histories.{afterwards}
+use Rattle.trees.specs.Again.{waitingOf}
+use Rattle.writer.specs.WriteFile.{writeFile}
+use Rattle.writer.specs.declared.End.the-variants.{Done}
+
+-- an entry through which a log and its waiting part read as the slice: at every offset, by the runs laid end to end, and by filling a buffer
+pub record Reads (log waiting page entry slice : Bytes) : Type 0 where
+  pub answers : (offset : ℕ) → offset < length slice → Answers (located log waiting page entry offset)
+  pub bytes : (offset : ℕ) → offset < length slice → fileByte (tape log waiting) entry offset ≡ some (getD slice offset 0)
+  pub runs : laid (length slice) log waiting page entry 0 ≡ slice
+  pub filled : (d : Bytes) → length slice ≤ length d
+      → let r = fillOf log waiting entry 0 d in (r .filled .count ≡ length slice) × (r .buffer ≡ slice ++ drop (length slice) d)
+
+-- "reading every offset through the new entry .. gives the slice": where the call succeeds, with any page of zeros
+abbrev pub ReadsBack : Type 0
+ReadsBack = (log waiting date slice : Bytes) (dsize psize : ℕ) (entry scores page : Bytes) → small slice ≡ true → pageAllowed page ≡ true
+    → let o = writeFile log waiting date slice dsize psize entry scores in
+    o .end ≡ Done → Reads (o .lent .log) (waitingOf (o .lent)) page (o .entry) slice
+
+-- "and still after any later requests"
+abbrev pub ReadsBackLater : Type 0
+ReadsBackLater = (log waiting date slice : Bytes) (dsize psize : ℕ) (entry scores page : Bytes) → small slice ≡ true → pageAllowed page ≡ true
+    → let o = writeFile log waiting date slice dsize psize entry scores in
+    o .end ≡ Done → (past : List Session) (qs : List (Item archive)) → AllOfBytes archive qs
+    → let later = afterwards (o .lent) past qs in Reads (later .log) (waitingOf later) page (o .entry) slice
