@@ -3,6 +3,7 @@
 pub mod blocks;
 pub mod cards;
 pub mod changes;
+pub mod copies;
 pub mod files;
 pub mod hints;
 pub mod survey;

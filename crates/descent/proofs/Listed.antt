@@ -54,19 +54,19 @@ unfolding judged
 judged-by x w a f p q = ap₂ (λ (s t : Bool). cond s (cond t w (walked 0 (Stopped IllFormed))) (walked 0 Done)) p q
 
 module _ {b : Bytes} {i : ℕ} {x : Bytes} {e : Entry} (R : EntryRead b i x e) where
-  bytes-are-piece : x ≡ entryIn b i
+  pub bytes-are-piece : x ≡ entryIn b i
   bytes-are-piece = R .bytes ∙ sym (entry-piece b i (R .within))
 
   length-40 : length x ≡ 40
   length-40 = ap length (R .bytes) ∙ length-filled 40 (drop (40 * i) b)
 
-  entry-of-piece : e ≡ entryOf (entryIn b i)
+  pub entry-of-piece : e ≡ entryOf (entryIn b i)
   entry-of-piece = R .read ∙ ap entryOf (take-all 40 x (omega (arith, length-40)) ∙ bytes-are-piece)
 
-  active-of-piece : (a : Bool) → e .active ≡ a → entryOf (entryIn b i) .active ≡ a
+  pub active-of-piece : (a : Bool) → e .active ≡ a → entryOf (entryIn b i) .active ≡ a
   active-of-piece a h = ap (λ (y : Entry). y .active) (sym entry-of-piece) ∙ h
 
-  allowed-of-piece : (f : Bool) → wellFormed e ≡ f → entryAllowed (entryIn b i) ≡ f
+  pub allowed-of-piece : (f : Bool) → wellFormed e ≡ f → entryAllowed (entryIn b i) ≡ f
   allowed-of-piece f h = ap wellFormed (sym entry-of-piece) ∙ h
 
   pub depth-at-most-7 : e .depth ≤ 7

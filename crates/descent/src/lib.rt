@@ -17,7 +17,7 @@ ghost use Rattle.descent.specs.Descent.{nestOf, entriesOf, visitDirector
 ghost use Rattle.descent.specs.Parts.{entryIn, visitListed, visitScores};
 
 // The nest of an entry's blocks, in a directory block of a nest.
-fn nest_of(e: Entry, nest: usize) -> usize
+pub fn nest_of(e: Entry, nest: usize) -> usize
     requires { ⌜ nest ≤ 16 ⌝ }
     ensures { λ r. ⌜ r ≡ nestOf e nest ⌝ }
 {

@@ -12,3 +12,4 @@ pub mod Fills
 pub mod Searches
 pub mod Changes
 pub mod HintLaws
+pub mod Copies

@@ -7,3 +7,4 @@ pub mod Hints
 pub mod Search
 pub mod Changes
 pub mod Unpacked
+pub mod Copies

@@ -18,7 +18,7 @@ ghost use Rattle.sha1.specs.Sha1.{sha1Of};
 ghost use Rattle.kind.specs.Kind.{longest};
 ghost use Rattle.block.specs.Block.{Inside};
 ghost use Rattle.block.specs.Log.{sectors, joined, bytesOf, used as usedOf};
-ghost use Rattle.log.specs.Parts.{Lent, beside, canSettle};
+ghost use Rattle.log.specs.Parts.{Lent, alone, beside, canSettle};
 ghost use Rattle.log.specs.Parts.{settled as settledOf};
 ghost use Rattle.log.specs.Store.{afterStore, receipt, appended, compared};
 ghost use Rattle.log.specs.Store.{store as storeOf};
@@ -51,7 +51,13 @@ fn append_new(
 }
 
 // A block that look-up found: a duplicate if it has these very bytes, else a clash.
-fn compare<'a>(log: &'a [u8], end: SectorNumber, waiting: &'a [u8], b: Block, data: &[u8]) -> Stored
+pub fn compare<'a>(
+    log: &'a [u8],
+    end: SectorNumber,
+    waiting: &'a [u8],
+    b: Block,
+    data: &[u8],
+) -> Stored
     requires { ⌜ (end .0 ≤ sectors (length (now log))) × Inside (end .0 + sectors (length (now waiting))) b ⌝ }
     ensures { λ r. ⌜ ((L : Lent) → afterStore (receipt (sha1Of (now («data» .entry))) r) L ≡ compared L (bytesOf (joined (end .0) (now (log .entry)) (now (waiting .entry))) b) (b .first .0) (now («data» .entry))) ⌝ }
 {
@@ -103,4 +109,26 @@ pub fn settle(log: &mut [u8], waiting: &mut [u8]) -> bool
     buffer::copy_at(log, at, &waiting[..to]);
     buffer::clear(waiting);
     true
+}
+
+// Stores a block of a type, with a date, in a log for which nothing waits: it is appended to the log itself.
+pub fn store_alone(log: &mut [u8], date: &[u8], kind: u8, data: &[u8]) -> Receipt
+    requires { ⌜ (length (now «data») ≤ longest) × (length (now date) ≡ 8) ⌝ }
+    ensures { λ r. ⌜ afterStore r (alone (now (log .exit))) ≡ storeOf (alone (now (log .entry))) (now (date .entry)) kind (now («data» .entry)) ⌝ }
+{
+    let score = sha1::sha1(data);
+    let place = lookup::find_held(log, SectorNumber(0), log, kind, &score);
+    let Place::At(b) = place else {
+        let most = log.len() / SECTOR;
+        let stored = append_new(most, SectorNumber(0), log, date, kind, &score, data);
+        return Receipt {
+            score: score,
+            stored: stored,
+        };
+    };
+    let stored = compare(log, SectorNumber(0), log, b, data);
+    Receipt {
+        score: score,
+        stored: stored,
+    }
 }

@@ -34,10 +34,10 @@ positive n h = omega arith
 -- ---- a visit by its tests: nest over 16, nothing left, what is held
 
 -- where a row is found
-abbrev placed : Row → Look
+abbrev pub placed : Row → Look
 placed r = Found (placeOf r)
 
-abbrev metBy : Bool → Bool → Option Row → Refusal → ℕ → Met
+abbrev pub metBy : Bool → Bool → Option Row → Refusal → ℕ → Met
 metBy a b o w count = cond a (met 0 (Refused Nest)) (cond b (met 0 (Refused Spent)) (met 1 (counted count (on o (Refused w) placed))))
 
 abbrev pub visitBy : Bool → Bool → Option Row → Refusal → ℕ → (Bytes → Walked) → Walked
@@ -55,7 +55,7 @@ pub record FoundByTests (a b : Bool) (o : Option Row) (count : ℕ) (place : Blo
   pub within-count : ltb count (length (row .bytes)) ≡ false
   pub one-spent : spent ≡ 1
 
-found-by-tests : (a b : Bool) (o : Option Row) (w : Refusal) (count : ℕ) (p : Block) → metBy a b o w count .look ≡ Found p
+pub found-by-tests : (a b : Bool) (o : Option Row) (w : Refusal) (count : ℕ) (p : Block) → metBy a b o w count .look ≡ Found p
     → FoundByTests a b o count p (metBy a b o w count .spent)
 found-by-tests true b o w count p e = let z : _≡_ {A = ℕ} 0 1 = cc in absurd (omega arith)
 found-by-tests false true o w count p e = let z : _≡_ {A = ℕ} 0 1 = cc in absurd (omega arith)

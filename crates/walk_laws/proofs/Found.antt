@@ -25,7 +25,7 @@ use Rattle.visit.specs.Visit.{walked, more, visiting}
 use Rattle.descent.specs.Descent.{andThen, paddedTo, inOrder, nestOf, entriesOf, judged, visitDirectory, visitEntry}
 use Rattle.walk.specs.Walk.{walkTop, walkRoot, walkIn, mostAllowance}
 use Rattle.descent.specs.Parts.{entryIn}
-use Rattle.walk_laws.specs.Found.{Found, leaf, directory, FoundEntries, FoundRoot, WalkFinds, pointers, entries}
+use Rattle.walk_laws.specs.Found.{Found, leaf, directory, pointers, FoundEntries, FoundRoot, WalkFinds}
 use Rattle.visit.proofs.Visits.{visitBy}
 
 -- no refusal is the end of a walk that is done
@@ -50,7 +50,7 @@ seen-by-tests false false (some r) w count next e = go (ltb count (length (r .by
     go false d = record { row = r; not-spent = refl; row-held = refl; rest-done = d }
 
 module _ (log : Bytes) (nest left kind count : ℕ) (score : Bytes) (next : Bytes → Walked) where
-  seen : visiting log nest left kind count score next .end ≡ Done → Seen (eqb left 0) (held log kind score) next
+  pub seen : visiting log nest left kind count score next .end ≡ Done → Seen (eqb left 0) (held log kind score) next
   unfolding visiting
   seen e = seen-by-tests (ltb 16 nest) (eqb left 0) (held log kind score) (absence log) count next e
 
@@ -60,7 +60,7 @@ and-then-done Done n k h = (refl, h)
 and-then-done (Refused r) n k h = not-done r h
 
 -- each of the pieces was done, with no more than what was left
-order-done : (go : Bytes → ℕ → Walked) (w : ℕ) (b : Bytes) (left : ℕ) (P : ℕ → Type 0) → ((p a : ℕ) → a ≤ left → go (piece w p b) a .end ≡ Done → P p)
+pub order-done : (go : Bytes → ℕ → Walked) (w : ℕ) (b : Bytes) (left : ℕ) (P : ℕ → Type 0) → ((p a : ℕ) → a ≤ left → go (piece w p b) a .end ≡ Done → P p)
     → (k i n : ℕ) → inOrder go w b left k i n .end ≡ Done → (p : ℕ) → i ≤ p → p < i + k → P p
 unfolding inOrder
 order-done go w b left P f zero i n e p h l = absurd (omega arith)
@@ -85,7 +85,7 @@ judged-done x w e a = judged-done-by-tests (entryOf x .active) (entryAllowed x) 
 entries-found : (log b : Bytes) (g : Bytes → ℕ → Walked) (left : ℕ)
     → ((x : Bytes) (a : ℕ) → a ≤ left → g x a .end ≡ Done → Found log (entryOf x) (entryOf x .depth) (scoreOf x))
     → inOrder (λ x a. judged x (g x a)) 40 (paddedTo (40 * entriesOf (length b)) b) left (entriesOf (length b)) 0 0 .end ≡ Done → FoundEntries log b
-entries-found log b g left f e = entries (λ i h a. each i h a .0) (λ i h a. each i h a .1)
+entries-found log b g left f e = record { formed = λ i h a. each i h a .0; found = λ i h a. each i h a .1 }
   where
     Known : ℕ → Type 0
     Known i = entryOf (entryIn b i) .active ≡ true
@@ -101,7 +101,7 @@ entries-found log b g left f e = entries (λ i h a. each i h a .0) (λ i h a. ea
 module _ (log : Bytes) (e : Entry) (score : Bytes) (r : Row) where
   leaf-found : (sub : Bytes → Walked) → (sub (r .bytes) .end ≡ Done → FoundEntries log (r .bytes)) → (t : Bool) → e .directory ≡ t
       → held log (cond t 2 13) score ≡ some r → cond t (sub (r .bytes)) (walked 0 Done) .end ≡ Done → Found log e zero score
-  leaf-found sub f true z h d = directory r z h (f d)
+  leaf-found sub f true z h d = directory r z h (f d .formed) (f d .found)
   leaf-found sub f false z h d = leaf r z h
 
   scores-found : (l : ℕ) (go : Bytes → ℕ → Walked) (left : ℕ) → ((x : Bytes) (a : ℕ) → a ≤ left → go x a .end ≡ Done → Found log e l x)
@@ -114,14 +114,14 @@ module _ (log : Bytes) (e : Entry) (score : Bytes) (r : Row) where
   scores-found l go left f h false z d = not-done _ d
 
 -- above the leaves
-type-above : (e : Entry) (l : ℕ) → typeAt e (suc l) ≡ 2 + suc l
+pub type-above : (e : Entry) (l : ℕ) → typeAt e (suc l) ≡ 2 + suc l
 unfolding typeAt
 type-above e l = rw (ne-eqb (suc l) 0 (λ z. omega arith))
 
-level-below : (l : ℕ) → suc l - 1 ≡ l
+pub level-below : (l : ℕ) → suc l - 1 ≡ l
 level-below l = omega arith
 
-else-done : (u : Bool) (x y : Walked) → u ≡ false → cond u x y .end ≡ Done → y .end ≡ Done
+pub else-done : (u : Bool) (x y : Walked) → u ≡ false → cond u x y .end ≡ Done → y .end ≡ Done
 else-done true x y z d = let n : _≡_ {A = ℕ} 0 1 = cc in absurd (omega arith)
 else-done false x y z d = d
 
@@ -129,7 +129,7 @@ mutual
   unfolding visitEntry visitDirectory typeAt
 
   -- where the bound of the calls is enough
-  found-entry : (f : ℕ) (log : Bytes) (e : Entry) (level nest : ℕ) (score : Bytes) (left : ℕ)
+  pub found-entry : (f : ℕ) (log : Bytes) (e : Entry) (level nest : ℕ) (score : Bytes) (left : ℕ)
       → visitEntry f log e level nest score left .end ≡ Done → left + left + 1 ≤ f → Found log e level score
   found-entry zero log e level nest score left d h = absurd (omega arith)
   found-entry (suc f) log e zero nest score left d h =
@@ -145,7 +145,7 @@ mutual
       (ap (λ (t : ℕ). held log t score) (sym (type-above e l)) ∙ s .row-held) (eqb (length (s .row .bytes) % 20) 0) refl
       (else-done (eqb (suc l) 0) _ _ (ne-eqb (suc l) 0 (λ z. omega arith)) (s .rest-done))
 
-  found-directory : (f : ℕ) (log : Bytes) (nest : ℕ) (b : Bytes) (left : ℕ)
+  pub found-directory : (f : ℕ) (log : Bytes) (nest : ℕ) (b : Bytes) (left : ℕ)
       → visitDirectory f log nest b left .end ≡ Done → left + left + 2 ≤ f → FoundEntries log b
   found-directory zero log nest b left d h = absurd (omega arith)
   found-directory (suc f) log nest b left d h =

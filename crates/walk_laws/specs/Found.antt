@@ -18,19 +18,24 @@ use Rattle.descent.specs.Descent.{paddedTo, entriesOf}
 use Rattle.walk.specs.Walk.{walkOf}
 use Rattle.descent.specs.Parts.{entryIn}
 
-mutual
-  -- the block of an entry under a score at a level is held, and all that is below it: "Level d is type 2+d, the leaf 13 or 2"
-  pub data Found (log : Bytes) : Entry → ℕ → Bytes → Type 0 where
-    leaf : {e : Entry} {s : Bytes} (r : Row) → e .directory ≡ false → held log 13 s ≡ some r → Found log e zero s
-    directory : {e : Entry} {s : Bytes} (r : Row) → e .directory ≡ true → held log 2 s ≡ some r → FoundEntries log (r .bytes) → Found log e zero s
-    pointers : {e : Entry} {d : ℕ} {s : Bytes} (r : Row) → held log (2 + suc d) s ≡ some r → length (r .bytes) % 20 ≡ 0
-        → ((i : ℕ) → i < length (r .bytes) / 20 → Found log e d (piece 20 i (r .bytes))) → Found log e (suc d) s
+-- each active entry of a directory block's bytes is well-formed
+abbrev pub EntriesFormed : Bytes → Type 0
+EntriesFormed b = (i : ℕ) → i < entriesOf (length b) → entryOf (entryIn b i) .active ≡ true → entryAllowed (entryIn b i) ≡ true
 
-  -- each active entry of a directory block is well-formed, and all that is below it is found
-  pub data FoundEntries (log : Bytes) : Bytes → Type 0 where
-    entries : {b : Bytes} → ((i : ℕ) → i < entriesOf (length b) → entryOf (entryIn b i) .active ≡ true → entryAllowed (entryIn b i) ≡ true)
-        → ((i : ℕ) → i < entriesOf (length b) → entryOf (entryIn b i) .active ≡ true
-        → Found log (entryOf (entryIn b i)) (entryOf (entryIn b i) .depth) (scoreOf (entryIn b i))) → FoundEntries log b
+-- the block of an entry under a score at a level is held, and all that is below it: "Level d is type 2+d, the leaf 13 or 2"
+pub data Found (log : Bytes) : Entry → ℕ → Bytes → Type 0 where
+  leaf : {e : Entry} {s : Bytes} (r : Row) → e .directory ≡ false → held log 13 s ≡ some r → Found log e zero s
+  directory : {e : Entry} {s : Bytes} (r : Row) → e .directory ≡ true → held log 2 s ≡ some r → EntriesFormed (r .bytes)
+      → ((i : ℕ) → i < entriesOf (length (r .bytes)) → entryOf (entryIn (r .bytes) i) .active ≡ true
+      → Found log (entryOf (entryIn (r .bytes) i)) (entryOf (entryIn (r .bytes) i) .depth) (scoreOf (entryIn (r .bytes) i))) → Found log e zero s
+  pointers : {e : Entry} {d : ℕ} {s : Bytes} (r : Row) → held log (2 + suc d) s ≡ some r → length (r .bytes) % 20 ≡ 0
+      → ((i : ℕ) → i < length (r .bytes) / 20 → Found log e d (piece 20 i (r .bytes))) → Found log e (suc d) s
+
+-- each active entry of a directory block is well-formed, and all that is below it is found
+pub record FoundEntries (log b : Bytes) : Type 0 where
+  pub formed : EntriesFormed b
+  pub found : (i : ℕ) → i < entriesOf (length b) → entryOf (entryIn b i) .active ≡ true
+      → Found log (entryOf (entryIn b i)) (entryOf (entryIn b i) .depth) (scoreOf (entryIn b i))
 
 -- "The root (count 300, padded to 300) leads to its directory block (type 2 ..)"
 pub record FoundRoot (log score : Bytes) : Type 0 where

@@ -1,0 +1,5 @@
+-- What a copy is, and what it promises.
+pub mod Copy
+pub mod Parts
+pub mod Promises
+pub mod Requests
