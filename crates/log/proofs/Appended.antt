@@ -28,7 +28,7 @@ module _ (log : Bytes) (r : Row) (v : valid r ≡ true) (end : r .first ≡ used
       at-written log r v room (r .first + k) ∙ rw (within-in (r .first) (parts r) (r .first + k) (omega arith) (omega arith), z))
 
   -- and the used part ends with it, or before its end
-  used-ends : used (written log r) ≤ r .first + parts r
+  pub used-ends : used (written log r) ≤ r .first + parts r
   used-ends =
       used-le (written log r) (r .first + parts r)
       (λ n h. let e : at (written log r) n ≡ at log n = at-written log r v room n ∙ rw (within-after (r .first) (parts r) n h) in

@@ -1,0 +1,130 @@
+-- The test of an index: it passes exactly if the index leads to where the scan finds each block.
+use mathlib.Core.Path.{_≡_, refl, sym, ap, ap₂, _∙_}
+use mathlib.Core.Bool.{Bool, true, false, cond, _&&_, true≢false, false≢true}
+use mathlib.Core.List.{List, [], _∷_, _++_, List·Memᴰ, List·Memᴰ·head, List·Memᴰ·tail, List·Memᴰ·not-nil, List·Memᴰ·cases-cons}
+use mathlib.Core.Logic.{_⊎_, inl, inr}
+use mathlib.Core.Option.{Option, none, some}
+use Prim.Native.Nat.{ℕ, _+_, _≤_}
+use native.Mathlib.Nat.{le-antisymm}
+use native.Mathlib.Omega.{arith}
+use lib.Dec.{eqb, leb}
+use borrow.Author.Tests.{eq-eqb, eqb-true, leb-true, le-leb}
+use Rattle.ground.specs.Choice.{on}
+use Rattle.ground.proofs.Cases.{and-true}
+use Rattle.buffer.specs.Bytes.{Bytes, same}
+use Rattle.buffer.proofs.Bytes.{same-refl, same-true}
+use Rattle.block.specs.Block.{Row, parts}
+use Rattle.block.specs.Log.{sound}
+use Rattle.log.specs.LookUp.{blocks, firstOf}
+use Rattle.log.proofs.Blocks.{Ascends, blocks-in, blocks-out, blocks-ascend}
+use Rattle.log.proofs.First.{first-sound}
+use Rattle.hint.specs.Hint.{hint}
+use Rattle.hint.specs.Promises.{Exact}
+use Rattle.hint.proofs.Found.{some-not-none}
+use Rattle.hint.proofs.Leads.{hint-sound, hint-finds, first-finds}
+use Rattle.known.specs.Known.{leads, allLead, exactly}
+use Rattle.known.specs.Promises.{ExactlyExact}
+
+-- ---- the first of a type and score starts before all others of them
+
+from-lo : (lo : ℕ) (rows : List Row) (x : Row) → Ascends lo rows → List·Memᴰ x rows → lo ≤ x .first
+from-lo lo [] x a m = absurd (List·Memᴰ·not-nil m)
+from-lo lo (r ∷ rows) x a m = go (List·Memᴰ·cases-cons m) (from-lo (r .first + parts r) rows x (a .1))
+  where
+    go : (x ≡ r) ⊎ List·Memᴰ x rows → (List·Memᴰ x rows → r .first + parts r ≤ x .first) → lo ≤ x .first
+    go (inl e) f = let g : x .first ≡ r .first = ap (λ (y : Row). y .first) e in omega (arith, g, a .0)
+    go (inr n) f = omega (arith, f n, a .0)
+
+first-least : (t : ℕ) (s : Bytes) (lo : ℕ) (rows : List Row) (r x : Row) → Ascends lo rows → firstOf t s rows ≡ some r
+    → List·Memᴰ x rows → x .kind ≡ t → x .score ≡ s → r .first ≤ x .first
+unfolding firstOf
+first-least t s lo [] r x a e m k v = absurd (List·Memᴰ·not-nil m)
+first-least t s lo (y ∷ rows) r x a e m k v =
+    go (eqb (y .kind) t && same (y .score) s) refl e (List·Memᴰ·cases-cons m) (λ e′ n. first-least t s (y .first + parts y) rows r x (a .1) e′ n k v)
+  where
+    go : (b : Bool) → (eqb (y .kind) t && same (y .score) s) ≡ b → cond b (some y) (firstOf t s rows) ≡ some r → (x ≡ y) ⊎ List·Memᴰ x rows
+        → (firstOf t s rows ≡ some r → List·Memᴰ x rows → r .first ≤ x .first) → r .first ≤ x .first
+    go true q e′ (inl z) rest = let w : y ≡ r = cc in
+        let f : x .first ≡ y .first = ap (λ (u : Row). u .first) z in
+        let g : y .first ≡ r .first = ap (λ (u : Row). u .first) w in
+        omega (arith, f, g)
+    go true q e′ (inr n) rest = let w : y ≡ r = cc in
+        let g : y .first ≡ r .first = ap (λ (u : Row). u .first) w in
+        let h = from-lo (y .first + parts y) rows x (a .1) n in
+        omega (arith, g, h)
+    go false q e′ (inl z) rest =
+        let is : (eqb (y .kind) t && same (y .score) s) ≡ true =
+        ap (λ (u : Row). eqb (u .kind) t && same (u .score) s) (sym z) ∙ rw (eq-eqb (x .kind) t k, ap (λ (u : Bytes). same u s) v ∙ same-refl s) in
+        absurd (true≢false (sym is ∙ q))
+    go false q e′ (inr n) rest = rest e′ n
+
+pub least : (log : Bytes) (t : ℕ) (s : Bytes) (r x : Row) → firstOf t s (blocks log) ≡ some r → sound log (x .first) ≡ some x
+    → x .kind ≡ t → x .score ≡ s → r .first ≤ x .first
+least log t s r x e q k v = first-least t s 0 (blocks log) r x (blocks-ascend log) e (blocks-in log x q) k v
+
+-- ---- every row leads
+
+pub all-in : (log index : Bytes) (rows : List Row) (r : Row) → allLead log index rows ≡ true → List·Memᴰ r rows → leads log index r ≡ true
+unfolding allLead
+all-in log index [] r e m = absurd (List·Memᴰ·not-nil m)
+all-in log index (x ∷ rows) r e m = go (List·Memᴰ·cases-cons m) (all-in log index rows r)
+  where
+    w : (leads log index x ≡ true) × (allLead log index rows ≡ true)
+    w = and-true (leads log index x) (allLead log index rows) e
+
+    go : (r ≡ x) ⊎ List·Memᴰ r rows → (allLead log index rows ≡ true → List·Memᴰ r rows → leads log index r ≡ true) → leads log index r ≡ true
+    go (inl z) f = ap (leads log index) z ∙ w .0
+    go (inr n) f = f (w .1) n
+
+pub in-all : (log index : Bytes) (rows : List Row) → ((r : Row) → List·Memᴰ r rows → leads log index r ≡ true) → allLead log index rows ≡ true
+unfolding allLead
+in-all log index [] f = refl
+in-all log index (x ∷ rows) f = ap₂ _&&_ (f x (List·Memᴰ·head refl)) (in-all log index rows (λ r m. f r (List·Memᴰ·tail m)))
+
+leads-reads : (log index : Bytes) (r : Row) → leads log index r ≡ true → (h : Row) × (hint log index (r .kind) (r .score) ≡ some h) × (h .first ≤ r .first)
+leads-reads log index r e = go (hint log index (r .kind) (r .score)) refl e
+  where
+    go : (o : Option Row) → hint log index (r .kind) (r .score) ≡ o → on o false (λ (h : Row). leb (h .first) (r .first)) ≡ true
+        → (h : Row) × (hint log index (r .kind) (r .score) ≡ some h) × (h .first ≤ r .first)
+    go none p q = absurd (false≢true q)
+    go (some h) p q = (h, p, leb-true (h .first) (r .first) q)
+
+-- two blocks at one sector are one
+same-place : (log : Bytes) (a b : Row) → sound log (a .first) ≡ some a → sound log (b .first) ≡ some b → a .first ≡ b .first → a ≡ b
+same-place log a b p q e = let z : some a ≡ some b = sym p ∙ ap (sound log) e ∙ q in cc
+
+exact-of : (log index : Bytes) → exactly log index ≡ true → Exact log index
+exact-of log index e t s = go (hint log index t s) (firstOf t s (blocks log)) refl refl
+  where
+    go : (h o : Option Row) → hint log index t s ≡ h → firstOf t s (blocks log) ≡ o → hint log index t s ≡ firstOf t s (blocks log)
+    go none none p q = p ∙ sym q
+    go (some h) none p q = absurd (hint-finds log index t s h p q)
+    go none (some r) p q =
+        let f = first-sound log t s r q in
+        let l = leads-reads log index r (all-in log index (blocks log) r e (blocks-in log r (f .0))) in
+        absurd (some-not-none (l .0) (sym (l .1) ∙ ap₂ (hint log index) (f .1) (f .2) ∙ p))
+    go (some h) (some r) p q =
+        let f = first-sound log t s r q in
+        let g = hint-sound log index t s h p in
+        let l = leads-reads log index r (all-in log index (blocks log) r e (blocks-in log r (f .0))) in
+        let y : some (l .0) ≡ some h = sym (l .1) ∙ ap₂ (hint log index) (f .1) (f .2) ∙ p in
+        let z : l .0 ≡ h = cc in
+        let u : h .first ≤ r .first = let w : (l .0) .first ≡ h .first = ap (λ (x : Row). x .first) z in omega (arith, w, l .2) in
+        let v : r .first ≤ h .first = least log t s r h q (g .0) (g .1) (g .2) in
+        p ∙ ap (λ (x : Row). some x) (same-place log h r (g .0) (f .0) (le-antisymm u v)) ∙ sym q
+
+of-exact : (log index : Bytes) → Exact log index → exactly log index ≡ true
+of-exact log index x = in-all log index (blocks log) each
+  where
+    each : (r : Row) → List·Memᴰ r (blocks log) → leads log index r ≡ true
+    each r m = go (hint log index (r .kind) (r .score)) refl
+      where
+        q : sound log (r .first) ≡ some r
+        q = blocks-out log r m
+
+        go : (o : Option Row) → hint log index (r .kind) (r .score) ≡ o → on o false (λ (h : Row). leb (h .first) (r .first)) ≡ true
+        go none p = absurd (first-finds log r q (sym (x (r .kind) (r .score)) ∙ p))
+        go (some h) p = le-leb (h .first) (r .first) (least log (r .kind) (r .score) h r (sym (x (r .kind) (r .score)) ∙ p) q refl refl)
+
+pub exactly-exact : ExactlyExact
+exactly-exact log index = (exact-of log index, of-exact log index)
