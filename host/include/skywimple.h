@@ -126,6 +126,25 @@ uint32_t skywimple_is_card(const uint8_t *bytes, size_t bytes_len);
 /* The block type of a number of the enumeration: the number 9 for none, else 256 times the type. */
 uint32_t skywimple_block_type(uint64_t number);
 
+/* Copies all that a root reaches, from its score, 20 bytes, into a second log for which nothing waits:
+   each block is appended there behind all that it links to, with the date, 8 digits (else 24). A refusal
+   keeps what was copied before it; 3, 24 and 23 write nothing, and 14 and 15 speak of the second log.
+   The result is packed as that of skywimple_walk; the sector is the first log's. */
+uint64_t skywimple_copy(const uint8_t *log, size_t log_len, const uint8_t *waiting,
+                        size_t waiting_len, uint8_t *second, size_t second_len, const uint8_t *date,
+                        size_t date_len, const uint8_t score[20], uint64_t allowance);
+
+/* Writes slice, at most 57,344 bytes (else 10), as a file: leaves of dsize bytes, pointer blocks of psize
+   (else 16), each cut and appended in waiting with the date, 8 digits (else 24), as a write of it would
+   be. entry has 40 bytes and scores at least 1,146,880 (else 2); of scores, those used are zeros
+   afterwards. Returns the number. Only where it is 0 the file's entry stands in entry. 14 and 15 keep the
+   blocks before the refused one; 14 for want of room in waiting is mended by a sync, after which the same
+   call finds them and goes on. */
+uint32_t skywimple_write_file(const uint8_t *log, size_t log_len, uint8_t *waiting, size_t waiting_len,
+                              const uint8_t *date, size_t date_len, const uint8_t *slice,
+                              size_t slice_len, size_t dsize, size_t psize, uint8_t *entry,
+                              size_t entry_len, uint8_t *scores, size_t scores_len);
+
 #ifdef __cplusplus
 }
 #endif

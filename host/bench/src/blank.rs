@@ -1,11 +1,10 @@
 //! What a request costs in a log that is mostly blank: 100 blocks at its front, nothing after them.
 
-use boundary::{serve, Refusal, Session};
+use boundary::Refusal;
 use plain::random::Random;
 
-use crate::log::{read_message, time, write_message, DATE, SYNC};
+use crate::parts::{read_message, time, write_message, Parts, BLOCK, SYNC};
 
-const BLOCK: usize = 8192;
 const BLOCKS: usize = 100;
 const ROUNDS: usize = 5;
 
@@ -18,25 +17,10 @@ pub fn run(lengths: &[usize]) {
     );
     for &sectors in lengths {
         let mut random = Random::new(3);
-        // written once: pages that were only read would all be one page of zeros
-        let mut log = vec![1; sectors * 512];
-        log.fill(0);
-        let mut waiting = vec![0; 256 * 512];
-        let mut reply = vec![0; 57_348];
+        let mut parts = Parts::new(sectors, 0);
         let mut ask = |message: &[u8], expected: Result<(), Refusal>| {
             let mut answer = Ok(());
-            let spent = time(|| {
-                let served = serve(
-                    Session::Greeted,
-                    message,
-                    &DATE,
-                    &mut log,
-                    &mut waiting,
-                    &mut [],
-                    &mut reply,
-                );
-                answer = served.outcome;
-            });
+            let spent = time(|| answer = parts.ask(message));
             assert_eq!(answer, expected);
             1e3 * spent
         };

@@ -3,6 +3,8 @@
 
 mod blank;
 mod log;
+mod parts;
+mod sizes;
 
 use plain::random::Random;
 use std::fmt::Debug;
@@ -19,7 +21,7 @@ const HELP: &str = "\
 bench [--help]
 
 Measures the proved functions beside ordinary Rust, both built for release, by turns on the same
-input, and prints a table; it takes about half a minute. Where two results differ it stops before that.
+input, and prints tables; it takes about two minutes. Where two results differ it stops before that.
 ";
 
 fn main() -> ExitCode {
@@ -46,6 +48,7 @@ fn measure() {
     compare("crc32", boundary::crc32, plain::crc32::crc32);
     log::run();
     blank::run(&[4_096, 131_072, 1_048_576]);
+    sizes::run(&[32_768, 131_072, 1_048_576]);
 }
 
 /// Compares the results on random inputs, then the speed.

@@ -113,4 +113,32 @@ extern "C" {
     ) -> u64;
     pub fn skywimple_is_card(bytes: *const u8, bytes_len: usize) -> u32;
     pub fn skywimple_block_type(number: u64) -> u32;
+    pub fn skywimple_copy(
+        log: *const u8,
+        log_len: usize,
+        waiting: *const u8,
+        waiting_len: usize,
+        second: *mut u8,
+        second_len: usize,
+        date: *const u8,
+        date_len: usize,
+        score: *const [u8; 20],
+        allowance: u64,
+    ) -> u64;
+    pub fn skywimple_write_file(
+        log: *const u8,
+        log_len: usize,
+        waiting: *mut u8,
+        waiting_len: usize,
+        date: *const u8,
+        date_len: usize,
+        slice: *const u8,
+        slice_len: usize,
+        dsize: usize,
+        psize: usize,
+        entry: *mut u8,
+        entry_len: usize,
+        scores: *mut u8,
+        scores_len: usize,
+    ) -> u32;
 }

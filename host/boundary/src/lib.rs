@@ -5,6 +5,7 @@ mod boundary;
 mod cards;
 mod changes;
 mod digest;
+mod files;
 mod index;
 mod refusal;
 mod report;
@@ -15,11 +16,12 @@ mod zeros;
 pub use cards::{is_card, search, Value};
 pub use changes::{difference, differences, Compared, Difference};
 pub use digest::{crc32, sha1, sha1_into};
+pub use files::{write_file, FILE_SCORES};
 pub use index::{look_up_by, rebuild, Place};
 pub use refusal::Refusal;
 pub use report::{report, sound_at};
 pub use request::{serve, Served, Session};
-pub use tree::{block_type, fill, locate, read, walk, Filled, Run, Walked};
+pub use tree::{block_type, copy, fill, locate, read, walk, Filled, Run, Walked};
 pub use zeros::{cut, pad};
 
 /// The most sectors of a log: one more is refused with 3.

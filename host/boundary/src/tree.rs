@@ -120,7 +120,34 @@ pub fn walk(log: &[u8], waiting: &[u8], score: &[u8; 20], allowance: u64) -> Wal
     })
 }
 
-/// What a result of walk says: the number, the visits, and behind them the first doubtful sector.
+/// Copies all that a root reaches into a second log, for which nothing waits; the blocks that it
+/// stores have the date. A refusal keeps what was copied before it.
+pub fn copy(
+    log: &[u8],
+    waiting: &[u8],
+    second: &mut [u8],
+    date: &[u8],
+    score: &[u8; 20],
+    allowance: u64,
+) -> Walked {
+    // SAFETY: as above; `second` is lent to the call alone.
+    walked(unsafe {
+        boundary::skywimple_copy(
+            log.as_ptr(),
+            log.len(),
+            waiting.as_ptr(),
+            waiting.len(),
+            second.as_mut_ptr(),
+            second.len(),
+            date.as_ptr(),
+            date.len(),
+            score,
+            allowance,
+        )
+    })
+}
+
+/// What a result of walk or copy says: the number, the visits, and behind them the first doubtful sector.
 fn walked(result: u64) -> Walked {
     let sector = (result / 256 / 1_048_576) as usize;
     Walked {

@@ -3,17 +3,18 @@
 use std::io::Read;
 use std::path::Path;
 
-use boundary::{fill, sha1, Refusal};
+use boundary::{cut, fill, sha1, Refusal};
 
 use crate::contents;
 use crate::date::Dates;
+use crate::entry;
 use crate::escape;
 use crate::format::{sectors_of, Score};
 use crate::progress::Progress;
 use crate::session::{Answers, Client};
 use crate::status::{Failure, INPUT_OUTPUT};
 use crate::streams::Streams;
-use crate::tree_writer::{self, Ended, Shape, Written};
+use crate::tree_writer::{self, Ended, Shape, Store, Written};
 use crate::words;
 use crate::writer::Writer;
 
@@ -57,21 +58,38 @@ impl BlockStore {
         subject: Subject,
         streams: &mut Streams,
     ) -> Result<Written, Failure> {
-        let mut stored = 0;
-        let mut store = |kind, block: &[u8]| {
-            let score = self.store(kind, block, subject, streams)?;
-            stored += block.len();
-            self.progress.show_before(streams, || {
-                format!("{}: {stored} bytes stored", subject.doing)
-            });
-            Ok(score)
+        let mut storing = Storing {
+            log: self,
+            subject,
+            streams,
+            stored: 0,
         };
-        let written = tree_writer::write(shape, source, &mut store);
+        let written = tree_writer::write(shape, source, &mut storing);
         written.map_err(|ended| match ended {
             Ended::Source(e) => Failure::disk("read", subject.name, &e),
             Ended::Store(failure) => failure,
             Ended::Refused(refusal) => Failure::refused_about(refusal, subject.name.as_os_str()),
         })
+    }
+
+    /// Writes a slice of at most one leaf as a file. Where it is refused, the blocks before it are on disk
+    /// and stay.
+    fn write_leaf(
+        &mut self,
+        shape: &Shape,
+        slice: &[u8],
+        subject: Subject,
+        streams: &mut Streams,
+    ) -> Result<[u8; entry::LENGTH], Failure> {
+        let written = self.log.write_leaf(slice, shape.sizes(), streams);
+        match written.map_err(|failure| failure.and(UNSETTLED))? {
+            Ok(entry) => Ok(entry),
+            Err(refusal) => {
+                self.settle()?;
+                let length = cut(13, slice).unwrap_or(slice.len());
+                Err(self.refused(refusal, length, subject))
+            }
+        }
     }
 
     /// Stores one block. Where it is refused, those before it are on disk and stay.
@@ -92,7 +110,13 @@ impl BlockStore {
         }
     }
 
-    fn settle(&mut self) -> Result<(), Failure> {
+    /// How many sectors of the log are used, without what waits.
+    pub fn used(&self) -> usize {
+        self.log.sectors().1
+    }
+
+    /// Has all that was stored on disk.
+    pub fn settle(&mut self) -> Result<(), Failure> {
         let settled = self.log.settle();
         settled.map_err(|failure| failure.and(UNSETTLED))
     }
@@ -116,6 +140,41 @@ impl BlockStore {
         };
         let words = format!("{}: {}", subject.name.display(), words::midway(&words));
         Failure::new(refusal.number(), words)
+    }
+}
+
+/// The log while one thing is written to it, with its progress.
+struct Storing<'a, 'b> {
+    log: &'a mut BlockStore,
+    subject: Subject<'a>,
+    streams: &'a mut Streams<'b>,
+    stored: usize,
+}
+
+impl Storing<'_, '_> {
+    /// So many bytes more are stored.
+    fn show(&mut self, length: usize) {
+        self.stored += length;
+        let (doing, stored) = (self.subject.doing, self.stored);
+        let progress = &mut self.log.progress;
+        progress.show_before(self.streams, || format!("{doing}: {stored} bytes stored"));
+    }
+}
+
+impl Store for Storing<'_, '_> {
+    type Error = Failure;
+
+    fn store(&mut self, kind: u8, block: &[u8]) -> Result<Score, Failure> {
+        let score = self.log.store(kind, block, self.subject, self.streams)?;
+        self.show(block.len());
+        Ok(score)
+    }
+
+    fn write_leaf(&mut self, shape: &Shape, slice: &[u8]) -> Result<[u8; entry::LENGTH], Failure> {
+        let log = &mut *self.log;
+        let entry = log.write_leaf(shape, slice, self.subject, self.streams)?;
+        self.show(slice.len());
+        Ok(entry)
     }
 }
 
@@ -158,7 +217,7 @@ fn differs(name: &Path, offset: u64) -> Failure {
 mod tests {
     use super::*;
     use crate::format::SECTOR;
-    use crate::tree_writer::FILE;
+    use crate::tree_writer::{By, FILE};
 
     /// Whatever sector is damaged, and whatever else the entry leads to: it is seen.
     #[test]
@@ -166,7 +225,7 @@ mod tests {
         let mut log = vec![0; 400 * SECTOR];
         let mut client = Client::greet(&mut log).unwrap();
         let bytes: Vec<u8> = (0..100_000_u32).map(|at| (at % 251) as u8).collect();
-        let mut store = |kind, block: &[u8]| client.write(&mut log, kind, block);
+        let mut store = By(|kind, block: &[u8]| client.write(&mut log, kind, block));
         let mut written = tree_writer::write(&FILE, &mut &bytes[..], &mut store).unwrap();
         let name = Path::new("file");
         let check = |log: &[u8], written: &Written| {

@@ -7,8 +7,8 @@ use crate::format::MOST_SECTORS;
 use crate::status::{self, Failure, DONE, USAGE};
 use crate::streams::Streams;
 use crate::{
-    card, demo, diff, doubt, get, help, init, list, put, put_file, read, report, restore, save,
-    search, serve, walk,
+    card, copy, demo, diff, doubt, get, help, index, init, list, put, put_file, read, report,
+    restore, save, search, serve, walk,
 };
 
 pub struct Command {
@@ -36,7 +36,7 @@ const fn syntax(
     }
 }
 
-pub const COMMANDS: [Command; 16] = [
+pub const COMMANDS: [Command; 18] = [
     Command {
         name: "init",
         usage: "LOG --sectors N",
@@ -83,6 +83,14 @@ pub const COMMANDS: [Command; 16] = [
         run: doubt::run,
     },
     Command {
+        name: "index",
+        usage: "LOG [--adopt]",
+        summary: "make the index beside a log anew",
+        details: help::INDEX,
+        syntax: syntax(&["--adopt"], &[], &["LOG"], 1),
+        run: index::run,
+    },
+    Command {
         name: "report",
         usage: "LOG [--json | --map] [--svg FILE] [--width N] [--adopt]",
         summary: "say what a log holds and whether it is sound",
@@ -120,6 +128,20 @@ pub const COMMANDS: [Command; 16] = [
         run: walk::run,
     },
     Command {
+        name: "copy",
+        usage: "LOG ROOT LOG2 [--allowance N] [--date YYYYMMDD] [--adopt], \
+                or --all LOG LOG2 [--date YYYYMMDD] [--adopt]",
+        summary: "copy what a root reaches, or every sound block, to another log",
+        details: help::COPY,
+        syntax: syntax(
+            &["--all", "--adopt"],
+            &["--allowance", "--date"],
+            &["LOG", "LOG2"],
+            3,
+        ),
+        run: copy::run,
+    },
+    Command {
         name: "put-file",
         usage: "LOG FILE [--date YYYYMMDD] [--adopt]",
         summary: "store a file of any size, print its entry",
@@ -137,10 +159,15 @@ pub const COMMANDS: [Command; 16] = [
     },
     Command {
         name: "restore",
-        usage: "LOG ROOT DIR [--overwrite] [--adopt]",
+        usage: "LOG ROOT DIR [--limit N] [--overwrite] [--adopt]",
         summary: "write the files of a saved root to a folder",
         details: help::RESTORE,
-        syntax: syntax(&["--overwrite", "--adopt"], &[], &["LOG", "ROOT", "DIR"], 3),
+        syntax: syntax(
+            &["--overwrite", "--adopt"],
+            &["--limit"],
+            &["LOG", "ROOT", "DIR"],
+            3,
+        ),
         run: restore::run,
     },
     Command {

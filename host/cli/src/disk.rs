@@ -1,7 +1,7 @@
 //! What the program does to its files on disk. All of it goes through here, so that tests can have
 //! each step fail, and can take away again what was not synced.
 
-use std::fs::{self, File};
+use std::fs::{self, File, OpenOptions};
 use std::io::{self, ErrorKind};
 use std::os::unix::fs::FileExt;
 use std::path::Path;
@@ -14,6 +14,14 @@ pub fn create(path: &Path) -> io::Result<File> {
     #[cfg(test)]
     faults::create()?;
     File::create_new(path)
+}
+
+/// Opens a file, and nothing else of that name: the opening of a pipe would wait for its other end.
+pub fn open_file(path: &Path, options: &OpenOptions) -> io::Result<File> {
+    match fs::metadata(path)?.is_file() {
+        true => options.open(path),
+        false => Err(io::Error::new(ErrorKind::AlreadyExists, "it is not a file")),
+    }
 }
 
 /// Reads some bytes of a file at a place, and gives their count.

@@ -26,6 +26,13 @@ pub fn number(bytes: &[u8]) -> u64 {
     bytes.iter().fold(0, digit)
 }
 
+/// The score in 40 bytes.
+pub fn score_in(bytes: &[u8; LENGTH]) -> Score {
+    let mut score = [0; 20];
+    score.copy_from_slice(&bytes[20..]);
+    score
+}
+
 impl Entry {
     /// The entry in these bytes, none where there is no well-formed active one.
     pub fn parse(bytes: &[u8]) -> Option<Entry> {

@@ -175,7 +175,7 @@ fn nothing_acknowledged_is_lost() {
             store(&log).map_err(|(_, failure)| failure.words).unwrap();
             check(&log, &[0, 1, 2, 3]);
         });
-        assert_eq!(folder.files(), 2);
+        assert_eq!(folder.files(), 3, "log, mark and index");
         failed
     });
 }
@@ -440,6 +440,44 @@ fn a_printed_root_is_on_disk() {
         });
         failed
     });
+}
+
+/// Where a copy is told to be done, its root leads to everything, whatever is lost then; where a step fails,
+/// a root that is there does, and the next run goes on: in a blank log, and in one that is used.
+#[test]
+fn a_copied_root_has_all_below_it() {
+    for used in [false, true] {
+        every_fault(|step, how, lost| copied_on_failing_disk(used, step, how, lost));
+    }
+}
+
+/// Copies a root on a disk that fails. Whether it failed.
+fn copied_on_failing_disk(used: bool, step: usize, how: How, lost: Lost) -> bool {
+    let folder = Folder::with(0);
+    write_files(&folder);
+    let path = |name: &str| folder.0.join(name).into_os_string();
+    let on_second = |command: &str, words: &[OsString]| {
+        let words = [&[OsString::from(command), path("second.log")], words].concat();
+        quietly(|streams| command::run(&words, streams))
+    };
+    let root = on_good_disk(|| {
+        assert_eq!(on_second("init", &["--sectors".into(), "40".into()]), 0);
+        fs::write(folder.0.join("other"), block(8, 900)).unwrap();
+        assert!(!used || on_second("put", &[path("other")]) == 0);
+        answered(&folder, "save", None, &["first", "second"]).1
+    });
+    let copy = || answered(&folder, "copy", Some(&root), &["second.log"]).0;
+    let walk = || on_second("walk", &[(&root).into()]);
+    let mut status = 0;
+    let failed = on_failing_disk(step, how, lost, || status = copy());
+    assert_eq!(status, if failed { 74 } else { 0 });
+    on_good_disk(|| {
+        let held = on_second("get", &[(&root).into(), "--type".into(), "root".into()]);
+        assert_eq!(walk(), held, "{used} {step} {how:?} {lost:?}");
+        assert!(failed || held == 0);
+        assert_eq!((copy(), walk()), (0, 0));
+    });
+    failed
 }
 
 /// A file is restored whole or not at all, and nothing else is left.

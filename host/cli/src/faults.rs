@@ -196,6 +196,8 @@ pub enum Lost {
     Names,
     /// The second half of each write.
     Halves,
+    /// The first half of each write.
+    Fronts,
     /// Any of the sectors of each write, whole or in part, and any of the names, by this number.
     Torn(u64),
 }
@@ -241,6 +243,10 @@ impl Undo {
             } => {
                 let kept = match lost {
                     Lost::Nothing | Lost::Names => return,
+                    Lost::Fronts => {
+                        let front = &before[..before.len() / 2];
+                        return file.write_all_at(front, at).unwrap();
+                    }
                     Lost::All | Lost::Bytes => 0,
                     Lost::Halves => before.len() / 2,
                     Lost::Torn(_) => return tear(&file, at, &before, random),
@@ -289,12 +295,13 @@ fn tear(file: &File, at: u64, before: &[u8], random: &mut Random) {
 }
 
 /// All but the torn ones.
-pub const LOSSES: [Lost; 5] = [
+pub const LOSSES: [Lost; 6] = [
     Lost::Nothing,
     Lost::All,
     Lost::Bytes,
     Lost::Names,
     Lost::Halves,
+    Lost::Fronts,
 ];
 
 /// Does the work on a disk that fails at this step; then the machine stops. Whether it failed.

@@ -88,6 +88,16 @@ pub fn label(sector: &[u8]) -> Option<(u8, Score)> {
     Some((kind[0], hex::decode(str::from_utf8(score).ok()?)?))
 }
 
+/// The type and score of the block that starts at a sector of this number, by what its label says.
+pub fn start(sector: &[u8], number: usize) -> Option<(u8, Score)> {
+    let digits = &sector[front(sector)..][4..12];
+    let first: [u8; 4] = hex::decode(str::from_utf8(digits).ok()?)?;
+    match u32::from_be_bytes(first) as usize == number {
+        true => label(sector),
+        false => None,
+    }
+}
+
 /// The digits that a label has for a type and a score.
 pub fn digits(kind: u8, score: &Score) -> (String, String) {
     (hex::encode(&[kind]), hex::encode(score))

@@ -2,6 +2,7 @@
 
 use crate::arguments::Arguments;
 use crate::format::MOST_DATA;
+use crate::index_file;
 use crate::reader;
 use crate::session::Client;
 use crate::status::{Failure, DONE};
@@ -12,8 +13,10 @@ pub fn run(arguments: &Arguments, streams: &mut Streams) -> Result<u8, Failure> 
     let kind = arguments.kind()?;
     let count = arguments.number("--count")?.unwrap_or(MOST_DATA as u64);
     let count = u16::try_from(count).map_err(|_| Failure::usage("--count is 0 to 65535"))?;
-    let mut log = reader::read(arguments.path(0), arguments.flag("--adopt"), streams)?;
-    let mut client = Client::greet(&mut log)?;
+    let path = arguments.path(0);
+    let mut log = reader::read(path, arguments.flag("--adopt"), streams)?;
+    let hints = index_file::hints(path, kind, &score);
+    let mut client = Client::greet(&mut log)?.with_hints(hints);
     let block = client.read(&mut log, kind, &score, count);
     streams.answer(block.map_err(Failure::refused)?)?;
     Ok(DONE)

@@ -69,14 +69,28 @@ Restoring the log from a copy is better, where there is one. When you restore an
 newer mark: an older one cannot tell what is lost. Copy the mark first, then the log.
 ";
 
+pub const INDEX: &str = "\
+Writes LOG.index, where `serve` and `get` look first for a block: reading it then takes as long in a long
+log as in a short one. Prints how many blocks it has. There is seldom a need: the first writer of a log
+makes the index, each one keeps it and makes it anew where it is missing or another log's.
+An index is a hint. Each block is looked at before it counts, and where no hint holds true the log is looked
+through as without one: an index that is missing, old, damaged or another log's changes no answer, and
+only costs time. It need not be copied with the log, and may be removed while no writer runs. A file of
+that name that is no index is left alone (73); one that is empty or all zeros, as a power failure may leave
+an index, counts as missing.
+  --adopt    take a log without a good mark as it is, and mark it
+";
+
 pub const REPORT: &str = "\
 Prints sectors, used, records, doubtful and the verdict: sound (status 0) or notknown (status 32);
 then the first doubtful sector is told on standard error, with its byte in the file.
   --json      prints the same as one JSON object, with first_doubtful: the sector, or null
   --map       draws the log: # sound, ? doubtful, . blank; a cell with any doubtful sector is ?, and
               the number before a row is that of its first sector
-  --svg FILE  writes the map as a picture; overwrites FILE only if it is a picture. With - it goes to
-              standard output, in place of the lines above
+  --svg FILE  writes the map as a picture; replaces FILE only if it is a picture. It is written under
+              another name, synced, and then renamed; where the program is ended at once (kill -9), a
+              file .skywimple-picture-* may stay beside it. With - it goes to standard output, in place
+              of the lines above
   --width N   cells in a row (default: what COLUMNS, else the terminal, else 80 has room for)
   --adopt     take a log without a good mark as it is, and mark it
 ";
@@ -116,6 +130,32 @@ terminal the time gone by and the time expected are shown.
   --adopt        take a log without a good mark as it is, and mark it
 ";
 
+pub const COPY: &str = "\
+Copies all that ROOT, a score of 40 hex digits, reaches in LOG to LOG2: each block behind those that it
+links to, the root last. With --all every sound block of LOG, in the order of the log. LOG is only read.
+LOG2 is written as `put` writes a log, and made where it is missing, as long as LOG or as its blocks need.
+A block that LOG2 holds already is not stored twice: where a copy ended or was killed, run the same command
+again; a second run adds nothing. Copied blocks have the date of the copy, not the one that they have in
+LOG. What is below a root is synced before the root is written. A long copy goes in rounds, of 4,096 visits
+first and four times as many each time: what the rounds so far settled stays, and the next run begins at the
+root again and stores what is missing. At the end LOG2 is read anew, and walked from the root or looked
+through for each block, before it is told that the copy is done.
+Prints the visits and how many sectors were appended to LOG2. A refusal names its block as `walk` does (11,
+12 with the first doubtful sector, 13, 16, 18, 20, 21, 23); 14 (full) and 15 (clash) speak of LOG2. What was
+copied before stays and is sound. Where the root itself is refused, no LOG2 is made.
+When to copy with --all: once a log had damage, it answers \"not known\" (12) for every block that it does
+not hold, for ever, also when all its blocks were stored again. LOG2 has no damage, and says \"not held\"
+(11) there. So store again first what was lost, as far as there is a source: in LOG2 a block that was lost
+in LOG is \"not held\". --all prints how many blocks of LOG are in LOG2, how many sectors were appended, and how
+many doubtful ones were left behind; where there are any, the status is 32. A block that is refused because
+LOG2 has another of its score (15) is told and not counted; the others are copied all the same, it is not told
+that the copy is done, and the status is 15, whatever else there is.
+  --all            every sound block, in place of a root
+  --allowance N    the most visits, at most 1000000 (the default)
+  --date YYYYMMDD  the date of the copies (see put)
+  --adopt          take LOG2 without a good mark as it is, and mark it
+";
+
 pub const PUT_FILE: &str = "\
 Stores FILE, or standard input (`-`), as a tree: leaves of 57,344 bytes, over them pointer blocks of
 2,867 scores, of the least depth; each without the zeros at its end, so that zeros take no room. When
@@ -153,6 +193,11 @@ told on standard error with the refusal, its block and the log's first doubtful 
 written, and the status is 33. A file of which the name is lost is named name-lost-N: it was the file N
 of those that `save` was given; the status is 33 then too. Where the root itself cannot be read, or `save` did not make it,
 nothing is written; the status is the refusal's number (16 for a root that `save` did not make).
+A file takes its size from its entry, and blocks may stand in it many times: a root that someone else
+made may lead to more bytes than any disk has. A file that goes beyond the limit is not written, is told,
+and the status is 33. Long runs of zeros are left as holes, which take no room where the file system has
+them.
+  --limit N    the most bytes of all files together (default 4294967296, which is 4 GiB)
   --overwrite  replace files that are there; folders, the log and its mark never
   --adopt      take a log without a good mark as it is, and mark it
 ";

@@ -32,6 +32,11 @@ pub fn run(arguments: &Arguments, _: &mut Streams) -> Result<u8, Failure> {
         failure.words.insert_str(0, &most);
         return Err(failure);
     }
+    make(path, sectors).map(|()| DONE)
+}
+
+/// Makes a log of so many sectors, and its mark.
+pub fn make(path: &Path, sectors: usize) -> Result<(), Failure> {
     let name = path.as_os_str().as_encoded_bytes();
     if name.ends_with(mark::SUFFIX.as_bytes()) {
         return Err(Failure::usage("a name that ends in .mark is a mark's name"));
@@ -55,7 +60,7 @@ pub fn run(arguments: &Arguments, _: &mut Streams) -> Result<u8, Failure> {
         let _ = fs::remove_file(&mark_path);
         let _ = fs::remove_file(path);
     }
-    made.map(|()| DONE)
+    made
 }
 
 /// Writes real zeros, so that the room is there, and has them on disk.

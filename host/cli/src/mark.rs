@@ -5,7 +5,7 @@
 //! CRC-32 of the two before.
 
 use std::ffi::OsString;
-use std::fs::{self, File, Metadata, Permissions};
+use std::fs::{self, File, Metadata, OpenOptions, Permissions};
 use std::io::{self, Read};
 use std::os::unix::fs::{fchown, MetadataExt, PermissionsExt};
 use std::path::{Path, PathBuf};
@@ -69,7 +69,8 @@ fn through_links(path: &Path) -> PathBuf {
     path
 }
 
-fn with_suffix(path: &Path, suffix: &str) -> PathBuf {
+/// The path with these letters at its end.
+pub fn with_suffix(path: &Path, suffix: &str) -> PathBuf {
     let mut name = OsString::from(path);
     name.push(suffix);
     PathBuf::from(name)
@@ -101,7 +102,8 @@ impl Mark {
 
     /// Looks what stands in the mark's place.
     pub fn find(path: &Path) -> Result<Found, Failure> {
-        let text = match File::open(path).and_then(read_front) {
+        let opened = disk::open_file(path, OpenOptions::new().read(true));
+        let text = match opened.and_then(read_front) {
             Ok(text) => text,
             Err(e) if e.kind() == io::ErrorKind::NotFound => return Ok(Found::Missing),
             Err(e) => return Err(Failure::disk("read the mark", path, &e)),

@@ -47,13 +47,14 @@ pub fn may_write(log: &Path, file: &Path, kind: &Kind) -> Result<(), Failure> {
 
 /// Puts these bytes in the place of a file, all or nothing, and on disk; the file before it stays until
 /// then, and where this fails. Of a link it is the file that it leads to. A pipe is written to.
-pub fn replace(file: &Path, bytes: &[u8]) -> Result<(), Failure> {
+pub fn replace(file: &Path, bytes: &[u8], kind: &Kind) -> Result<(), Failure> {
     let like = fs::metadata(file).ok();
     if like.as_ref().is_some_and(|like| !like.is_file()) {
         return fs::write(file, bytes).map_err(|e| Failure::disk("write", file, &e));
     }
     let path = mark::resolved(file);
-    let new = path.with_file_name(format!(".skywimple-page-{}", unique::name()));
+    let name = format!(".skywimple-{}-{}", kind.name, unique::name());
+    let new = path.with_file_name(name);
     let replaced = disk::create(&new).and_then(|made| {
         let written = disk::write(&made, bytes, 0)
             .and_then(|()| like.map_or(Ok(()), |like| mark::keep_access(&made, &like)))

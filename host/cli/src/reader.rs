@@ -8,6 +8,7 @@ use boundary::Session;
 use crate::date::NO_DAY;
 use crate::format::{used, SECTOR};
 use crate::held;
+use crate::index_file::Index;
 use crate::lock;
 use crate::log_file::{fits, is_file, load};
 use crate::mark::Mark;
@@ -47,6 +48,8 @@ pub struct Reader {
     path: PathBuf,
     mark: Mark,
     bytes: Vec<u8>,
+    /// The index beside it, as it was when the log was opened, and with what came since.
+    index: Index,
 }
 
 impl Reader {
@@ -59,11 +62,13 @@ impl Reader {
         fits(path, mark, &bytes)?;
         bytes.truncate(used(&bytes) * SECTOR);
         bytes.shrink_to_fit();
+        let index = Index::read(path, &bytes);
         Ok(Reader {
             file,
             path: path.to_path_buf(),
             mark,
             bytes,
+            index,
         })
     }
 
@@ -95,6 +100,7 @@ impl Reader {
         self.bytes.resize(self.bytes.len().max(end), 0);
         self.bytes[start..end].copy_from_slice(&bytes);
         self.mark = mark;
+        self.index.extend(&self.bytes);
         used(&self.bytes) * SECTOR == self.bytes.len()
     }
 }
@@ -115,9 +121,11 @@ impl Answers for Reader {
         let log = &mut self.bytes[..lent];
         let mut unsound = Vec::new();
         loop {
-            let served = boundary::serve(session, message, &NO_DAY, log, &mut [], &mut [], reply);
+            let index = self.index.lent();
+            let served = boundary::serve(session, message, &NO_DAY, log, &mut [], index, reply);
             if served.outcome.is_ok() {
-                if let Some(damaged) = held::damaged(log, &self.file, message, reply) {
+                let block = session::stored(message, reply);
+                if let Some(damaged) = held::damaged(log, &self.file, block) {
                     streams.tell(&held::words(&damaged, &self.path));
                     unsound.push(damaged.take(log));
                     continue;

@@ -1,7 +1,6 @@
 //! `report`: the log's numbers and verdict, and its map.
 
 use std::ffi::OsStr;
-use std::fs;
 use std::path::Path;
 
 use crate::arguments::Arguments;
@@ -113,7 +112,7 @@ fn draw(
         None => Ok(()),
         Some(Picture::Alone) => streams.answer(picture().as_bytes()),
         Some(Picture::File(file)) => {
-            fs::write(file, picture()).map_err(|e| Failure::disk("write", Path::new(file), &e))
+            output_file::replace(Path::new(file), picture().as_bytes(), &PICTURE)
         }
     }
 }

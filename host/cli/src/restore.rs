@@ -10,7 +10,7 @@ use boundary::Refusal;
 use crate::arguments::Arguments;
 use crate::contents::{self, Stopped};
 use crate::disk;
-use crate::entry;
+use crate::entry::{self, Entry};
 use crate::escape;
 use crate::hex;
 use crate::interrupt::Held;
@@ -26,10 +26,17 @@ use crate::words;
 
 const INTERRUPTED: &str = "interrupted; the files that were restored before are whole";
 
+/// The most bytes of all files together, unless another limit is given: eight times those of the longest
+/// log. A tree may lead to far more, since its blocks may stand in it many times.
+const LIMIT: u64 = 1 << 32;
+
 /// Where files are restored to.
 struct Target<'a> {
     folder: &'a Path,
     overwrite: bool,
+    limit: u64,
+    /// The bytes of the files restored so far.
+    bytes: u64,
     held: Held,
     progress: Progress,
 }
@@ -37,12 +44,15 @@ struct Target<'a> {
 pub fn run(arguments: &Arguments, streams: &mut Streams) -> Result<u8, Failure> {
     let root = arguments.score(1)?;
     let path = arguments.path(0);
+    let limit = arguments.number("--limit")?.unwrap_or(LIMIT);
     let mut log = reader::read(path, arguments.flag("--adopt"), streams)?;
     let saved = saved::open(&mut log, &root)?;
     let names = names_for(&saved.files);
     let mut target = Target {
         folder: arguments.path(2),
         overwrite: arguments.flag("--overwrite"),
+        limit,
+        bytes: 0,
         held: Held::start(),
         progress: Progress::start(),
     };
@@ -143,6 +153,9 @@ impl Target<'_> {
                 return Ok(Some(format!("its entry cannot be read: {words}")));
             }
         };
+        if let Some(why) = self.beyond_limit(entry) {
+            return Ok(Some(why));
+        }
         let temporary = self.path(&format!(".skywimple-restore-{}", unique::name()));
         let written = self.write(log, entry, &temporary, doing, streams);
         let ended = match written {
@@ -156,7 +169,21 @@ impl Target<'_> {
         Ok(ended?.map(|stopped| not_whole(log, entry, stopped)))
     }
 
-    /// Writes a file under a temporary name, as far as it can be read, and has it on disk.
+    /// Why a file is too long to be restored, if it is: its entry alone says how long it is.
+    fn beyond_limit(&self, entry: &[u8; entry::LENGTH]) -> Option<String> {
+        let size = Entry::parse(entry)?.size;
+        let Target { limit, bytes, .. } = self;
+        let all = bytes.saturating_add(size);
+        (all > *limit).then(|| {
+            format!(
+                "it has {size} bytes, and with the {bytes} bytes restored before it more than the \
+                 limit of {limit}. `--limit {all}` would restore it too."
+            )
+        })
+    }
+
+    /// Writes a file under a temporary name, as far as it can be read, and has it on disk. Pieces that are
+    /// all zeros become holes.
     fn write(
         &mut self,
         log: &[u8],
@@ -167,10 +194,13 @@ impl Target<'_> {
     ) -> Result<Option<Stopped>, Failure> {
         let failed = |e| Failure::disk("write", temporary, &e);
         let file = disk::create(temporary).map_err(failed)?;
-        let mut written = 0;
+        let (mut written, mut length) = (0, 0);
         let ended = contents::pieces(log, entry, |piece| {
             self.held.check(INTERRUPTED)?;
-            disk::write(&file, piece, written).map_err(failed)?;
+            if piece.iter().any(|byte| *byte != 0) {
+                disk::write(&file, piece, written).map_err(failed)?;
+                length = written + piece.len() as u64;
+            }
             written += piece.len() as u64;
             let all = contents::size(entry);
             self.progress
@@ -178,7 +208,11 @@ impl Target<'_> {
             Ok(())
         })?;
         if ended.is_none() {
+            if length < written {
+                disk::write(&file, &[0], written - 1).map_err(failed)?;
+            }
             disk::sync_data(&file).map_err(failed)?;
+            self.bytes += written;
         }
         Ok(ended)
     }

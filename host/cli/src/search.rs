@@ -278,7 +278,7 @@ fn write(
         if page.is_answer() {
             return streams.answer(drawn.as_bytes());
         }
-        output_file::replace(page.file, drawn.as_bytes())?;
+        output_file::replace(page.file, drawn.as_bytes(), &PAGE)?;
     }
     let text = match arguments.flag("--json") {
         true => findings.json(),

@@ -43,6 +43,8 @@ pub trait Answers {
 pub struct Client {
     session: Session,
     reply: Vec<u8>,
+    /// What reads of a log in memory are lent as an index.
+    index: Vec<u8>,
 }
 
 impl Client {
@@ -51,6 +53,7 @@ impl Client {
         let mut client = Client {
             session: Session::Fresh,
             reply: vec![0; REPLY],
+            index: Vec::new(),
         };
         client.ask(log, &HELLO).map_err(Failure::refused)?;
         Ok(client)
@@ -64,7 +67,13 @@ impl Client {
         Ok(Client {
             session: served.session,
             reply,
+            index: Vec::new(),
         })
+    }
+
+    /// The same session, whose reads of a log in memory go by these hints first.
+    pub fn with_hints(self, index: Vec<u8>) -> Client {
+        Client { index, ..self }
     }
 
     /// Stores a block of at most 65,529 bytes, which is on disk once the log is settled. Gives its
@@ -95,13 +104,14 @@ impl Client {
         let mut waiting = vec![0; boundary::MOST_WAITING * crate::format::SECTOR];
         let mut ask = |message: &[u8]| {
             let reply = &mut self.reply;
+            let index = &mut [];
             serve(
                 self.session,
                 message,
                 &NO_DAY,
                 log,
                 &mut waiting,
-                &mut [],
+                index,
                 reply,
             )
             .outcome
@@ -126,7 +136,8 @@ impl Client {
     /// Asks of a log with nothing waiting, and gives the reply's body.
     fn ask(&mut self, log: &mut [u8], message: &[u8]) -> Result<&[u8], Refusal> {
         let reply = &mut self.reply;
-        let served = serve(self.session, message, &NO_DAY, log, &mut [], &mut [], reply);
+        let index = &mut self.index;
+        let served = serve(self.session, message, &NO_DAY, log, &mut [], index, reply);
         self.session = served.session;
         served.outcome?;
         Ok(&whole_reply(&self.reply)[4..])

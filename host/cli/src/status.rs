@@ -37,7 +37,7 @@ pub const TABLE: [(&str, &str); 14] = [
     ),
     (
         "32",
-        "report, list: part of the log is doubtful, the verdict is notknown",
+        "report, list, copy --all: part of the log is doubtful, the verdict is notknown",
     ),
     (
         "33",
@@ -52,7 +52,7 @@ pub const TABLE: [(&str, &str); 14] = [
     ("69", "./skywimple: the program could not be built"),
     (
         "73",
-        "init, restore, --svg or --html would overwrite a file, or the log",
+        "init, index, restore, --svg or --html would overwrite a file, or the log",
     ),
     ("74", "reading or writing failed"),
     ("75", "another writer holds the log"),

@@ -42,6 +42,13 @@ impl Streams<'_> {
         self.progress = true;
     }
 
+    /// Shows a person what is being done.
+    pub fn working(&mut self, line: &str) {
+        if self.err_terminal {
+            self.show_progress(line);
+        }
+    }
+
     pub fn clear_progress(&mut self) {
         if self.progress {
             let _ = write!(self.err, "\r\x1b[K");

@@ -1,14 +1,12 @@
 //! `walk`: visits every block below a root.
 
-use std::io::{self, Write};
-use std::sync::atomic::{AtomicU64, Ordering};
-use std::sync::mpsc::{self, Receiver, RecvTimeoutError};
-use std::thread;
+use std::sync::atomic::Ordering;
 use std::time::{Duration, Instant};
 
 use boundary::{walk, Refusal};
 
 use crate::arguments::Arguments;
+use crate::clock;
 use crate::format::{kind_name, Score};
 use crate::hex;
 use crate::reader;
@@ -19,7 +17,7 @@ use crate::trail::{self, Stop, Trail};
 use crate::words;
 
 /// The most visits a walk may be allowed, and the usual allowance.
-const ALLOWANCE: u64 = 1_000_000;
+pub const ALLOWANCE: u64 = 1_000_000;
 
 pub fn run(arguments: &Arguments, streams: &mut Streams) -> Result<u8, Failure> {
     let score = arguments.score(1)?;
@@ -27,7 +25,7 @@ pub fn run(arguments: &Arguments, streams: &mut Streams) -> Result<u8, Failure> 
     let mut log = reader::read(arguments.path(0), arguments.flag("--adopt"), streams)?;
     let mut trail = None;
     let walked = if streams.err_terminal {
-        with_clock(|expected| {
+        clock::with_clock("walking", |expected| {
             trail = follow(&log, &score, allowance);
             if let Some(time) = trail.as_ref().and_then(|trail| estimate(&mut log, trail)) {
                 expected.store(time.as_secs() + 1, Ordering::Relaxed);
@@ -44,12 +42,13 @@ pub fn run(arguments: &Arguments, streams: &mut Streams) -> Result<u8, Failure> 
     };
     let trail = trail.or_else(|| follow(&log, &score, allowance));
     let stop = trail.filter(|trail| trail.walked == walked);
-    refused(refusal, visits, stop.map(|trail| trail.at), streams)
+    let stop = stop.map(|trail| trail.at);
+    refused("walking", refusal, visits, stop, streams)
 }
 
 /// The trail of a walk. None where more visits are asked for than any walk has: that is refused at
 /// once, and the trail might go on for ever.
-fn follow(log: &[u8], score: &Score, allowance: u64) -> Option<Trail> {
+pub fn follow(log: &[u8], score: &Score, allowance: u64) -> Option<Trail> {
     match allowance {
         0..=ALLOWANCE => trail::follow(log, score, allowance),
         _ => None,
@@ -57,14 +56,15 @@ fn follow(log: &[u8], score: &Score, allowance: u64) -> Option<Trail> {
 }
 
 /// Names the block that was refused, where it is, and where the doubt begins.
-fn refused(
+pub fn refused(
+    doing: &str,
     refusal: Refusal,
     visits: u64,
     stop: Option<Stop>,
     streams: &mut Streams,
 ) -> Result<u8, Failure> {
     let mut answer = format!("visits={visits}\n");
-    let mut at = format!("walking stopped at visit {visits}");
+    let mut at = format!("{doing} stopped at visit {visits}");
     if let Some(Stop { kind, score, place }) = &stop {
         let (kind, score) = (kind_name(*kind), hex::encode(score));
         answer += &format!("type={kind}\nscore={score}\n");
@@ -91,35 +91,4 @@ fn estimate(log: &mut [u8], trail: &Trail) -> Option<Duration> {
     };
     let time = look_up()?.min(look_up()?);
     Some(time.mul_f64(trail.passed as f64 / sector.max(1) as f64))
-}
-
-/// Does the work while a second thread shows on the terminal how long it takes, and how many
-/// seconds are expected once the work has said so.
-fn with_clock<R>(work: impl FnOnce(&AtomicU64) -> R) -> R {
-    let (done, ended) = mpsc::channel();
-    let expected = AtomicU64::new(0);
-    thread::scope(|scope| {
-        // Where no thread is to be had, the work goes on without a clock.
-        let _ = thread::Builder::new().spawn_scoped(scope, || clock(ended, &expected));
-        let result = work(&expected);
-        drop(done);
-        result
-    })
-}
-
-fn clock(ended: Receiver<()>, expected: &AtomicU64) {
-    let start = Instant::now();
-    let mut err = io::stderr();
-    let mut shown = false;
-    while ended.recv_timeout(Duration::from_millis(200)) == Err(RecvTimeoutError::Timeout) {
-        let seconds = start.elapsed().as_secs();
-        let of = match expected.load(Ordering::Relaxed) {
-            0 => String::new(),
-            expected => format!(" of about {expected}"),
-        };
-        shown |= write!(err, "\r\x1b[Kwalking for {seconds}{of} s").is_ok();
-    }
-    if shown {
-        let _ = write!(err, "\r\x1b[K");
-    }
 }

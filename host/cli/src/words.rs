@@ -228,6 +228,22 @@ pub fn full(log: &str, sectors: usize, used: usize, needed: usize) -> String {
     told(Refusal::NoRoom, Some(&advice))
 }
 
+/// Refusal 14 of a log of so many sectors, with so many used, that a tree is copied to.
+pub fn full_of_copies(log: &str, sectors: usize, used: usize) -> String {
+    let lack = format!("the next block takes more than the {} left", sectors - used);
+    let more = A_MEGABYTE.min(MOST_SECTORS - sectors) * SECTOR;
+    let advice = match more {
+        0 => format!(
+            "Nothing was stored. No log has more than {{limit}} sectors ({lack}): copy to another one."
+        ),
+        _ => format!(
+            "Nothing was stored ({lack}). Lengthen {log} with zeros while no writer runs \
+             (`truncate -s +{more} {log}`; at most {{limit}} sectors in all)."
+        ),
+    };
+    midway(&told(Refusal::NoRoom, Some(&advice)))
+}
+
 /// A refusal's words where other blocks of the same file may have been stored before.
 pub fn midway(words: &str) -> String {
     words.replace(

@@ -1,24 +1,26 @@
 //! A log that is written: its lock, what waits, what is appended, its mark.
 
 use std::fs::{File, OpenOptions};
-use std::io::ErrorKind;
+use std::io::{self, ErrorKind};
 use std::ops::Range;
 use std::os::unix::fs::{FileExt, MetadataExt};
 use std::path::{Path, PathBuf};
 use std::time::Duration;
 
-use boundary::{Refusal, Session, MOST_WAITING};
+use boundary::{sha1, Refusal, Session, Walked, FILE_SCORES, MOST_WAITING};
 
 use crate::date::Dates;
 use crate::disk;
+use crate::entry;
 use crate::escape;
-use crate::format::{used, BLANK, MOST_PARTS, SECTOR};
+use crate::format::{start, used, Score, BLANK, MOST_PARTS, SECTOR};
 use crate::held;
+use crate::index_file::Index;
 use crate::lock;
 use crate::log_file::{fits, is_file, load};
 use crate::mark::{self, Found, Mark};
 use crate::sectors::Loaded;
-use crate::session::{Answers, Served, REPLY, SYNC};
+use crate::session::{self, Answers, Served, REPLY, SYNC};
 use crate::status::{Failure, INPUT_OUTPUT, UNFIT};
 use crate::streams::Streams;
 
@@ -39,11 +41,18 @@ pub struct Writer {
     waits: usize,
     /// The dates of the blocks that are stored.
     dates: Dates,
+    /// The index beside the log, from the first request on.
+    index: Option<Index>,
+    /// What the writer of files is lent for scores, from its first call on.
+    scores: Vec<u8>,
 }
 
 /// The sectors that are lent behind the used part, where the file has so many: a waiting part that is
 /// full, and the longest block. So a write that finds no room finds none in the file.
 const ROOM: usize = MOST_WAITING + MOST_PARTS;
+
+/// What the proved archive was asked for, and the block that it stored or found, or the refusal.
+type Asked<A> = (A, Result<Option<(u8, Score)>, Refusal>);
 
 impl Writer {
     /// Opens a log that fits its mark. With `adopt`, a log without a good mark gets one.
@@ -84,6 +93,8 @@ impl Writer {
             waiting: vec![0; MOST_WAITING * SECTOR],
             waits: 0,
             dates: Dates::Today,
+            index: None,
+            scores: Vec::new(),
         };
         log.begin(loaded)?;
         if mark.is_none() {
@@ -163,26 +174,165 @@ impl Writer {
         reply: &mut [u8],
     ) -> Result<boundary::Served, Failure> {
         let date = self.dates.now()?;
+        let end = self.used + self.waits;
         let (log, waiting) = (&mut self.bytes, &mut self.waiting);
-        let served = boundary::serve(session, message, &date, log, waiting, &mut [], reply);
+        let index = self.index.as_mut().map_or(&mut [][..], Index::lent);
+        let served = boundary::serve(session, message, &date, log, waiting, index, reply);
         self.waits = used(&self.waiting);
-        self.keep()?;
+        self.keep_moved()?;
+        if let (true, Some(index)) = (self.used + self.waits > end, &mut self.index) {
+            if let Some((kind, score)) = session::stored(message, reply) {
+                index.stored(kind, &score, end);
+            }
+        }
         Ok(served)
     }
 
+    /// Asks the proved writer of files. What it stores waits.
+    fn ask_to_write(
+        &mut self,
+        slice: &[u8],
+        sizes: (usize, usize),
+    ) -> Result<Result<[u8; entry::LENGTH], Refusal>, Failure> {
+        let date = self.dates.now()?;
+        let end = self.used + self.waits;
+        self.scores.resize(FILE_SCORES, 0);
+        let (log, waiting, scores) = (&self.bytes, &mut self.waiting, &mut self.scores);
+        let written = boundary::write_file(log, waiting, &date, slice, sizes, scores);
+        self.waits = used(&self.waiting);
+        if let (true, Some(index)) = (self.used + self.waits > end, &mut self.index) {
+            if let Some((kind, score)) = written.ok().and_then(leaf_of) {
+                index.enter(kind, &score, end);
+            }
+        }
+        Ok(written)
+    }
+
+    /// Writes a slice of at most one leaf as a file, whose block is on disk once the log is settled. Gives its
+    /// entry, or the refusal.
+    pub fn write_leaf(
+        &mut self,
+        slice: &[u8],
+        sizes: (usize, usize),
+        streams: &mut Streams,
+    ) -> Result<Result<[u8; entry::LENGTH], Refusal>, Failure> {
+        assert!(slice.len() <= sizes.0, "more than a leaf");
+        let (written, _) = self.answer(streams, |log| {
+            let written = log.ask_to_write(slice, sizes)?;
+            Ok((written, written.map(leaf_of)))
+        })?;
+        Ok(written)
+    }
+
+    /// Asks until there is an answer. A block that a write took for held in the log is so on disk: where that
+    /// was damaged meanwhile, it is stored anew. Where the waiting part has no room, what is in it is settled
+    /// first. Gives what was asked for, and how many sectors were appended.
+    fn answer<A>(
+        &mut self,
+        streams: &mut Streams,
+        mut ask: impl FnMut(&mut Writer) -> Result<Asked<A>, Failure>,
+    ) -> Result<(A, usize), Failure> {
+        self.open_index(streams);
+        let before = self.used + self.waits;
+        let mut unsound = Vec::new();
+        loop {
+            let (answer, outcome) = ask(self)?;
+            let appended = self.used + self.waits - before;
+            if outcome == Err(Refusal::NoRoom) && self.waits > 0 {
+                self.settle()?;
+                continue;
+            }
+            if let (Ok(block), 0) = (outcome, appended) {
+                if let Some(damaged) = held::damaged(&self.bytes, &self.file, block) {
+                    // Damage is taken in with nothing waiting.
+                    self.settle()?;
+                    streams.tell(&held::words(&damaged, &self.path));
+                    unsound.push(damaged.take(&mut self.bytes));
+                    continue;
+                }
+            }
+            if appended == 0 {
+                unsound
+                    .into_iter()
+                    .for_each(|block| block.put_back(&mut self.bytes));
+            }
+            // A reply acknowledges, also where nothing was appended.
+            self.in_place()?;
+            return Ok((answer, appended));
+        }
+    }
+
+    /// Opens the index beside the log, or makes it.
+    pub fn open_index(&mut self, streams: &mut Streams) {
+        if self.index.is_none() {
+            let log = &self.bytes[..self.used * SECTOR];
+            self.index = Some(Index::keep(&self.path, &self.file, log, || {
+                let name = self.path.display();
+                streams.working(&format!("making the index of {name}"));
+            }));
+            streams.clear_progress();
+        }
+    }
+
+    /// Makes the index beside the log anew. Gives how many blocks are in it.
+    pub fn renew_index(&mut self) -> io::Result<usize> {
+        let log = &self.bytes[..self.used * SECTOR];
+        Index::renew(&self.path, &self.file, log)
+    }
+
     /// Has what a sync moved behind the log's used part on disk, then the mark.
-    fn keep(&mut self) -> Result<(), Failure> {
-        let moved = self.bytes[self.used * SECTOR..].chunks_exact(SECTOR);
-        let end = self.used + moved.take_while(|sector| *sector != BLANK).count();
+    fn keep_moved(&mut self) -> Result<(), Failure> {
+        let end = self.end();
         if end > self.used {
-            self.still_blank(self.used..end)?;
-            self.write(&self.bytes, self.used..end)?;
-            self.sync()?;
-            self.renew_mark(end)?;
-            self.used = end;
+            self.keep(end)?;
             self.lend();
+            if let Some(index) = &mut self.index {
+                index.save(&self.bytes[..end * SECTOR]);
+            }
         }
         Ok(())
+    }
+
+    /// The end of what stands behind the log's used part in memory.
+    fn end(&self) -> usize {
+        let moved = self.bytes[self.used * SECTOR..].chunks_exact(SECTOR);
+        self.used + moved.take_while(|sector| *sector != BLANK).count()
+    }
+
+    /// Has what stands behind the used part, up to a sector, on disk, then the mark.
+    fn keep(&mut self, end: usize) -> Result<(), Failure> {
+        self.still_blank(self.used..end)?;
+        self.write(&self.bytes, self.used..end)?;
+        self.sync()?;
+        self.renew_mark(end)?;
+        self.used = end;
+        Ok(())
+    }
+
+    /// Copies all that a root of another log reaches to this one, behind its used part. What is stored is on
+    /// disk then: all but the last block, which is the root where the copy ends, before that is written.
+    pub fn copy(&mut self, from: &[u8], root: &Score, allowance: u64) -> Result<Walked, Failure> {
+        self.settle()?;
+        let date = self.dates.now()?;
+        self.bytes.resize(self.sectors * SECTOR, 0);
+        let copied = boundary::copy(from, &[], &mut self.bytes, &date, root, allowance);
+        let end = self.end();
+        let starts = |at: &usize| start(&self.bytes[at * SECTOR..(at + 1) * SECTOR], *at).is_some();
+        let last = (self.used..end).rev().find(starts).unwrap_or(end);
+        for end in [last, end] {
+            if end > self.used {
+                self.keep(end)?;
+            }
+        }
+        self.lend();
+        if let Some(index) = &mut self.index {
+            let log = &self.bytes[..end * SECTOR];
+            index.extend(log);
+            index.save(log);
+        }
+        // Also where nothing was appended.
+        self.in_place()?;
+        Ok(copied)
     }
 
     /// Fails unless these sectors of the file are there and blank, as they were when the log was read.
@@ -238,9 +388,7 @@ impl Writer {
 }
 
 impl Answers for Writer {
-    /// A write is answered when its block waits, a sync when all of them are on disk. A block that a
-    /// write took for held in the log is so on disk: where that was damaged meanwhile, it is stored
-    /// anew. Where the waiting part has no room, what is in it is settled first.
+    /// A write is answered when its block waits, a sync when all of them are on disk.
     fn serve(
         &mut self,
         session: Session,
@@ -248,37 +396,16 @@ impl Answers for Writer {
         reply: &mut [u8],
         streams: &mut Streams,
     ) -> Result<Served, Failure> {
-        let before = self.used + self.waits;
-        let mut unsound = Vec::new();
-        loop {
-            let served = self.ask(session, message, reply)?;
-            let appended = self.used + self.waits - before;
-            if served.outcome == Err(Refusal::NoRoom) && self.waits > 0 {
-                self.settle()?;
-                continue;
-            }
-            if served.outcome.is_ok() && appended == 0 {
-                if let Some(damaged) = held::damaged(&self.bytes, &self.file, message, reply) {
-                    // Damage is taken in with nothing waiting.
-                    self.settle()?;
-                    streams.tell(&held::words(&damaged, &self.path));
-                    unsound.push(damaged.take(&mut self.bytes));
-                    continue;
-                }
-            }
-            if appended == 0 {
-                unsound
-                    .into_iter()
-                    .for_each(|block| block.put_back(&mut self.bytes));
-            }
-            // A reply acknowledges, also where nothing was appended.
-            self.in_place()?;
-            return Ok(Served {
-                outcome: served.outcome,
-                session: served.session,
-                appended,
-            });
-        }
+        let (served, appended) = self.answer(streams, |log| {
+            let served = log.ask(session, message, reply)?;
+            let block = || session::stored(message, reply);
+            Ok((served, served.outcome.map(|()| block())))
+        })?;
+        Ok(Served {
+            outcome: served.outcome,
+            session: served.session,
+            appended,
+        })
     }
 
     /// By a sync of its own, in a session that was greeted.
@@ -289,6 +416,12 @@ impl Answers for Writer {
         }
         Ok(())
     }
+}
+
+/// The type and score of the block of a file of one leaf. None for the empty block, which is in no sector.
+fn leaf_of(entry: [u8; entry::LENGTH]) -> Option<(u8, Score)> {
+    let score = entry::score_in(&entry);
+    (score != sha1(b"")).then_some((13, score))
 }
 
 /// Fails where the log has a second name: its mark stands beside one of them only.
@@ -353,6 +486,37 @@ mod tests {
                 log.settle().unwrap();
                 assert_eq!(log.sectors(), (2000, 2000));
                 assert_eq!(log.bytes().len(), 2000 * SECTOR);
+            });
+        });
+    }
+
+    /// A leaf that the writer of files found in memory and that is damaged on disk is stored anew, with a hint
+    /// in the index.
+    #[test]
+    fn a_leaf_that_was_damaged_meanwhile() {
+        let folder = Folder::new();
+        on_good_disk(|| {
+            assert_eq!(folder.run("init", &["--sectors", "40"]), 0);
+            quietly(|streams| {
+                let mut log = Writer::open(&folder.log(), false, streams).unwrap();
+                let mut write = |log: &mut Writer| {
+                    let sizes = (MOST_DATA, MOST_DATA);
+                    let written = log.write_leaf(&[7; 1000], sizes, streams).unwrap();
+                    log.settle().unwrap();
+                    written.unwrap()
+                };
+                let entry = write(&mut log);
+                assert_eq!((write(&mut log), log.used), (entry, 3), "a duplicate");
+                log.file.write_all_at(b"damage", 700).unwrap();
+                assert_eq!((write(&mut log), log.used), (entry, 6));
+                assert_eq!((write(&mut log), log.used), (entry, 6));
+                let index = log.index.as_mut().unwrap().lent().to_vec();
+                let score = entry::score_in(&entry);
+                let found = |log: &[u8]| boundary::look_up_by(log, &[], &index, 13, &score);
+                let place = found(&log.bytes).unwrap();
+                assert_eq!((place.sector, place.size), (3, 1000));
+                let hints = index.chunks(25).filter(|hint| hint[..20] == score);
+                assert_eq!(hints.count(), 2);
             });
         });
     }

@@ -3,6 +3,8 @@
 mod common;
 
 use std::fs;
+use std::os::unix::fs::symlink;
+use std::process::Command;
 
 use common::*;
 
@@ -118,6 +120,34 @@ fn a_picture() {
         nowhere.err.contains("cannot write no/such/folder.svg"),
         "{nowhere:?}"
     );
+}
+
+/// A picture is replaced whole, or stays.
+#[test]
+fn the_picture_before_stays() {
+    let place = damaged();
+    place.run(&["report", "log", "--svg", "map.svg"]).with(32);
+    let before = place.file("map.svg");
+    fs::hard_link(place.path("map.svg"), place.path("old.svg")).unwrap();
+    symlink("map.svg", place.path("link.svg")).unwrap();
+    let line = "trap '' XFSZ; ulimit -f 1; exec \"$0\" report log --svg map.svg --width 3";
+    let mut shell = Command::new("sh");
+    let shell = shell.args(["-c", line, PROGRAM]);
+    let output = shell.current_dir(&place.folder).output().unwrap();
+    assert_eq!(output.status.code(), Some(74), "{output:?}");
+    let told = String::from_utf8(output.stderr).unwrap();
+    assert!(told.contains("cannot write map.svg"), "{told}");
+    assert_eq!(place.file("map.svg"), before);
+    let names = ["link.svg", "log", "log.mark", "map.svg", "old.svg"];
+    assert!(only(&place.folder, &names), "nothing is left over");
+    // who has the old one open goes on reading it; a link is followed
+    let other = ["report", "log", "--svg", "link.svg", "--width", "3"];
+    place.run(&other).with(32);
+    assert_ne!(place.file("map.svg"), before);
+    assert_eq!(place.file("old.svg"), before);
+    let link = fs::symlink_metadata(place.path("link.svg")).unwrap();
+    assert!(link.is_symlink() && only(&place.folder, &names));
+    place.run(&["report", "log", "--svg", "/dev/null"]).with(32);
 }
 
 /// With a dash the picture, and nothing else, goes to standard output.

@@ -250,6 +250,8 @@ fn progress() {
     let root = place.put_as("root", &root);
     let walk = ["walk", "log", &root];
     shows(&place, &walk, &["\r\x1b[Kwalking for ", " of about "]);
+    let copy = ["copy", "log", &root, "log2"];
+    shows(&place, &copy, &["\r\x1b[Kcopying for "]);
     let read = ["read", "log", &hex(&far)];
     shows(&place, &read, &[" of 840000 bytes read"]);
 }

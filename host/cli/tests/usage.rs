@@ -10,9 +10,9 @@ use std::process::{Command, Stdio};
 
 use common::*;
 
-const COMMANDS: [&str; 16] = [
-    "init", "put", "get", "serve", "doubt", "report", "list", "read", "walk", "put-file", "save",
-    "restore", "diff", "search", "card", "demo",
+const COMMANDS: [&str; 17] = [
+    "init", "put", "get", "serve", "doubt", "index", "report", "list", "read", "walk", "put-file",
+    "save", "restore", "diff", "search", "card", "demo",
 ];
 
 #[test]

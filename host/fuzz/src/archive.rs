@@ -8,6 +8,13 @@ use second::{Refusal, Score, Session};
 use crate::changes::bytes_of;
 use crate::shams::Broken;
 
+/// What a request is lent besides the reply buffer.
+pub struct Buffers<'a> {
+    pub log: &'a mut [u8],
+    pub waiting: &'a mut [u8],
+    pub index: &'a mut [u8],
+}
+
 /// The archive's calls. Numbers are the description's refusals, 0 for none; what looks up a block
 /// tells of the first doubtful sector besides, `serve` in its reply.
 pub trait Archive {
@@ -21,6 +28,70 @@ pub trait Archive {
         waiting: &mut [u8],
         reply: &mut [u8],
     ) -> (u8, Session);
+
+    /// Whether its requests are tried with an index. Without one it is asked by `serve` alone.
+    fn takes_index(&self) -> bool {
+        false
+    }
+
+    /// One request that is lent an index: the number and the session afterwards.
+    fn serve_by(
+        &mut self,
+        session: Session,
+        message: &[u8],
+        date: &[u8],
+        lent: Buffers,
+        reply: &mut [u8],
+    ) -> (u8, Session) {
+        let Buffers {
+            log,
+            waiting,
+            index,
+        } = lent;
+        let (date, waiting) = (Some(date), Some(waiting));
+        second::request::serve_by(session, message, date, log, waiting, index, reply)
+    }
+
+    /// Where the block of a score and type starts, by an index: none for the empty block.
+    fn look_up_by(
+        &mut self,
+        log: &[u8],
+        waiting: &[u8],
+        index: &[u8],
+        kind: u8,
+        score: &Score,
+    ) -> Result<Option<usize>, Refusal> {
+        second::index::asked(log, waiting, index, kind, score)
+    }
+
+    /// Makes an index anew; gives the number.
+    fn rebuild(&mut self, log: &[u8], index: &mut [u8]) -> u8 {
+        second::index::rebuild(log, index)
+    }
+
+    /// Writes a slice as a file: its entry, or the number.
+    fn write_file(
+        &mut self,
+        log: &mut [u8],
+        waiting: &mut [u8],
+        date: &[u8],
+        slice: &[u8],
+        (dsize, psize): (usize, usize),
+    ) -> Result<[u8; 40], u8> {
+        second::writer::write_file(log, waiting, date, slice, dsize, psize)
+    }
+
+    /// Copies what a root reaches to a second log: how it ended, and the visits spent.
+    fn copy(
+        &mut self,
+        parts: (&[u8], &[u8]),
+        second: &mut [u8],
+        date: &[u8],
+        score: &Score,
+        allowance: u64,
+    ) -> (Result<(), Refusal>, u64) {
+        second::copy::copy(parts.0, parts.1, second, date, score, allowance)
+    }
 
     /// The report's length, or the number.
     fn report(&mut self, log: &[u8], buffer: &mut [u8]) -> Result<usize, u8>;

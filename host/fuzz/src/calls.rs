@@ -138,6 +138,7 @@ pub fn limits(
                 session: Session::Ready,
                 message: &message,
                 date: &dates::lent(random),
+                index: &[],
                 reply_len: LEAST_REPLY,
             };
             let lent = (&mut tested, &mut second);
@@ -156,6 +157,13 @@ pub fn limits(
             archive.walk(log, waiting, &ZERO_SCORE, 3),
             right,
         )?;
+        // the same log as the second one of a copy
+        let parts: (&[u8], &[u8]) = (&[], &[]);
+        let (log, date) = (&mut second.log, dates::lent(random));
+        let right = second::copy::copy(parts.0, parts.1, log, &date, &ZERO_SCORE, 3);
+        let log = &mut tested.log;
+        let answer = archive.copy(parts, log, &date, &ZERO_SCORE, 3);
+        compare.call("copy", number(&right.0), answer, right)?;
     }
     Ok(())
 }

@@ -3,7 +3,7 @@
 use second::ledger::Prediction;
 use second::{Refusal, Session};
 
-use crate::archive::Archive;
+use crate::archive::{Archive, Buffers};
 
 /// The longest reply buffer that is lent.
 pub const LONGEST_REPLY: usize = 65_600;
@@ -29,6 +29,8 @@ pub struct Asked<'a> {
     pub session: Session,
     pub message: &'a [u8],
     pub date: &'a [u8],
+    /// What is lent as an index to an archive that takes one.
+    pub index: &'a [u8],
     pub reply_len: usize,
 }
 
@@ -45,6 +47,8 @@ pub struct Compare {
     pattern: Vec<u8>,
     tested: Vec<u8>,
     second: Vec<u8>,
+    /// The index that the last request left.
+    pub index: Vec<u8>,
     /// How often each number was the answer, to requests and to other calls.
     pub requests: [u64; 27],
     pub calls: [u64; 27],
@@ -59,6 +63,7 @@ impl Compare {
             tested: pattern.clone(),
             second: pattern.clone(),
             pattern,
+            index: Vec::new(),
             requests: [0; 27],
             calls: [0; 27],
         }
@@ -76,23 +81,34 @@ impl Compare {
             session,
             message,
             date,
+            index,
             reply_len,
         } = asked;
         let (tested, right) = lent;
-        let (number, after) = archive.serve(
-            session,
-            message,
-            date,
-            &mut tested.log,
-            &mut tested.waiting,
-            &mut self.tested[..reply_len],
-        );
-        let second = second::request::serve(
+        let indexed = archive.takes_index();
+        self.index = if indexed { index.to_vec() } else { Vec::new() };
+        let mut index = self.index.clone();
+        let reply = &mut self.tested[..reply_len];
+        let (log, waiting) = (&mut tested.log[..], &mut tested.waiting[..]);
+        let (number, after) = match indexed {
+            false => archive.serve(session, message, date, log, waiting, reply),
+            true => {
+                let index = &mut index[..];
+                let lent = Buffers {
+                    log,
+                    waiting,
+                    index,
+                };
+                archive.serve_by(session, message, date, lent, reply)
+            }
+        };
+        let second = second::request::serve_by(
             session,
             message,
             Some(date),
             &mut right.log,
             Some(&mut right.waiting),
+            &mut self.index,
             &mut self.second[..reply_len],
         );
         self.requests[usize::from(second.0)] += 1;
@@ -117,6 +133,8 @@ impl Compare {
         } else if tested.waiting != right.waiting {
             let (tested, right) = (&tested.waiting, &right.waiting);
             Err(difference("the waiting part", tested, right))
+        } else if index != self.index {
+            Err(difference("the index", &index, &self.index))
         } else {
             match expected {
                 Some(expected) => against_ledger(expected, second, &self.second[..written]),

@@ -9,13 +9,15 @@ use second::sector::SECTOR;
 use second::Session;
 
 use crate::archive::Archive;
-use crate::compare::{buffer, hex, Asked, Compare, Parts, Trace, LONGEST_REPLY};
+use crate::compare::{buffer, hex, number, Asked, Compare, Parts, Trace, LONGEST_REPLY};
 use crate::crash::crashed;
 use crate::damage::{damaged, describe};
 use crate::dates;
+use crate::indexes;
 use crate::messages::{hello, Pool};
 use crate::random::Random;
 use crate::sham_ledger;
+use crate::writing;
 
 /// The sectors from which on a log may take the longest block.
 const LARGE_LOG: usize = 140;
@@ -32,6 +34,8 @@ struct History<'a> {
     second: Parts,
     /// How many of the next requests are the earlier program's, without a date.
     undated: usize,
+    /// The index that most requests are lent, and that writes keep.
+    index: Vec<u8>,
 }
 
 pub fn run(
@@ -66,9 +70,11 @@ pub fn run(
             0 => random.between(1, 14),
             _ => 0,
         },
+        index: vec![0; indexes::length(random)],
     };
     for _ in 0..random.between(10, 36) {
-        match random.below(100) {
+        match random.below(103) {
+            100..=102 => history.write_file(random, trace)?,
             0..=3 => history.stop(random, trace),
             4..=5 => history.grow(random, trace),
             6..=13 => history.damage(random, trace)?,
@@ -116,14 +122,22 @@ impl History<'_> {
         let session = self.account.ledger.session(origin);
         let reply_len = reply_len(random);
         let date = self.date(random);
+        let keeps = random.percent(60);
+        let index = match keeps {
+            true => self.index.clone(),
+            false => indexes::any(random, &self.pool.names(), self.tested.log.len() / SECTOR),
+        };
         trace.note(|| {
             format!(
-                "{origin:?} ({session:?}), {}, reply buffer {reply_len}, message of {}: {}",
+                "{origin:?} ({session:?}), {}, {}, reply buffer {reply_len}, message of {}: {}",
                 shown(&date),
+                indexes::shown(&index),
                 message.len(),
                 hex(message)
             )
         });
+        // Nothing is promised of a read by index where healing left two blocks of one score that differ.
+        let promised = !self.account.ledger.clashes() || message.get(2) != Some(&12);
         let told = sham_ledger::date(self.archive.broken(), date.as_deref());
         let expected = self.account.request(origin, message, told, reply_len);
         if let (Effect::Adds, Some(row)) = (expected.effect, self.account.ledger.rows().last()) {
@@ -136,28 +150,52 @@ impl History<'_> {
                     session,
                     message,
                     date,
+                    index: &index,
                     reply_len,
                 };
                 let lent = (&mut self.tested, &mut self.second);
-                self.compare
-                    .request(self.archive, asked, lent, Some(&expected))?
+                let expected = (promised || !self.archive.takes_index()).then_some(&expected);
+                self.compare.request(self.archive, asked, lent, expected)?;
+                if keeps && self.archive.takes_index() {
+                    self.index.clone_from(&self.compare.index);
+                }
             }
             (_, waits) => {
                 let Parts { log, waiting } = &mut self.second;
                 let lent = (&mut log[..], waits.then_some(&mut waiting[..]));
                 let date = date.as_deref();
-                let after = self
-                    .compare
+                self.compare
                     .earlier_request(session, message, date, reply_len, lent, &expected)?;
                 self.tested = self.second.clone();
-                after
             }
         };
+        self.against_account()
+    }
+
+    /// Compares the parts with the ledger's.
+    fn against_account(&self) -> Result<(), String> {
         let log = self.account.log();
         buffer("the log against the ledger's", &self.tested.log, log)?;
         let what = "the waiting part against the ledger's";
         let waiting = self.account.waiting().unwrap_or(&[]);
         buffer(what, &self.tested.waiting, waiting)
+    }
+
+    /// A call of the writer of files between two messages.
+    fn write_file(&mut self, random: &mut Random, trace: &mut Trace) -> Result<(), String> {
+        if self.account.waiting().is_none() {
+            return Ok(());
+        }
+        let (slice, sizes) = writing::slice(random);
+        let date = dates::lent(random);
+        trace.note(|| writing::shown(&slice, sizes, &date));
+        let expected = self.account.write_file(&date, &slice, sizes.0, sizes.1);
+        let Parts { log, waiting } = &mut self.tested;
+        let answer = self.archive.write_file(log, waiting, &date, &slice, sizes);
+        self.compare
+            .call("write_file", number(&expected), answer, expected)?;
+        self.second = self.tested.clone();
+        self.against_account()
     }
 
     /// Takes the parts over as the account has them.

@@ -10,6 +10,7 @@ use second::{Edition, Session};
 use crate::archive::Archive;
 use crate::compare::{buffer, hex, number, Asked, Compare, Parts, Trace};
 use crate::dates;
+use crate::indexes;
 use crate::messages::Pool;
 use crate::random::Random;
 
@@ -23,6 +24,7 @@ pub fn run(
     let mut tested = parts_lent(random, &mut pool, trace);
     let mut second = tested.clone();
     report(archive, compare, &tested.log, trace)?;
+    let mut index = indexes::any(random, &pool.names(), tested.log.len() / SECTOR);
     for _ in 0..random.between(2, 8) {
         let message = match random.below(20) {
             0..=10 => pool.read(random),
@@ -30,15 +32,26 @@ pub fn run(
             17 => whole(16, random.byte(), &[]),
             _ => pool.message(random),
         };
-        trace.note(|| format!("message of {}: {}", message.len(), hex(&message)));
+        trace.note(|| {
+            let index = indexes::shown(&index);
+            format!("message of {}, {index}: {}", message.len(), hex(&message))
+        });
         let asked = Asked {
             session: Session::Ready,
             message: &message,
             date: &dates::lent(random),
+            index: &index,
             reply_len: LEAST_REPLY,
         };
         let lent = (&mut tested, &mut second);
         compare.request(archive, asked, lent, None)?;
+        index = match random.percent(80) && archive.takes_index() {
+            true => compare.index.clone(),
+            false => indexes::any(random, &pool.names(), tested.log.len() / SECTOR),
+        };
+    }
+    for _ in 0..2 {
+        by_index(archive, compare, random, trace, &pool, &tested)?;
     }
     for _ in 0..2 {
         let entry = leaf_entry(random, &pool);
@@ -72,9 +85,37 @@ pub fn run(
     report(archive, compare, &tested.log, trace)
 }
 
+/// Look-up by an index, and an index made anew.
+fn by_index(
+    archive: &mut dyn Archive,
+    compare: &mut Compare,
+    random: &mut Random,
+    trace: &mut Trace,
+    pool: &Pool,
+    Parts { log, waiting }: &Parts,
+) -> Result<(), String> {
+    let mut index = indexes::any(random, &pool.names(), log.len() / SECTOR);
+    let (mut kind, mut score) = (pool.kind(random), pool.score(random).0);
+    if random.percent(70) {
+        (kind, score) = random.pick(&pool.names());
+    }
+    trace.note(|| {
+        let index = indexes::shown(&index);
+        format!("look up type {kind}, {}, {index}", hex(&score))
+    });
+    let right = second::index::asked(log, waiting, &index, kind, &score);
+    let answer = archive.look_up_by(log, waiting, &index, kind, &score);
+    compare.call("look_up_by", number(&right), answer, right)?;
+    trace.note(|| "the index made anew".to_string());
+    let mut other = index.clone();
+    let right = second::index::rebuild(log, &mut other);
+    compare.call("rebuild", right, archive.rebuild(log, &mut index), right)?;
+    buffer("the index", &index, &other)
+}
+
 /// A log and a waiting part: one run of sectors that is cut somewhere, or two that have nothing to do
 /// with each other.
-fn parts_lent(random: &mut Random, pool: &mut Pool, trace: &mut Trace) -> Parts {
+pub fn parts_lent(random: &mut Random, pool: &mut Pool, trace: &mut Trace) -> Parts {
     let mut log = sectors_laid(random, pool, trace);
     let mut waiting = match random.below(20) {
         0..=4 => Vec::new(),

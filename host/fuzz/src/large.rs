@@ -115,6 +115,7 @@ fn walk_and_read(
         session: Session::Ready,
         message: &never,
         date: &dates::lent(random),
+        index: &[],
         reply_len: LEAST_REPLY,
     };
     let lent = (&mut lent, &mut second);

@@ -1,10 +1,12 @@
 //! Compares an archive with the second program and with the ledger, on random histories, hostile
-//! logs, trees, calls, cards and what changed between two trees.
+//! logs, trees and their copies, calls, cards, what changed between two trees, files to be written, and
+//! look-ups by index.
 //!
 //! `fuzz --help` says what it takes. A case is a history with damage, and a hostile log, a tree,
-//! some calls, cards and pairs of trees besides.
+//! some calls, cards, pairs of trees and files besides.
 
 mod archive;
+mod broken;
 mod calls;
 mod cards;
 mod changes;
@@ -20,6 +22,7 @@ mod examples;
 mod growing_log;
 mod history;
 mod hostile;
+mod indexes;
 mod large;
 mod messages;
 mod plain_log;
@@ -27,13 +30,16 @@ mod progress;
 mod random;
 mod sham_cards;
 mod sham_changes;
+mod sham_copy;
 mod sham_dates;
 mod sham_doubt;
+mod sham_index;
 mod sham_ledger;
 mod sham_texts;
 mod sham_tools;
 mod sham_trees;
 mod sham_waiting;
+mod sham_writer;
 mod shams;
 mod shape;
 #[cfg(test)]
@@ -43,6 +49,9 @@ mod trees;
 mod under_test;
 #[cfg(test)]
 mod waiting;
+mod writing;
+#[cfg(test)]
+mod written;
 
 use std::panic::{catch_unwind, AssertUnwindSafe};
 use std::process::ExitCode;
@@ -58,7 +67,8 @@ const HELP: &str = "\
 fuzz [--seed S] [--cases N] [--seconds T] [--case I] [--only PART] [--plain | --sham NAME | --shams]
 
 Compares an archive with the second program and with the ledger: random histories with damage,
-hostile logs, trees, calls, cards and what changed between two trees, with blocks of both editions.
+hostile logs, trees and their copies, calls, cards, what changed between two trees, files to be written;
+with blocks of both editions, and with any bytes lent as an index.
 A case that fails is printed step by step, with the words that repeat it, and the status is 1.
   --seed S     the random numbers' seed (default 1)
   --cases N    how many cases (default 20000)
@@ -75,13 +85,15 @@ A case that fails is printed step by step, with the words that repeat it, and th
 type Part = fn(&mut dyn Archive, &mut Compare, &mut Random, &mut Trace) -> Result<(), String>;
 
 /// The parts, each with its name and of how many cases the last has one.
-const PARTS: [(&str, u64, Part); 8] = [
+const PARTS: [(&str, u64, Part); 10] = [
     ("history", 1, history::run),
     ("hostile", 1, hostile::run),
     ("tree", 2, trees::run),
     ("calls", 1, calls::run),
     ("cards", 2, cards::run),
     ("changes", 2, changes::run),
+    ("writer", 3, writing::run),
+    ("index", 1, indexes::run),
     ("large", 500, large::run),
     ("limits", 5_000, calls::limits),
 ];

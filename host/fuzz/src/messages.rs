@@ -56,6 +56,14 @@ impl Pool {
         self.blocks.push((data, score));
     }
 
+    /// Types and scores of blocks that are stored or may be.
+    pub fn names(&self) -> Vec<(u8, Score)> {
+        let stored = self.stored.iter().map(|(kind, _, score)| (*kind, *score));
+        let kinds = self.kinds.iter();
+        let may_be = kinds.flat_map(|kind| self.blocks.iter().map(move |(_, s)| (*kind, *s)));
+        stored.chain(may_be).collect()
+    }
+
     /// A block type, nearly always one of the pool's.
     pub fn kind(&self, random: &mut Random) -> u8 {
         match random.below(40) {

@@ -1,6 +1,7 @@
 //! The ordinary Rust log of the speed comparison as an archive under test: its reads, writes and syncs
 //! are tried, all else is the second program's.
 
+use plain::index::rebuild;
 use plain::log::{read, settle, store, Refused, Stored};
 use second::changes::{Compared, Part};
 use second::message::{accept, read_reply, refusal, sync_reply, write_reply, Lent, Request};
@@ -8,11 +9,15 @@ use second::query::Value;
 use second::tree::Run;
 use second::{Edition, Refusal, Score, Session};
 
-use crate::archive::{Archive, Second};
+use crate::archive::{Archive, Buffers, Second};
 
 pub struct PlainLog;
 
 impl Archive for PlainLog {
+    fn takes_index(&self) -> bool {
+        true
+    }
+
     fn serve(
         &mut self,
         session: Session,
@@ -22,6 +27,35 @@ impl Archive for PlainLog {
         waiting: &mut [u8],
         reply: &mut [u8],
     ) -> (u8, Session) {
+        let index = &mut [];
+        let lent = Buffers {
+            log,
+            waiting,
+            index,
+        };
+        self.serve_by(session, message, date, lent, reply)
+    }
+
+    fn rebuild(&mut self, log: &[u8], index: &mut [u8]) -> u8 {
+        match rebuild(log, index) {
+            Err(Refused::Number(number)) => number,
+            _ => 0,
+        }
+    }
+
+    fn serve_by(
+        &mut self,
+        session: Session,
+        message: &[u8],
+        date: &[u8],
+        lent: Buffers,
+        reply: &mut [u8],
+    ) -> (u8, Session) {
+        let Buffers {
+            log,
+            waiting,
+            index,
+        } = lent;
         let lent = Lent {
             log: log.len(),
             waiting: Some(waiting.len()),
@@ -29,7 +63,7 @@ impl Archive for PlainLog {
         let answer = match accept(session, message, Some(date), reply.len(), lent) {
             Ok(Request::Read { kind, score, count }) => {
                 let mut data = vec![0; count];
-                match read(log, waiting, kind, &score, &mut data) {
+                match read(log, waiting, index, kind, &score, &mut data) {
                     Ok(size) => Ok(read_reply(message[3], &data[..size])),
                     Err(Refused::Number(number)) => Err(Refusal::from(number)),
                     Err(Refused::NotKnown(sector)) => Err(Refusal::not_known(sector)),
@@ -39,7 +73,7 @@ impl Archive for PlainLog {
                 edition: Edition::Second(date),
                 kind,
                 data,
-            }) => match store(log, waiting, date, kind, data) {
+            }) => match store(log, waiting, index, date, kind, data) {
                 Stored::New(score) | Stored::Held(score) => Ok(write_reply(message[3], &score)),
                 Stored::Refused(number) => Err(Refusal::from(number)),
             },

@@ -8,12 +8,14 @@ use second::sector::SECTOR;
 use second::tree::Run;
 use second::{Edition, Refusal, Score, Session};
 
-use crate::archive::{Archive, Second};
+use crate::archive::{Archive, Buffers, Second};
 use crate::changes::bytes_of;
 use crate::sham_cards;
 use crate::sham_changes;
+use crate::sham_copy;
 use crate::sham_dates;
 use crate::sham_doubt;
+use crate::sham_index;
 use crate::sham_texts::{no_overlong, no_surrogate, no_zero, not_cut_off, not_past_end};
 use crate::sham_tools::{
     lower_label, only_blank_doubts, records_and_doubtful, refit, refuse, reply_data, report_text,
@@ -21,166 +23,9 @@ use crate::sham_tools::{
 };
 use crate::sham_trees;
 use crate::sham_waiting;
+use crate::sham_writer;
 
-/// Makes the enum of broken rules and the list of all.
-macro_rules! broken {
-    ($($name:ident),* $(,)?) => {
-        /// The rule that is broken.
-        #[derive(Clone, Copy, Debug, PartialEq, Eq)]
-        pub enum Broken { $($name),* }
-
-        pub const ALL: &[Broken] = &[$(Broken::$name),*];
-    };
-}
-
-broken! {
-    NotHeldWhileDoubtful,
-    LastBlockInsteadOfFirst,
-    DuplicateAppended,
-    NoCheckTest,
-    NoScoreTest,
-    StoresNothing,
-    RefusesEverything,
-    AnswersReadsAlike,
-    ErrorTagZero,
-    RefusalChangesSession,
-    RoomOffByOne,
-    ZeroInTextAccepted,
-    OverlongAccepted,
-    SurrogateAccepted,
-    PastEndAccepted,
-    CutOffAccepted,
-    ReadPadIgnored,
-    WritePadEndIgnored,
-    EntryPadEndIgnored,
-    WalkJudgesInactive,
-    HoleReadAsZeros,
-    WorksOnceThenPretends,
-    InventedVisits,
-    ReportCountsUsedAsRecords,
-    ReportWithoutPlaceTest,
-    ReportWithoutPartsTest,
-    ReportWithoutCountTest,
-    ReportWithoutTypeTest,
-    ReportWithoutAgreementTest,
-    ReportWithoutDateTest,
-    ReportWithoutRestTest,
-    ReportWithoutCheckTest,
-    ReportWithoutScoreTest,
-    BlankHoleIsNoDoubt,
-    CollisionTakenAsDuplicate,
-    FreshGoodbyeLeavesOpen,
-    WritesPastReply,
-    CountOffByOne,
-    CapitalHexAccepted,
-    BytesCutFromPointers,
-    WalkOneNestMore,
-    WalkOneNestLess,
-    WalkAllowanceBeforeNest,
-    WalkZeroScoreNoVisit,
-    WalkNoCountTest,
-    WalkHoleAsZeros,
-    WalkPartEntryLost,
-    WalkLooksAheadForIllFormed,
-    WalkSkipsIllFormed,
-    WalkDataOneDeeper,
-    WalkNoMultipleTest,
-    WalkPadsPointers,
-    LocateRunIntoNextLeaf,
-    LocateEntryBeforePage,
-    FillHoleAsZeros,
-    FillStopsAtTheLeaf,
-    FillClearsTheRest,
-    DoubtAtLastSector,
-    DoubtAtLastOfFirstRun,
-    DoubtAtEndOfUsedPart,
-    DoubtSkipsBlankSectors,
-    DoubtCountedFromOne,
-    DoubtNotTold,
-    DoubtInDecimal,
-    DoubtInCapitals,
-    DoubtInFourDigits,
-    DoubtWithoutZeros,
-    NotHeldTellsOfSector,
-    LocateDropsDoubt,
-    WalkDropsDoubt,
-    SyncForgetsLastSector,
-    SyncLeavesWaiting,
-    SyncBlanksUsedAlone,
-    SyncAnsweredAtOnce,
-    SyncAsksRoomForAll,
-    SyncMovesWhatFits,
-    GoodbyeSettles,
-    SettlesWhenFull,
-    WritesToTheLog,
-    WaitingNumberedFromZero,
-    RoomOfWaitingAlone,
-    RoomForgetsWaiting,
-    LooksInLogAlone,
-    LooksInWaitingAlone,
-    JudgesPartsApart,
-    LongWaitingAccepted,
-    RaggedWaitingAccepted,
-    LocateInLogAlone,
-    RunInTheWrongPart,
-    FillFromLogAlone,
-    WalkInLogAlone,
-    StopKeepsWaitingRows,
-    ToldSectorsAdded,
-    WholeRowsLost,
-    TornRowsKept,
-    TornSectorsNotTold,
-    NoLineIsAbsent,
-    NotOfNotKnownIsYes,
-    AndOfNotKnown,
-    OrOfNotKnown,
-    OrBindsTighter,
-    BracketTooDeepAccepted,
-    TwoSpacesAccepted,
-    LongQueryAccepted,
-    NamesInAnyOrder,
-    LastLineUnended,
-    ReservedOnCards,
-    LongCardRead,
-    QueryJudgedFirst,
-    DamagedCardNotKnown,
-    CardDropsDoubt,
-    CardReadInLogAlone,
-    DateBeforeClosed,
-    DateAfterType,
-    NoDateAnswered,
-    SevenDigitsAccepted,
-    LongDateAccepted,
-    LetterInDateAccepted,
-    EmptyDateAccepted,
-    DateAskedOfWritesAlone,
-    DateDropped,
-    DateIsIdentity,
-    DuplicateRedated,
-    RoomByFirstEdition,
-    RunByFirstEdition,
-    RunBehindFirstLabel,
-    TwoDatesSound,
-    TwoEditionsSound,
-    NoDateInLabelAccepted,
-    FirstEditionForgotten,
-    DatedTakenAsFirst,
-    LedgerForgetsDates,
-    EntriesComparedWithoutGen,
-    InactiveCompared,
-    SecondHandedBack,
-    EqualScoresRead,
-    MissingBlockIsDifference,
-    SecondReadFirst,
-    NoUnitForTopPair,
-    IllFormedEqualRefused,
-    CountAndUnitsSwapped,
-    OpenedPairCounted,
-    ShapesNotCompared,
-    ComparedUpToShorter,
-    ComparedInLogAlone,
-    ComparisonDropsDoubt,
-}
+pub use crate::broken::{Broken, ALL};
 
 /// The second program with a rule broken.
 pub struct Sham {
@@ -392,6 +237,65 @@ impl Archive for Sham {
         }
         restore(log, waiting, &before);
         answer
+    }
+
+    fn takes_index(&self) -> bool {
+        sham_index::RULES.contains(&self.broken)
+    }
+
+    fn serve_by(
+        &mut self,
+        session: Session,
+        message: &[u8],
+        date: &[u8],
+        lent: Buffers,
+        reply: &mut [u8],
+    ) -> (u8, Session) {
+        sham_index::serve(self.broken, session, message, date, lent, reply)
+    }
+
+    fn look_up_by(
+        &mut self,
+        log: &[u8],
+        waiting: &[u8],
+        index: &[u8],
+        kind: u8,
+        score: &Score,
+    ) -> Result<Option<usize>, Refusal> {
+        let right = Second.look_up_by(log, waiting, index, kind, score);
+        sham_index::look_up(
+            self.broken,
+            right,
+            &joined(log, waiting),
+            index,
+            (kind, score),
+        )
+    }
+
+    fn rebuild(&mut self, log: &[u8], index: &mut [u8]) -> u8 {
+        sham_index::rebuild(self.broken, log, index)
+    }
+
+    fn write_file(
+        &mut self,
+        log: &mut [u8],
+        waiting: &mut [u8],
+        date: &[u8],
+        slice: &[u8],
+        sizes: (usize, usize),
+    ) -> Result<[u8; 40], u8> {
+        sham_writer::write_file(self.broken, (log, waiting), date, slice, sizes)
+    }
+
+    fn copy(
+        &mut self,
+        parts: (&[u8], &[u8]),
+        second: &mut [u8],
+        date: &[u8],
+        score: &Score,
+        allowance: u64,
+    ) -> (Result<(), Refusal>, u64) {
+        sham_copy::copy(self.broken, parts, second, date, (score, allowance))
     }
 
     fn report(&mut self, log: &[u8], buffer: &mut [u8]) -> Result<usize, u8> {

@@ -1,9 +1,16 @@
 //! Trees with holes, zero scores and scores that come back, for reading files and walking.
 
+use second::copy::copy;
+use second::log::used;
+use second::sector::SECTOR;
 use second::sha1::{Score, ZERO_SCORE};
+use second::store::store;
+use second::Edition;
 
 use crate::archive::Archive;
+use crate::collision;
 use crate::compare::{buffer, hex, number, Compare, Parts, Trace};
+use crate::dates;
 use crate::growing_log::GrowingLog;
 use crate::random::Random;
 use crate::shape::Shape;
@@ -54,6 +61,9 @@ pub fn run(
     for _ in 0..2 {
         forest.walk(archive, compare, random, trace, &root)?;
     }
+    for _ in 0..2 {
+        forest.copy(archive, compare, random, trace, &root)?;
+    }
     Ok(())
 }
 
@@ -97,7 +107,10 @@ impl Forest {
                 .between(shape.dsize.saturating_sub(1), shape.dsize + 1)
                 .min(900);
         }
-        let data = random.bytes(size);
+        let data = match random.percent(3) {
+            true => collision::pair().0,
+            false => random.bytes(size),
+        };
         self.log.store(random, kind, &data)
     }
 
@@ -265,5 +278,68 @@ impl Forest {
         let right = second::walk::walk(log, waiting, &score, allowance);
         let answer = archive.walk(log, waiting, &score, allowance);
         compare.call("walk", number(&right.0), answer, right)
+    }
+
+    /// A second log: blank or not, with room for all or not, damaged, with a block that clashes, or with a
+    /// part of what is to be copied.
+    fn second_log(&self, random: &mut Random, root: &Score) -> Vec<u8> {
+        let mut log = vec![0; random.pick(&[0, 1, 3, 6, 12, 24, 48]) * SECTOR];
+        if random.percent(15) {
+            let (_, other) = collision::pair();
+            let _ = store(&mut log, None, Edition::First, 13, &other);
+        }
+        if random.percent(40) {
+            let Parts { log: from, waiting } = &self.lent;
+            let visits = random.below(12) as u64;
+            let _ = copy(from, waiting, &mut log, b"20251231", root, visits);
+        }
+        if random.percent(30) && !log.is_empty() {
+            let end = (used(&log) * SECTOR).max(SECTOR);
+            log[random.below(end)] ^= random.mark();
+        }
+        if random.percent(2) {
+            log.push(0);
+        }
+        log
+    }
+
+    fn copy(
+        &self,
+        archive: &mut dyn Archive,
+        compare: &mut Compare,
+        random: &mut Random,
+        trace: &mut Trace,
+        root: &Score,
+    ) -> Result<(), String> {
+        let score = match random.below(20) {
+            0 => ZERO_SCORE,
+            1 if !self.log.held.is_empty() => random.pick(&self.log.held).1,
+            _ => *root,
+        };
+        let allowance = match random.below(10) {
+            0 => random.pick(&[0, 1_000_001]),
+            1..=3 => random.below(20) as u64,
+            _ => FEW_VISITS,
+        };
+        let date = dates::lent(random);
+        let mut tested = self.second_log(random, root);
+        let mut right_log = tested.clone();
+        trace.note(|| {
+            let length = tested.len();
+            format!(
+                "copy {} to a log of {length}, allowance {allowance}",
+                hex(&score)
+            )
+        });
+        let Parts { log, waiting } = &self.lent;
+        let right = copy(log, waiting, &mut right_log, &date, &score, allowance);
+        let answer = archive.copy((log, waiting), &mut tested, &date, &score, allowance);
+        compare.call("copy", number(&right.0), answer, right)?;
+        buffer("the second log", &tested, &right_log)?;
+        if right.0.is_ok() {
+            let walked = archive.walk(&tested, &[], &score, allowance);
+            compare.call("walk", 0, walked, right)?;
+        }
+        Ok(())
     }
 }

@@ -1,6 +1,6 @@
 //! The archive under test: the proved library, by the crate `boundary`.
 
-use crate::archive::Archive;
+use crate::archive::{Archive, Buffers};
 use boundary as proved;
 use second::changes::{Compared, Part, Side};
 use second::query::Value;
@@ -8,10 +8,15 @@ use second::tree::{Place, Run};
 use second::{Refusal, Score, Session};
 
 pub fn archive() -> Box<dyn Archive> {
-    Box::new(Proved)
+    Box::new(Proved {
+        scores: vec![0; proved::FILE_SCORES],
+    })
 }
 
-struct Proved;
+struct Proved {
+    /// What the writer of files is lent for scores.
+    scores: Vec<u8>,
+}
 
 /// The number of a refusal, 0 for none.
 fn number(outcome: Result<(), proved::Refusal>) -> u8 {
@@ -36,18 +41,85 @@ impl Archive for Proved {
         waiting: &mut [u8],
         reply: &mut [u8],
     ) -> (u8, Session) {
+        let index = &mut [];
+        let lent = Buffers {
+            log,
+            waiting,
+            index,
+        };
+        self.serve_by(session, message, date, lent, reply)
+    }
+
+    fn takes_index(&self) -> bool {
+        true
+    }
+
+    fn look_up_by(
+        &mut self,
+        log: &[u8],
+        waiting: &[u8],
+        index: &[u8],
+        kind: u8,
+        score: &Score,
+    ) -> Result<Option<usize>, Refusal> {
+        let place = proved::look_up_by(log, waiting, index, kind, score).map_err(refused)?;
+        Ok((place.size > 0).then_some(place.sector))
+    }
+
+    fn rebuild(&mut self, log: &[u8], index: &mut [u8]) -> u8 {
+        number(proved::rebuild(log, index))
+    }
+
+    fn serve_by(
+        &mut self,
+        session: Session,
+        message: &[u8],
+        date: &[u8],
+        lent: Buffers,
+        reply: &mut [u8],
+    ) -> (u8, Session) {
+        let Buffers {
+            log,
+            waiting,
+            index,
+        } = lent;
         let before = match session {
             Session::Fresh => proved::Session::Fresh,
             Session::Ready => proved::Session::Greeted,
             Session::Closed => proved::Session::Closed,
         };
-        let served = proved::serve(before, message, date, log, waiting, &mut [], reply);
+        let served = proved::serve(before, message, date, log, waiting, index, reply);
         let after = match served.session {
             proved::Session::Fresh => Session::Fresh,
             proved::Session::Greeted => Session::Ready,
             proved::Session::Closed => Session::Closed,
         };
         (number(served.outcome), after)
+    }
+
+    fn write_file(
+        &mut self,
+        log: &mut [u8],
+        waiting: &mut [u8],
+        date: &[u8],
+        slice: &[u8],
+        sizes: (usize, usize),
+    ) -> Result<[u8; 40], u8> {
+        let written = proved::write_file(log, waiting, date, slice, sizes, &mut self.scores);
+        assert!(self.scores.iter().all(|&byte| byte == 0), "scores are left");
+        written.map_err(proved::Refusal::number)
+    }
+
+    fn copy(
+        &mut self,
+        parts: (&[u8], &[u8]),
+        second: &mut [u8],
+        date: &[u8],
+        score: &Score,
+        allowance: u64,
+    ) -> (Result<(), Refusal>, u64) {
+        let copied = proved::copy(parts.0, parts.1, second, date, score, allowance);
+        (copied.outcome.map_err(refused), copied.visits)
     }
 
     fn report(&mut self, log: &[u8], buffer: &mut [u8]) -> Result<usize, u8> {

@@ -2,6 +2,7 @@
 //! the proved code: to compare results and speed with.
 
 pub mod crc32;
+pub mod index;
 pub mod log;
 pub mod random;
 pub mod sha1;

@@ -1,8 +1,10 @@
 //! The log in ordinary Rust: blocks in labelled, checked sectors, found by looking through them. New
 //! ones get a date and wait in a second run of sectors until they are moved behind the others. Blocks
-//! of the first edition, which have no date, are read as well.
+//! of the first edition, which have no date, are read as well. An index may be lent besides: a read goes
+//! by it first, and a store enters the block; an empty one is of no account.
 
 use crate::crc32::crc32;
+use crate::index;
 use crate::sha1::sha1;
 
 pub type Score = [u8; 20];
@@ -132,10 +134,10 @@ impl<'a> Joined<'a> {
     }
 
     fn sector(self, number: usize) -> Option<&'a [u8]> {
-        let start = number * SECTOR;
+        let start = number.checked_mul(SECTOR)?;
         match start.checked_sub(self.settled.len()) {
             None => Some(&self.settled[start..start + SECTOR]),
-            Some(start) => self.waiting.get(start..start + SECTOR),
+            Some(start) => self.waiting.get(start..start.checked_add(SECTOR)?),
         }
     }
 
@@ -144,8 +146,15 @@ impl<'a> Joined<'a> {
     }
 }
 
-/// Appends data with a date to the sectors that wait, unless it is held.
-pub fn store(log: &[u8], waiting: &mut [u8], date: Date, kind: u8, data: &[u8]) -> Stored {
+/// Appends data with a date to the sectors that wait, unless it is held, and enters it in the index.
+pub fn store(
+    log: &[u8],
+    waiting: &mut [u8],
+    index: &mut [u8],
+    date: Date,
+    kind: u8,
+    data: &[u8],
+) -> Stored {
     if !well_sized(log, waiting) {
         return Stored::Refused(3);
     }
@@ -180,7 +189,17 @@ pub fn store(log: &[u8], waiting: &mut [u8], date: Date, kind: u8, data: &[u8]) 
         return Stored::Refused(14);
     }
     append(rest, label, data);
+    index::enter(index, kind, &score, first);
     Stored::New(score)
+}
+
+/// Writes a block to the front of blank sectors, numbered from `first` on, and gives how many it takes.
+/// Nothing is looked up: for logs that a test or a comparison begins with.
+pub fn write_block(rest: &mut [u8], first: usize, date: Date, kind: u8, data: &[u8]) -> usize {
+    let label = Label::new(Some(date), first, kind, data.len(), &sha1(data));
+    let sectors = label.sectors_for(data.len());
+    append(rest, label, data);
+    sectors
 }
 
 /// Moves the sectors that wait behind the log's used part. Refuses 3, and 14 where they don't fit.
@@ -200,6 +219,7 @@ pub fn settle(log: &mut [u8], waiting: &mut [u8]) -> Result<(), Refused> {
 pub fn read(
     log: &[u8],
     waiting: &[u8],
+    index: &[u8],
     kind: u8,
     score: &Score,
     out: &mut [u8],
@@ -215,7 +235,9 @@ pub fn read(
     }
     let mut data = Vec::new();
     let joined = Joined::new(log, waiting);
-    if find(joined, kind, score, &mut data).is_none() {
+    let held = find_by(index, joined, kind, score, &mut data)
+        .or_else(|| find(joined, kind, score, &mut data));
+    if held.is_none() {
         return Err(match first_doubtful(joined, &mut data) {
             Some(sector) => Refused::NotKnown(sector),
             None => Refused::Number(11),
@@ -226,7 +248,7 @@ pub fn read(
     Ok(data.len())
 }
 
-fn well_sized(log: &[u8], waiting: &[u8]) -> bool {
+pub(crate) fn well_sized(log: &[u8], waiting: &[u8]) -> bool {
     let sized =
         |part: &[u8], most| part.len().is_multiple_of(SECTOR) && part.len() / SECTOR <= most;
     sized(log, MOST_SECTORS) && sized(waiting, MOST_WAITING)
@@ -236,20 +258,79 @@ fn lawful(kind: u8) -> bool {
     matches!(kind, 1..=9 | 13)
 }
 
+/// The lines of a label that name a block by its type and score.
+struct Named {
+    lines: [u8; LINES_LENGTH],
+    /// What eight digits of the score are in a sector with a date, and in one without.
+    glimpse: [[u8; GLIMPSE]; 2],
+}
+
+/// Eight bytes of a sector that lie in the score's digits with a date and without, in one line of memory.
+const GLIMPSE_AT: usize = 80;
+const GLIMPSE: usize = 8;
+
+impl Named {
+    fn new(kind: u8, score: &Score) -> Named {
+        let mut lines = *LINES;
+        put(&mut lines, KIND, &[kind]);
+        put(&mut lines, SCORE, score);
+        let digits = |front: usize| std::array::from_fn(|k| lines[GLIMPSE_AT - front + k]);
+        Named {
+            glimpse: [digits(DATE_LINE), digits(0)],
+            lines,
+        }
+    }
+
+    fn is(&self, sector: &[u8]) -> bool {
+        let seen = &sector[GLIMPSE_AT..GLIMPSE_AT + GLIMPSE];
+        if self.glimpse.iter().all(|digits| digits != seen) {
+            return false;
+        }
+        let front = if sector[0] == b'd' { DATE_LINE } else { 0 };
+        let (lines, named) = (&sector[front..], &self.lines);
+        lines[SCORE..LINES_LENGTH] == named[SCORE..] && lines[KIND..SIZE] == named[KIND..SIZE]
+    }
+}
+
 /// The first sound block of a type and score; data is then its bytes.
 fn find(log: Joined, kind: u8, score: &Score, data: &mut Vec<u8>) -> Option<usize> {
-    let mut wanted = *LINES;
-    put(&mut wanted, KIND, &[kind]);
-    put(&mut wanted, SCORE, score);
-    let named = |sector: &[u8]| {
-        let front = if sector[0] == b'd' { DATE_LINE } else { 0 };
-        let lines = &sector[front..];
-        lines[SCORE..LINES_LENGTH] == wanted[SCORE..] && lines[KIND..SIZE] == wanted[KIND..SIZE]
-    };
+    let named = Named::new(kind, score);
     log.sectors()
         .enumerate()
-        .filter(|(_, sector)| named(sector))
+        .filter(|(_, sector)| named.is(sector))
         .find_map(|(first, _)| sound(log, first, data))
+}
+
+/// The same at the places that an index names.
+fn find_by(
+    index: &[u8],
+    log: Joined,
+    kind: u8,
+    score: &Score,
+    data: &mut Vec<u8>,
+) -> Option<usize> {
+    let named = Named::new(kind, score);
+    index::hints(index, kind, score)
+        .filter(|&first| log.sector(first).is_some_and(|sector| named.is(sector)))
+        .find_map(|first| sound(log, first, data))
+}
+
+/// Tells each sound block of a log alone, by type, score and first sector.
+pub(crate) fn sound_blocks(log: &[u8], mut tell: impl FnMut(u8, &Score, usize)) {
+    let joined = Joined::new(log, &[]);
+    let (mut at, mut data) = (0, Vec::new());
+    while let Some(head) = joined.sector(at) {
+        at += match sound(joined, at, &mut data) {
+            None => 1,
+            Some(sectors) => {
+                let lines = &head[date_of(head).map_or(0, |_| DATE_LINE)..];
+                if let (Some([kind]), Some(score)) = (take(lines, KIND), take(lines, SCORE)) {
+                    tell(kind, &score, at);
+                }
+                sectors
+            }
+        };
+    }
 }
 
 /// The first sector of the used part that is in no sound block.

@@ -2,10 +2,13 @@
 
 use std::collections::BTreeSet;
 
+use crate::edition::Edition;
 use crate::ledger::{Effect, Ledger, Origin, Prediction, Row};
-use crate::log::write_in;
+use crate::log::{well_lent, write_in};
 use crate::message::Lent;
 use crate::sector::{blank, SECTOR};
+use crate::tree::ENTRY;
+use crate::writer::file;
 
 pub struct Account {
     pub ledger: Ledger,
@@ -56,15 +59,41 @@ impl Account {
         }
         match (&mut self.waiting, prediction.effect) {
             (Some(waiting), Effect::Settles) => waiting.fill(0),
-            (Some(waiting), Effect::Adds) => {
-                if let Some(row) = self.ledger.waiting_rows().last() {
-                    let place = self.ledger.waiting_sectors() - row.sectors().len();
-                    put(waiting, place, row);
-                }
-            }
+            (Some(_), Effect::Adds) => self.put_last(),
             _ => {}
         }
         prediction
+    }
+
+    /// Writes the last waiting row's sectors behind those of the others.
+    fn put_last(&mut self) {
+        if let (Some(waiting), Some(row)) = (&mut self.waiting, self.ledger.waiting_rows().last()) {
+            let place = self.ledger.waiting_sectors() - row.sectors().len();
+            put(waiting, place, row);
+        }
+    }
+
+    /// A call of the writer of files, which is lent the waiting part: the list of its writes, up to and
+    /// including the refused one. Gives the entry or the number.
+    pub fn write_file(
+        &mut self,
+        date: &[u8],
+        slice: &[u8],
+        dsize: usize,
+        psize: usize,
+    ) -> Result<[u8; ENTRY], u8> {
+        let lent = self.lent();
+        if !well_lent(lent.log, lent.waiting.unwrap_or(0)) {
+            return Err(3);
+        }
+        let edition = Edition::of(Some(date))?;
+        let file = file(slice, dsize, psize)?;
+        for (kind, data) in &file.blocks {
+            if self.ledger.write(edition, *kind, data, lent)? == Effect::Adds {
+                self.put_last();
+            }
+        }
+        Ok(file.entry)
     }
 
     /// The log is lent on with more blank sectors behind it.

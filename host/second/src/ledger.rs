@@ -203,25 +203,46 @@ impl Ledger {
                 kind,
                 data,
             } => {
-                let score = sha1(data);
-                let row = self.first_intact(kind, &score);
-                if data.is_empty() || row.is_some_and(|row| row.data == data) {
-                    return stays(write_reply(tag, &score));
-                }
-                if row.is_some() || score == ZERO_SCORE {
-                    return Err(15.into());
-                }
-                let row = Row {
-                    edition,
-                    kind,
-                    score,
-                    data: data.to_vec(),
-                    first: self.end(),
-                };
-                self.add(row, lent)?;
-                Ok((write_reply(tag, &score), session, Effect::Adds))
+                let effect = self.write(edition, kind, data, lent)?;
+                Ok((write_reply(tag, &sha1(data)), session, effect))
             }
         }
+    }
+
+    /// The four steps of a write: empty, duplicate, 15, 14. A row that it adds waits.
+    pub fn write(
+        &mut self,
+        edition: Edition,
+        kind: u8,
+        data: &[u8],
+        lent: Lent,
+    ) -> Result<Effect, u8> {
+        let score = sha1(data);
+        let row = self.first_intact(kind, &score);
+        if data.is_empty() || row.is_some_and(|row| row.data == data) {
+            return Ok(Effect::Nothing);
+        }
+        if row.is_some() || score == ZERO_SCORE {
+            return Err(15);
+        }
+        let row = Row {
+            edition,
+            kind,
+            score,
+            data: data.to_vec(),
+            first: self.end(),
+        };
+        self.add(row, lent)?;
+        Ok(Effect::Adds)
+    }
+
+    /// Whether two intact rows of one type and score differ, as healing can have it. Then nothing is
+    /// promised of a read by index.
+    pub fn clashes(&self) -> bool {
+        self.rows.iter().any(|row| {
+            let first = self.first_intact(row.kind, &row.score);
+            self.intact(row) && first.is_some_and(|first| first.data != row.data)
+        })
     }
 
     /// Adds a row that starts at the end, or 14.

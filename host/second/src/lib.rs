@@ -7,8 +7,10 @@
 pub mod account;
 pub mod card;
 pub mod changes;
+pub mod copy;
 pub mod crc32;
 pub mod edition;
+pub mod index;
 pub mod kind;
 pub mod ledger;
 pub mod log;
@@ -20,9 +22,11 @@ pub mod request;
 pub mod search;
 pub mod sector;
 pub mod sha1;
+pub mod store;
 pub mod tree;
 pub mod utf8;
 pub mod walk;
+pub mod writer;
 pub mod zeros;
 
 pub use edition::{Date, Edition};

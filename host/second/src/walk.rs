@@ -24,26 +24,40 @@ pub fn walk(
     if allowance > MOST_VISITS {
         return (Err(23.into()), 0);
     }
-    let log = joined(log, waiting);
-    let mut walk = Walk {
-        contents: Contents::of(&log),
-        log,
-        allowance,
-        spent: 0,
-    };
-    let ended = walk.root_and_below(score);
-    (ended, walk.spent)
+    Walk::new(log, waiting, allowance, &mut |_, _| Ok(())).run(score)
 }
 
-struct Walk {
+/// What is done with a block, by its type and data, when all below it is done.
+type Done<'a> = &'a mut dyn FnMut(u8, &[u8]) -> Result<(), Refusal>;
+
+/// A walk under way.
+pub(crate) struct Walk<'a> {
     /// Both parts as one log.
     log: Vec<u8>,
     contents: Contents,
     allowance: u64,
     spent: u64,
+    done: Done<'a>,
 }
 
-impl Walk {
+impl<'a> Walk<'a> {
+    pub(crate) fn new(log: &[u8], waiting: &[u8], allowance: u64, done: Done<'a>) -> Walk<'a> {
+        let log = joined(log, waiting);
+        Walk {
+            contents: Contents::of(&log),
+            log,
+            allowance,
+            spent: 0,
+            done,
+        }
+    }
+
+    /// How it ends, and the visits spent.
+    pub(crate) fn run(mut self, score: &Score) -> (Result<(), Refusal>, u64) {
+        let ended = self.root_and_below(score);
+        (ended, self.spent)
+    }
+
     /// A visit: the data of a block.
     fn visit(
         &mut self,
@@ -66,17 +80,21 @@ impl Walk {
     }
 
     fn root_and_below(&mut self, score: &Score) -> Result<(), Refusal> {
-        let mut bytes = self.visit(kind::ROOT, score, ROOT, 1)?;
-        bytes.resize(ROOT, 0);
-        let top = root(&bytes)?;
+        let bytes = self.visit(kind::ROOT, score, ROOT, 1)?;
+        let mut padded = bytes.clone();
+        padded.resize(ROOT, 0);
+        let top = root(&padded)?;
         let directory = self.visit(kind::DIRECTORY, &top, 57_344, 1)?;
-        self.entries(directory, 1)
+        self.entries(&directory, 1)?;
+        (self.done)(kind::DIRECTORY, &directory)?;
+        (self.done)(kind::ROOT, &bytes)
     }
 
     /// The entries of a directory block that lies at this nest.
-    fn entries(&mut self, mut block: Vec<u8>, nest: u32) -> Result<(), Refusal> {
-        block.resize(block.len().next_multiple_of(ENTRY), 0);
-        for bytes in block.chunks(ENTRY) {
+    fn entries(&mut self, block: &[u8], nest: u32) -> Result<(), Refusal> {
+        let mut padded = block.to_vec();
+        padded.resize(block.len().next_multiple_of(ENTRY), 0);
+        for bytes in padded.chunks(ENTRY) {
             if !active(bytes) {
                 continue;
             }
@@ -97,13 +115,13 @@ impl Walk {
     ) -> Result<(), Refusal> {
         if level == 0 {
             let leaf = self.visit(entry.leaf(), score, entry.dsize, nest)?;
-            return if entry.directory {
-                self.entries(leaf, nest)
-            } else {
-                Ok(())
-            };
+            if entry.directory {
+                self.entries(&leaf, nest)?;
+            }
+            return (self.done)(entry.leaf(), &leaf);
         }
-        let pointers = self.visit(2 + level as u8, score, entry.psize, nest)?;
+        let kind = 2 + level as u8;
+        let pointers = self.visit(kind, score, entry.psize, nest)?;
         if !pointers.len().is_multiple_of(20) {
             return Err(18.into());
         }
@@ -112,6 +130,6 @@ impl Walk {
             score.copy_from_slice(bytes);
             self.below(entry, level - 1, &score, nest)?;
         }
-        Ok(())
+        (self.done)(kind, &pointers)
     }
 }

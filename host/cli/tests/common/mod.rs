@@ -2,6 +2,7 @@
 
 #![allow(dead_code)] // each test file uses a part of it
 
+pub mod saved;
 pub mod terminal;
 
 use std::ffi::OsStr;
@@ -408,11 +409,15 @@ pub fn skipped(what: &str) {
     let _ = writeln!(std::io::stderr(), "SKIPPED: {what}");
 }
 
-/// Whether a folder has only these files.
+/// Whether a folder has only these files. The index of a log, which a writer leaves there, does not count
+/// unless it is named.
 pub fn only(folder: &Path, names: &[&str]) -> bool {
     let mut found: Vec<_> = fs::read_dir(folder)
         .expect("a folder")
         .map(|entry| entry.expect("an entry").file_name())
+        .filter(|name| {
+            !name.as_encoded_bytes().ends_with(b".index") || names.iter().any(|n| n == name)
+        })
         .collect();
     found.sort();
     found == names

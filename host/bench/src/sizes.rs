@@ -1,0 +1,158 @@
+//! What a request costs in logs of several sizes that are full of blocks, beside the ordinary log.
+
+use boundary::Refusal;
+use plain::index;
+use plain::log as ordinary;
+
+use crate::parts::{read_message, time, write_message, Parts, BLOCK, DATA, DATE, PARTS};
+
+/// The blocks that are read by index, by scan, stored and looked for in vain.
+const BY_INDEX: usize = 1000;
+const BY_SCAN: usize = 20;
+const STORED: usize = 10;
+const ABSENT: usize = 2;
+/// How often all of it is measured.
+const ROUNDS: usize = 3;
+
+/// The data of a block by its number.
+fn data(number: usize) -> Vec<u8> {
+    let mut data = vec![0x5a; BLOCK];
+    data[..8].copy_from_slice(&(number as u64).to_be_bytes());
+    data
+}
+
+/// Both programs' seconds for a number of requests.
+struct Cost {
+    name: &'static str,
+    requests: usize,
+    rounds: Vec<[f64; 2]>,
+}
+
+/// A log of so many sectors with room for the blocks that are stored, and an index of twice the places
+/// that an even spread would need, with eight more.
+fn full(sectors: usize) -> (Parts, Vec<[u8; 20]>) {
+    let blocks = sectors / PARTS - STORED;
+    let mut parts = Parts::new(sectors, index::length(blocks / 128 + 8));
+    let mut scores = Vec::with_capacity(blocks);
+    for number in 0..blocks {
+        let (first, data) = (number * PARTS, data(number));
+        ordinary::write_block(&mut parts.log[first * 512..], first, DATE, DATA, &data);
+        scores.push(plain::sha1::sha1(&data));
+        index::enter(&mut parts.index, DATA, &scores[number], first);
+    }
+    (parts, scores)
+}
+
+/// Reads so many blocks, evenly spread over the log.
+fn read(parts: &mut Parts, scores: &[[u8; 20]], count: usize) -> [f64; 2] {
+    let spread: Vec<&[u8; 20]> = (0..count)
+        .map(|k| &scores[k * scores.len() / count])
+        .collect();
+    let messages: Vec<Vec<u8>> = spread.iter().map(|score| read_message(score)).collect();
+    let ours = time(|| {
+        for message in &messages {
+            assert_eq!(parts.ask(message), Ok(()));
+        }
+    });
+    let theirs = time(|| {
+        for score in spread {
+            assert_eq!(parts.ordinary_read(score), Ok(BLOCK));
+        }
+    });
+    [ours, theirs]
+}
+
+/// Stores some blocks in the waiting part, first by the one and then by the other.
+fn store(parts: &mut Parts, from: usize) -> [f64; 2] {
+    let blocks: Vec<Vec<u8>> = (from..from + STORED).map(data).collect();
+    let messages: Vec<Vec<u8>> = blocks.iter().map(|data| write_message(data)).collect();
+    let index = parts.index.clone();
+    let ours = time(|| {
+        for message in &messages {
+            assert_eq!(parts.ask(message), Ok(()));
+        }
+    });
+    let stored = std::mem::replace(&mut parts.waiting, vec![0; 256 * 512]);
+    let entered = std::mem::replace(&mut parts.index, index);
+    let theirs = time(|| {
+        for data in &blocks {
+            let (log, waiting, index) = (&parts.log, &mut parts.waiting, &mut parts.index);
+            let stored = ordinary::store(log, waiting, index, DATE, DATA, data);
+            assert!(matches!(stored, ordinary::Stored::New(_)));
+        }
+    });
+    assert!(parts.waiting == stored && parts.index == entered);
+    parts.waiting.fill(0);
+    [ours, theirs]
+}
+
+fn absent(parts: &mut Parts) -> [f64; 2] {
+    let message = read_message(&[7; 20]);
+    let ours = time(|| {
+        for _ in 0..ABSENT {
+            assert_eq!(parts.ask(&message), Err(Refusal::NotHeld));
+        }
+    });
+    let theirs = time(|| {
+        for _ in 0..ABSENT {
+            let answer = parts.ordinary_read(&[7; 20]);
+            assert_eq!(answer, Err(ordinary::Refused::Number(11)));
+        }
+    });
+    [ours, theirs]
+}
+
+/// The costs in a log of so many sectors.
+fn measure(sectors: usize) -> Vec<Cost> {
+    let names = [
+        ("read by index", BY_INDEX),
+        ("read by scan", BY_SCAN),
+        ("store", STORED),
+        ("absent", ABSENT),
+    ];
+    let mut costs: Vec<Cost> = names
+        .into_iter()
+        .map(|(name, requests)| Cost {
+            name,
+            requests,
+            rounds: Vec::new(),
+        })
+        .collect();
+    let (mut parts, scores) = full(sectors);
+    for _ in 0..ROUNDS {
+        costs[0].rounds.push(read(&mut parts, &scores, BY_INDEX));
+        let index = std::mem::take(&mut parts.index);
+        costs[1].rounds.push(read(&mut parts, &scores, BY_SCAN));
+        parts.index = index.clone();
+        costs[2].rounds.push(store(&mut parts, scores.len()));
+        parts.index = index;
+        costs[3].rounds.push(absent(&mut parts));
+    }
+    costs
+}
+
+/// Prints lines for each of these lengths, in sectors.
+pub fn run(lengths: &[usize]) {
+    println!(
+        "\nmilliseconds a request in logs that are full of blocks of {BLOCK} bytes, with an index kept"
+    );
+    println!(
+        "{:>9} {:14} {:>9} {:>11} {:>7}",
+        "MiB", "request", "ours", "plain Rust", "ratio"
+    );
+    for &sectors in lengths {
+        for cost in measure(sectors) {
+            let each = |k: usize| {
+                1e3 * crate::median(cost.rounds.iter().map(|r| r[k])) / cost.requests as f64
+            };
+            println!(
+                "{:>9} {:14} {:>9.3} {:>11.3} {:>7.2}",
+                sectors / 2048,
+                cost.name,
+                each(0),
+                each(1),
+                crate::median(cost.rounds.iter().map(|r| r[0] / r[1]))
+            );
+        }
+    }
+}
