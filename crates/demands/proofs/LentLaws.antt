@@ -211,7 +211,7 @@ front-settled log (some w) k room h = at-moved log w (both log w room) k ∙ at-
 pub extent-grown : (k : ℕ) (L : Lent) → extentOf (record { log = grown k (L .log); waiting = L .waiting }) ≡ record { size = length (L .log) + 512 * k; waiting = lengthOf (L .waiting) }
 extent-grown k L = λ i. record { size = length-grown k (L .log) i; waiting = lengthOf (L .waiting) }
 
-tape-grown : (k : ℕ) (log w : Bytes) → eqb (length log % 512) 0 ≡ true → tape (grown k log) w ≡ tape log w
+pub tape-grown : (k : ℕ) (log w : Bytes) → eqb (length log % 512) 0 ≡ true → tape (grown k log) w ≡ tape log w
 unfolding joined grown
 tape-grown k log w may =
     ap (λ (u : ℕ). take (512 * u) (grown k log) ++ w) (used-grown k log may)

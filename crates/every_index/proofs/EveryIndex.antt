@@ -39,7 +39,7 @@ turn : Standing archive → Outcome → Turn (Seen Answer Session Lent) (Standin
 turn s o = let x = seenOf o in record { shown = x; state = record { log = x .log; past = s .past ++ (x .session ∷ []) } }
 
 -- a request by any index is the request by the scan
-as-scan : (s : Standing archive) (b : Books archive) (q : ItemBy) → Stands archive s b → Agreed b → answerBy s q ≡ answer archive s (q .item)
+pub as-scan : (s : Standing archive) (b : Books archive) (q : ItemBy) → Stands archive s b → Agreed b → answerBy s q ≡ answer archive s (q .item)
 unfolding turn
 as-scan s b q S A =
     let a = q .item .request in
@@ -144,7 +144,7 @@ event-step : (s : Standing archive) (b : Books archive) (e : EventBy) → Agreei
     → (happenBy s e ≡ happen archive s (e .event)) × Stands archive (happen archive s (e .event) .state) (recountEvent archive b (e .event) .state)
 event-step s b e ok S = (event-same (e .index) s b (e .event) S (ok .1), follows-all archive lawful s b (e .event ∷ []) (ok .0, tt) S .left)
 
-possible : (b : Books archive) (es : List (Event archive)) → Along Agreeing (recountEvent archive) b es → Along (Possible archive) (recountEvent archive) b es
+pub possible : (b : Books archive) (es : List (Event archive)) → Along Agreeing (recountEvent archive) b es → Along (Possible archive) (recountEvent archive) b es
 possible b es = along-gives (recountEvent archive) (λ _. Unit {0}) Agreeing (Possible archive) (λ _ _ _ ok. ok .0) (λ _ _ _ _. tt) b es tt
 
 pub every-index : EveryIndex
@@ -171,7 +171,12 @@ agreed-at b (stop l) O = tt
 agreed-at b (crash q arrived torn l hurt) O = tt
 agreed-at b (grow g) O = tt
 
+-- from a blank log on the bytes agree at every request
+pub unhealed-agrees : (x : Extent) (es : List (Event archive)) → Along Unhealed (recountEvent archive) (blank-books archive x) es
+    → Along Agreeing (recountEvent archive) (blank-books archive x) es
+unhealed-agrees x es ok =
+    along-gives (recountEvent archive) (λ b. OneOfAName archive nameOf (b .ledger)) Unhealed Agreeing
+    (λ b e O u. (u .0, agreed-at b e O)) (λ b e O u. one-event b e u O) (blank-books archive x) es (one-empty archive nameOf) ok
+
 pub every-index-unhealed : EveryIndexUnhealed
-every-index-unhealed x es ok =
-    every-index x es (along-gives (recountEvent archive) (λ b. OneOfAName archive nameOf (b .ledger)) Unhealed Agreeing
-    (λ b e O u. (u .0, agreed-at b e O)) (λ b e O u. one-event b e u O) (blank-books archive x) (eventsOf es) (one-empty archive nameOf) ok)
+every-index-unhealed x es ok = every-index x es (unhealed-agrees x (eventsOf es) ok)
