@@ -1,0 +1,30 @@
+-- `quick::renew` meets its contract.
+use Rattle.quick.proofs.Admission.{stays, anew}
+use borrow.Author.Needs.{needs}
+use Rattle.quick.proofs.renew.Statement.{statement}
+use Rattle.quick.proofs.renew.Tie as tie
+
+belongs-requires : tie.Need-belongs-requires
+belongs-requires c κs = search needs
+
+returns : tie.Need-returns
+returns c =
+    let a = (c .before .before .before .before .before .args) in
+    stays (a .known) (a .log .now) (a .waiting .now) (a .index .now) _ (c .before .belongs .ensures) (c .if1 .taken)
+
+learn-requires : tie.Need-learn-requires
+learn-requires c κs = search needs
+
+returns-2 : tie.Need-returns-2
+returns-2 c =
+    let a = (c .before .before .before .before .before .before .args) in
+    anew (a .known) (a .log .now) (a .waiting .now) (a .index .now) _ (c .before .before .belongs .ensures) (c .before .if1 .left) _ (c .learn .ensures)
+
+pub renew-spec : {M : Type 1} → statement M
+renew-spec =
+    tie.close
+    (tie.spec
+    belongs-requires
+    returns
+    learn-requires
+    returns-2)

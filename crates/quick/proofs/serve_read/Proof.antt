@@ -1,0 +1,122 @@
+-- `quick::serve_read` meets its contract: a case for each return.
+use mathlib.Core.Path.{refl, sym, ap, _∙_}
+use native.Mathlib.Omega.{arith}
+use lib.ListN.{length}
+use borrow.Author.Tests.{not-true, not-false}
+use Rattle.block.proofs.Joined.{sectors-joined}
+use Rattle.known_store.proofs.Found.{belongs-reads, read-within, read-most}
+use Rattle.message.proofs.Requests.{read-length, read-score}
+use Rattle.quick.proofs.Reading.{read-kind, read-missing, read-over, read-granted, read-as}
+use borrow.Author.Needs.{needs}
+use Rattle.quick.proofs.serve_read.Statement.{statement}
+use Rattle.quick.proofs.serve_read.Tie as tie
+
+tag-of-requires : tie.Need-tag-of-requires
+tag-of-requires c κs =
+    omega (arith, read-length _ _ _ (c .before .before .before .before .before .pre .1))
+
+is-lawful-requires : tie.Need-is-lawful-requires
+is-lawful-requires c κs = search needs
+
+refuse-requires : tie.Need-refuse-requires
+refuse-requires c κs = search needs
+
+same-length : tie.Need-same-length
+same-length c = search needs
+
+returns : tie.Need-returns
+returns c =
+    let a = (c .before .before .before .before .before .before .before .before .before .before .before .before .args) in
+    read-as (a .known) (a .message .now) (a .index .now) (a .log .now) (a .waiting .now) (a .reply .now) _ (a .kind) (a .count) _ _ (c .before .before .before .before .before .before .tag-of .ensures) refl
+    (read-kind (a .known) (a .kind) (a .count) _ _ (a .index .now) (a .log .now) (a .waiting .now) (a .reply .now) _ _ (c .before .before .before .before .before .is-lawful .ensures) (not-true _ (c .before .before .before .before .if1 .taken)) ((c .before .before .refuse .ensures) _ _))
+
+score-of-requires : tie.Need-score-of-requires
+score-of-requires c κs =
+    omega (arith, read-length _ _ _ (c .before .before .before .before .before .before .before .before .pre .1))
+
+find-known-requires : tie.Need-find-known-requires
+find-known-requires c κs =
+    let a = (c .before .before .before .before .before .before .before .before .before .args) in
+    let b = belongs-reads (a .known) (length (a .log .now)) (length (a .waiting .now)) (c .before .before .before .before .before .before .before .before .before .pre .0) in
+    (b .0, ap length (c .score-of .ensures) ∙ read-score _ _ _ (c .before .before .before .before .before .before .before .before .before .pre .1))
+
+enum-known-place : tie.Need-enum-known-place
+enum-known-place c = search needs
+
+enum-told : tie.Need-enum-told
+enum-told c = search needs
+
+missing-by-requires : tie.Need-missing-by-requires
+missing-by-requires c κs = search needs
+
+refuse-requires-2 : tie.Need-refuse-requires-2
+refuse-requires-2 c κs = search needs
+
+same-length-2 : tie.Need-same-length-2
+same-length-2 c = search needs
+
+returns-2 : tie.Need-returns-2
+returns-2 c =
+    let a = (c .before .before .before .before .before .before .before .before .before .before .before .before .before .before .before .before .before .args) in
+    read-as (a .known) (a .message .now) (a .index .now) (a .log .now) (a .waiting .now) (a .reply .now) _ (a .kind) (a .count) _ _ (c .before .before .before .before .before .before .before .before .before .before .before .tag-of .ensures) (c .before .before .before .before .before .before .before .before .score-of .ensures)
+    (read-missing (a .known) (a .kind) (a .count) _ _ (a .index .now) (a .log .now) (a .waiting .now) (a .reply .now) _ _ (c .before .before .before .before .before .before .before .before .before .before .is-lawful .ensures) (not-false _ (c .before .before .before .before .before .before .before .before .before .if1 .left))
+    _ (c .before .before .before .before .before .before .before .find-known .ensures) _ (c .before .before .before .before .before .enum-told .given .1) (c .before .before .before .before .missing-by .ensures) ((c .before .before .refuse2 .ensures) _ _))
+
+refuse-requires-3 : tie.Need-refuse-requires-3
+refuse-requires-3 c κs = search needs
+
+same-length-3 : tie.Need-same-length-3
+same-length-3 c = search needs
+
+returns-3 : tie.Need-returns-3
+returns-3 c =
+    let a = (c .before .before .before .before .before .before .before .before .before .before .before .before .before .before .before .before .before .before .before .args) in
+    read-as (a .known) (a .message .now) (a .index .now) (a .log .now) (a .waiting .now) (a .reply .now) _ (a .kind) (a .count) _ _ (c .before .before .before .before .before .before .before .before .before .before .before .before .before .tag-of .ensures) (c .before .before .before .before .before .before .before .before .before .before .score-of .ensures)
+    (read-over (a .known) (a .kind) (a .count) _ _ (a .index .now) (a .log .now) (a .waiting .now) (a .reply .now) _ _ (c .before .before .before .before .before .before .before .before .before .before .before .before .is-lawful .ensures) (not-false _ (c .before .before .before .before .before .before .before .before .before .before .before .if1 .left))
+    _ (c .before .before .before .before .before .before .before .before .before .find-known .ensures) _ (c .before .before .before .before .before .before .before .place .given .1) (c .before .before .before .before .if2 .taken) ((c .before .before .refuse3 .ensures) _ _))
+
+answer-read-requires : tie.Need-answer-read-requires
+answer-read-requires c κs =
+    let a = (c .before .before .before .before .before .before .before .before .before .before .before .before .before .before .before .before .before .args) in
+    let s = (c .before .before .before .before .before .before .before .before .score-of .result .now) in
+    let b = belongs-reads (a .known) (length (a .log .now)) (length (a .waiting .now)) (c .before .before .before .before .before .before .before .before .before .before .before .before .before .before .before .before .before .pre .0) in
+    let n = sectors-joined (a .known .used .0) (a .log .now) (a .waiting .now) (b .0) in (
+      b .0,
+      read-within (a .known) (a .log .now) (a .waiting .now) (a .index .now) (a .kind) s _ _ (c .before .before .before .before .before .before .before .find-known .ensures) (c .before .before .before .before .before .place .given .1) _ n,
+      read-most (a .known) (a .log .now) (a .waiting .now) (a .index .now) (a .kind) s _ _ (c .before .before .before .before .before .before .before .find-known .ensures) (c .before .before .before .before .before .place .given .1),
+      (c .before .before .before .before .before .before .before .before .before .before .before .before .before .before .before .before .before .pre .2),
+    )
+
+same-length-4 : tie.Need-same-length-4
+same-length-4 c = search needs
+
+returns-4 : tie.Need-returns-4
+returns-4 c =
+    let a = (c .before .before .before .before .before .before .before .before .before .before .before .before .before .before .before .before .before .before .before .before .args) in
+    read-as (a .known) (a .message .now) (a .index .now) (a .log .now) (a .waiting .now) (a .reply .now) _ (a .kind) (a .count) _ _ (c .before .before .before .before .before .before .before .before .before .before .before .before .before .before .tag-of .ensures) (c .before .before .before .before .before .before .before .before .before .before .before .score-of .ensures)
+    (read-granted (a .known) (a .kind) (a .count) _ _ (a .index .now) (a .log .now) (a .waiting .now) (a .reply .now) _ _ (c .before .before .before .before .before .before .before .before .before .before .before .before .before .is-lawful .ensures) (not-false _ (c .before .before .before .before .before .before .before .before .before .before .before .before .if1 .left))
+    _ (c .before .before .before .before .before .before .before .before .before .before .find-known .ensures) _ (c .before .before .before .before .before .before .before .before .place .given .1) (c .before .before .before .before .before .if2 .left) (c .before .before .answer-read .ensures))
+
+pub serve-read-spec : {M : Type 1} → statement M
+serve-read-spec =
+    tie.close
+    (tie.spec
+    tag-of-requires
+    is-lawful-requires
+    refuse-requires
+    same-length
+    returns
+    score-of-requires
+    find-known-requires
+    enum-known-place
+    enum-told
+    missing-by-requires
+    refuse-requires-2
+    same-length-2
+    returns-2
+    refuse-requires-3
+    same-length-3
+    returns-3
+    answer-read-requires
+    same-length-4
+    returns-4)

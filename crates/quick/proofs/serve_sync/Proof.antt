@@ -1,0 +1,69 @@
+-- `quick::serve_sync` meets its contract: all that waits is moved, or nothing is.
+use native.Mathlib.Omega.{arith}
+use lib.ListN.{length}
+use borrow.Author.Tests.{not-true, not-false}
+use Rattle.known_store.proofs.Found.{belongs-reads}
+use Rattle.quick.proofs.Syncing.{sync-refused, sync-moved}
+use borrow.Author.Needs.{needs}
+use Rattle.quick.proofs.serve_sync.Statement.{statement}
+use Rattle.quick.proofs.serve_sync.Tie as tie
+
+settle-known-requires : tie.Need-settle-known-requires
+settle-known-requires c κs = search needs
+
+refuse-requires : tie.Need-refuse-requires
+refuse-requires c κs = search needs
+
+same-length : tie.Need-same-length
+same-length c = search needs
+
+same-length-2 : tie.Need-same-length-2
+same-length-2 c = search needs
+
+same-length-3 : tie.Need-same-length-3
+same-length-3 c = search needs
+
+returns : tie.Need-returns
+returns c =
+    let a = (c .before .before .before .before .before .before .before .before .before .before .before .before .before .before .before .args) in
+    λ index. sync-refused (a .known) (a .tag) index (a .log .now) (a .waiting .now) (a .reply .now) _ _ _ (c .before .before .before .before .before .before .before .before .before .settle-known .ensures .0) (c .before .before .before .before .before .before .before .before .before .settle-known .ensures .1) (not-true _ (c .before .before .before .before .if1 .taken)) ((c .before .before .refuse .ensures) _ _)
+
+acknowledge-requires : tie.Need-acknowledge-requires
+acknowledge-requires c κs = search needs
+
+after-sync-requires : tie.Need-after-sync-requires
+after-sync-requires c κs =
+    let a = (c .before .before .before .before .before .before .before .before .before .before .before .before .before .before .before .args) in
+    let b = belongs-reads (a .known) (length (a .log .now)) (length (a .waiting .now)) (c .before .before .before .before .before .before .before .before .before .before .before .before .before .before .before .pre .0) in
+    omega (arith, b .0, b .1)
+
+same-length-4 : tie.Need-same-length-4
+same-length-4 c = search needs
+
+same-length-5 : tie.Need-same-length-5
+same-length-5 c = search needs
+
+same-length-6 : tie.Need-same-length-6
+same-length-6 c = search needs
+
+returns-2 : tie.Need-returns-2
+returns-2 c =
+    let a = (c .before .before .before .before .before .before .before .before .before .before .before .before .before .before .before .before .args) in
+    λ index. sync-moved (a .known) (a .tag) index (a .log .now) (a .waiting .now) (a .reply .now) _ _ _ (c .before .before .before .before .before .before .before .before .before .before .settle-known .ensures .0) (c .before .before .before .before .before .before .before .before .before .before .settle-known .ensures .1) (not-false _ (c .before .before .before .before .before .if1 .left)) ((c .before .before .before .acknowledge .ensures) _ _) _ (c .after-sync .ensures)
+
+pub serve-sync-spec : {M : Type 1} → statement M
+serve-sync-spec =
+    tie.close
+    (tie.spec
+    settle-known-requires
+    refuse-requires
+    same-length
+    same-length-2
+    same-length-3
+    returns
+    acknowledge-requires
+    after-sync-requires
+    same-length-4
+    same-length-5
+    same-length-6
+    returns-2)

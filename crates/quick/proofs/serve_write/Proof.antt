@@ -1,0 +1,81 @@
+-- `quick::serve_write` meets its contract: a case for each return.
+use mathlib.Core.Path.{refl}
+use native.Mathlib.Omega.{arith}
+use borrow.Author.Tests.{not-true, not-false}
+use Rattle.message.proofs.Requests.{write-length}
+use Rattle.quick.proofs.Writing.{write-kind, write-long, write-stored, write-as}
+use borrow.Author.Needs.{needs}
+use Rattle.quick.proofs.serve_write.Statement.{statement}
+use Rattle.quick.proofs.serve_write.Tie as tie
+
+tag-of-requires : tie.Need-tag-of-requires
+tag-of-requires c κs =
+    omega (arith, write-length _ _ (c .before .before .before .before .before .before .pre .1))
+
+is-lawful-requires : tie.Need-is-lawful-requires
+is-lawful-requires c κs = search needs
+
+refuse-requires : tie.Need-refuse-requires
+refuse-requires c κs = search needs
+
+same-length : tie.Need-same-length
+same-length c = search needs
+
+returns : tie.Need-returns
+returns c =
+    let a = (c .before .before .before .before .before .before .before .before .before .before .before .before .before .args) in
+    write-as (a .known) (a .date .now) (a .kind) (a .message .now) (a .index .now) (a .log .now) (a .waiting .now) (a .reply .now) _ _ _ (c .before .before .before .before .before .before .tag-of .ensures) refl
+    (write-kind (a .known) (a .date .now) (a .kind) _ _ (a .index .now) (a .log .now) (a .waiting .now) (a .reply .now) _ (c .before .before .before .before .before .is-lawful .ensures) (not-true _ (c .before .before .before .before .if1 .taken)) _ ((c .before .before .refuse .ensures) _ _))
+
+data-of-requires : tie.Need-data-of-requires
+data-of-requires c κs =
+    write-length _ _ (c .before .before .before .before .before .before .before .before .before .pre .1)
+
+refuse-requires-2 : tie.Need-refuse-requires-2
+refuse-requires-2 c κs = search needs
+
+same-length-2 : tie.Need-same-length-2
+same-length-2 c = search needs
+
+returns-2 : tie.Need-returns-2
+returns-2 c =
+    let a = (c .before .before .before .before .before .before .before .before .before .before .before .before .before .before .before .args) in
+    write-as (a .known) (a .date .now) (a .kind) (a .message .now) (a .index .now) (a .log .now) (a .waiting .now) (a .reply .now) _ _ _ (c .before .before .before .before .before .before .before .before .tag-of .ensures) (c .before .before .before .before .before .data-of .ensures)
+    (write-long (a .known) (a .date .now) (a .kind) _ _ (a .index .now) (a .log .now) (a .waiting .now) (a .reply .now) _ (c .before .before .before .before .before .before .before .is-lawful .ensures) (not-false _ (c .before .before .before .before .before .before .if1 .left)) (c .before .before .before .before .if2 .taken) _ ((c .before .before .refuse2 .ensures) _ _))
+
+store-block-requires : tie.Need-store-block-requires
+store-block-requires c κs = search needs
+
+same-length-3 : tie.Need-same-length-3
+same-length-3 c = search needs
+
+same-length-4 : tie.Need-same-length-4
+same-length-4 c = search needs
+
+same-length-5 : tie.Need-same-length-5
+same-length-5 c = search needs
+
+returns-3 : tie.Need-returns-3
+returns-3 c =
+    let a = (c .before .before .before .before .before .before .before .before .before .before .before .before .before .before .before .before .before .before .before .before .before .args) in
+    write-as (a .known) (a .date .now) (a .kind) (a .message .now) (a .index .now) (a .log .now) (a .waiting .now) (a .reply .now) _ _ _ (c .before .before .before .before .before .before .before .before .before .before .before .before .before .before .tag-of .ensures) (c .before .before .before .before .before .before .before .before .before .before .before .data-of .ensures)
+    (write-stored (a .known) (a .date .now) (a .kind) _ _ (a .index .now) (a .log .now) (a .waiting .now) (a .reply .now) _ (c .before .before .before .before .before .before .before .before .before .before .before .before .before .is-lawful .ensures) (not-false _ (c .before .before .before .before .before .before .before .before .before .before .before .before .if1 .left)) (c .before .before .before .before .before .before .before .before .before .before .if2 .left) _ (c .before .before .before .before .before .before .store-block .ensures))
+
+pub serve-write-spec : {M : Type 1} → statement M
+serve-write-spec =
+    tie.close
+    (tie.spec
+    tag-of-requires
+    is-lawful-requires
+    refuse-requires
+    same-length
+    returns
+    data-of-requires
+    refuse-requires-2
+    same-length-2
+    returns-2
+    store-block-requires
+    same-length-3
+    same-length-4
+    same-length-5
+    returns-3)
