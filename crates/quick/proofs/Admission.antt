@@ -1,5 +1,5 @@
 -- Which requests go by what is known, and that the others are answered as without it.
-use mathlib.Core.Path.{_≡_, refl, sym, ap, _∙_}
+use mathlib.Core.Path.{_≡_, refl, sym, ap, ap₂, _∙_}
 use mathlib.Core.Bool.{Bool, true, false, cond, not, false≢true}
 use mathlib.Core.List.{[], _∷_}
 use mathlib.Core.Option.{some}
@@ -16,14 +16,15 @@ use Rattle.log.specs.Parts.{beside}
 use Rattle.known.specs.declared.Known.{Known}
 use Rattle.known.specs.Known.{learned, belongs}
 use Rattle.known.proofs.Learned.{learned-belongs}
-use Rattle.message.specs.Message.{framed, tagOf, requestOf}
+use Rattle.message.specs.Message.{framed, tagOf, scoreOf, dataOf, requestOf}
 use Rattle.message.specs.declared.Request.{Request}
+use Rattle.message.proofs.Request.{the-type}
 use Rattle.message.specs.declared.Request.the-variants.{Ping, Hello, Goodbye, Read, Write, Sync, Unknown, Ill}
 use Rattle.request.specs.Step.{replyRoom}
 use Rattle.request.specs.declared.Session.{Session}
 use Rattle.request.specs.declared.Session.the-variants.{Fresh, Greeted, Closed as Shut}
 use Rattle.indexed.specs.Indexed.{greetedBy, inSessionBy, stepBy}
-use Rattle.known_request.specs.Quick.{Quick, knowing, renewed, greetedKnown, inSessionKnown, stepKnown}
+use Rattle.known_request.specs.Quick.{Quick, knowing, readKnown, writeKnown, syncKnown, renewed, greetedKnown, inSessionKnown, stepKnown}
 use Rattle.quick.specs.Admitted.{isGreeted, admitted}
 
 -- the tests that passed
@@ -73,6 +74,42 @@ module _ (k : Known) (s : Session) (m date index log w buffer : Bytes) where
     pub admitted-as : (q : Request) (x : Quick) → requestOf m ≡ q → x ≡ greetedKnown k date q (tagOf m) m index log w buffer → x ≡ stepKnown k s m date index log w buffer
     unfolding stepKnown inSessionKnown
     admitted-as q x e h = rw (p .whole, p .roomy, p .lent, p .greeted, p .dated, e) h
+
+    -- requests that do not look into the log are handed on too
+    others : (q : Request) → OneOf (0 ∷ 1 ∷ 2 ∷ 6 ∷ 7 ∷ []) (variant the-type q)
+        → knowing k (greetedBy date q (tagOf m) m index (beside log w) buffer) ≡ greetedKnown k date q (tagOf m) m index log w buffer
+    unfolding greetedKnown
+    others Ping o = refl
+    others Hello o = refl
+    others Goodbye o = refl
+    others (Read kind count) o = absurd (miss (0 ∷ 1 ∷ 2 ∷ 6 ∷ 7 ∷ []) 3 tt o)
+    others (Write kind) o = absurd (miss (0 ∷ 1 ∷ 2 ∷ 6 ∷ 7 ∷ []) 4 tt o)
+    others Sync o = absurd (miss (0 ∷ 1 ∷ 2 ∷ 6 ∷ 7 ∷ []) 5 tt o)
+    others Unknown o = refl
+    others Ill o = refl
+
+    pub others-handed-on : (q : Request) → requestOf m ≡ q → OneOf (0 ∷ 1 ∷ 2 ∷ 6 ∷ 7 ∷ []) (variant the-type q)
+        → knowing k (stepBy s m (some date) index (beside log w) buffer) ≡ stepKnown k s m date index log w buffer
+    unfolding stepBy inSessionBy
+    others-handed-on q e o = admitted-as q _ e (rw (p .whole, p .roomy, p .lent, p .greeted, p .dated, e) (others q o))
+
+    -- a read, a write and a sync, by what is known or learned; q is what was parsed
+    module _ (q : Request) (c : Known) (x : Quick) (e : q ≡ requestOf m) (f : c ≡ renewed k log w index) where
+      pub read-admitted : (kind count : ℕ) → q ≡ Read kind count → x ≡ readKnown c kind count (tagOf m) (scoreOf m) index log w buffer
+          → x ≡ stepKnown k s m date index log w buffer
+      unfolding greetedKnown
+      read-admitted kind count g h =
+          admitted-as (Read kind count) x (sym e ∙ g) (h ∙ ap (λ (y : Known). readKnown y kind count (tagOf m) (scoreOf m) index log w buffer) f)
+
+      pub write-admitted : (kind : ℕ) → q ≡ Write kind → x ≡ writeKnown c date kind (tagOf m) (dataOf m) index log w buffer → x ≡ stepKnown k s m date index log w buffer
+      unfolding greetedKnown
+      write-admitted kind g h =
+          admitted-as (Write kind) x (sym e ∙ g) (h ∙ ap (λ (y : Known). writeKnown y date kind (tagOf m) (dataOf m) index log w buffer) f)
+
+      pub sync-admitted : (tag : ℕ) → tag ≡ tagOf m → q ≡ Sync → x ≡ syncKnown c tag index log w buffer → x ≡ stepKnown k s m date index log w buffer
+      unfolding greetedKnown
+      sync-admitted tag t g h =
+          admitted-as Sync x (sym e ∙ g) (h ∙ ap₂ (λ (y : Known) (z : ℕ). syncKnown y z index log w buffer) f t)
 
 -- ---- the tests, in their order
 

@@ -85,6 +85,39 @@ fn store_block(
     }
 }
 
+// A write: tests 9 and 10, then the store by what is known.
+fn serve_write(
+    known: Known,
+    message: &[u8],
+    date: &[u8],
+    log: &[u8],
+    waiting: &mut [u8],
+    index: &mut [u8],
+    reply: &mut [u8],
+    kind: u8,
+) -> Served
+    requires { ⌜ (belongs known (length (now log)) (length (now waiting)) ≡ true) × (requestOf (now message) ≡ Write kind) × (length (now date) ≡ 8) × (replyRoom ≤ length (now reply)) ⌝ }
+    ensures { λ r. ⌜ quickOf r (now (log .entry)) (now (waiting .exit)) (now (reply .exit)) (now (index .exit)) ≡ writeKnown known (now (date .entry)) kind (tagOf (now (message .entry))) (dataOf (now (message .entry))) (now (index .entry)) (now (log .entry)) (now (waiting .entry)) (now (reply .entry)) ⌝ }
+{
+    let tag = message::tag_of(message);
+    if !kind::is_lawful(kind) {
+        let answer = archive::refuse(Refusal::BlockType, tag, Session::Greeted, reply);
+        return Served {
+            answer: answer,
+            known: known,
+        };
+    }
+    let data = message::data_of(message);
+    if LONGEST < data.len() {
+        let answer = archive::refuse(Refusal::DataLength, tag, Session::Greeted, reply);
+        return Served {
+            answer: answer,
+            known: known,
+        };
+    }
+    store_block(known, date, log, waiting, index, reply, kind, tag, data)
+}
+
 // A sync: what waits is moved to the end that is known, or nothing is moved and it is 14.
 fn serve_sync(known: Known, log: &mut [u8], waiting: &mut [u8], tag: u8, reply: &mut [u8]) -> Served
     requires { ⌜ (belongs known (length (now log)) (length (now waiting)) ≡ true) × (replyRoom ≤ length (now reply)) ⌝ }
@@ -98,10 +131,10 @@ fn serve_sync(known: Known, log: &mut [u8], waiting: &mut [u8], tag: u8, reply: 
         };
     }
     let answer = archive::acknowledge(message::SYNC_REPLY, tag, reply);
-    let after = known_store::after_sync(known);
+    let settled = known_store::after_sync(known);
     Served {
         answer: answer,
-        known: after,
+        known: settled,
     }
 }
 
@@ -172,35 +205,65 @@ fn is_admitted(
     sector::is_date(date)
 }
 
-// A write: tests 9 and 10, then the store by what is known.
-fn serve_write(
+// A request that passed the tests: a read, a write and a sync go by what is known, learned anew where it cannot belong.
+fn serve_admitted(
     known: Known,
+    session: Session,
     message: &[u8],
     date: &[u8],
-    log: &[u8],
+    log: &mut [u8],
     waiting: &mut [u8],
     index: &mut [u8],
     reply: &mut [u8],
-    kind: u8,
 ) -> Served
-    requires { ⌜ (belongs known (length (now log)) (length (now waiting)) ≡ true) × (requestOf (now message) ≡ Write kind) × (length (now date) ≡ 8) × (replyRoom ≤ length (now reply)) ⌝ }
-    ensures { λ r. ⌜ quickOf r (now (log .entry)) (now (waiting .exit)) (now (reply .exit)) (now (index .exit)) ≡ writeKnown known (now (date .entry)) kind (tagOf (now (message .entry))) (dataOf (now (message .entry))) (now (index .entry)) (now (log .entry)) (now (waiting .entry)) (now (reply .entry)) ⌝ }
+    requires { ⌜ admitted session (now message) (now date) (length (now log)) (length (now waiting)) (length (now reply)) ≡ true ⌝ }
+    ensures { λ r. ⌜ quickOf r (now (log .exit)) (now (waiting .exit)) (now (reply .exit)) (now (index .exit)) ≡ stepKnown known session (now (message .entry)) (now (date .entry)) (now (index .entry)) (now (log .entry)) (now (waiting .entry)) (now (reply .entry)) ⌝ }
 {
     let tag = message::tag_of(message);
-    if !kind::is_lawful(kind) {
-        let answer = archive::refuse(Refusal::BlockType, tag, Session::Greeted, reply);
-        return Served {
-            answer: answer,
-            known: known,
-        };
+    let request = message::parse(message);
+    match request {
+        Request::Read { kind, count } => {
+            let current = renew(known, log, waiting, index);
+            let answer = serve_read(current, message, log, waiting, index, reply, kind, count);
+            Served {
+                answer: answer,
+                known: current,
+            }
+        }
+        Request::Write { kind } => {
+            let current = renew(known, log, waiting, index);
+            serve_write(current, message, date, log, waiting, index, reply, kind)
+        }
+        Request::Sync => {
+            let current = renew(known, log, waiting, index);
+            serve_sync(current, log, waiting, tag, reply)
+        }
+        _ => hand_on(known, session, message, date, log, waiting, index, reply),
     }
-    let data = message::data_of(message);
-    if LONGEST < data.len() {
-        let answer = archive::refuse(Refusal::DataLength, tag, Session::Greeted, reply);
-        return Served {
-            answer: answer,
-            known: known,
-        };
+}
+
+// Answers a request by what is known, with what is known then: if it is what `learn` would say, the answer is that of `archive::serve`, and it is so again.
+pub fn serve(
+    known: Known,
+    session: Session,
+    message: &[u8],
+    date: &[u8],
+    log: &mut [u8],
+    waiting: &mut [u8],
+    index: &mut [u8],
+    reply: &mut [u8],
+) -> Served
+    ensures { λ r. ⌜ quickOf r (now (log .exit)) (now (waiting .exit)) (now (reply .exit)) (now (index .exit)) ≡ stepKnown known session (now (message .entry)) (now (date .entry)) (now (index .entry)) (now (log .entry)) (now (waiting .entry)) (now (reply .entry)) ⌝ }
+{
+    if !is_admitted(
+        session,
+        message,
+        date,
+        log.len(),
+        waiting.len(),
+        reply.len(),
+    ) {
+        return hand_on(known, session, message, date, log, waiting, index, reply);
     }
-    store_block(known, date, log, waiting, index, reply, kind, tag, data)
+    serve_admitted(known, session, message, date, log, waiting, index, reply)
 }
