@@ -6,20 +6,18 @@ use Prim.Native.Nat.{ℕ, zero, suc, _+_, _-_, _*_, _%_, _≤_, _<_}
 use native.Mathlib.Omega.{arith}
 use lib.Dec.{leb, eqb}
 use borrow.Author.Tests.{lt-ltb}
-use lib.ListN.{length, take, length-take}
+use lib.ListN.{length}
 use Rattle.ground.specs.Choice.{on}
 use Rattle.buffer.specs.Bytes.{Bytes, same}
 use Rattle.kind.specs.Kind.{zeroScore}
 use Rattle.refusal.specs.declared.Refusal.the-variants as why
 use Rattle.block.specs.Block.{Row}
 use Rattle.block.specs.Log.{sectors, Alike, joined, used}
-use Rattle.block.proofs.Used.{used-le-sectors}
 use Rattle.block.proofs.Joined.{used-joined}
-use Rattle.block.proofs.Alike.{used-alike}
 use Rattle.log.specs.LookUp.{held, absence}
 use Rattle.log.specs.Parts.{tape}
 use Rattle.log.proofs.Alike.{held-alike, absence-alike}
-use Rattle.lookup.proofs.Both.{used-waits, used-front}
+use Rattle.lookup.proofs.Both.{border-place}
 use Rattle.entry.specs.declared.Entry.{Entry}
 use Rattle.tree.specs.Tree.{pointer, typeAt}
 use Rattle.leaf.specs.declared.Extent.{Extent}
@@ -50,30 +48,17 @@ module _ (a b : Bytes) (f : Alike a b) (page : ℕ) (e : Entry) (offset : ℕ) w
 
 -- ---- the border
 
--- it is the end of the used part, or nothing waits and it is behind it
 module _ (log waiting : Bytes) (u : ℕ) (h : u ≤ sectors (length log)) (f : Alike (joined u log waiting) (tape log waiting)) where
-  same-used : used (joined u log waiting) ≡ used log + used waiting
-  same-used = used-alike (joined u log waiting) (tape log waiting) f ∙ used-joined log waiting
-
-  border-place : (w : ℕ) → used waiting ≡ w → (used log ≤ u) × (0 < w → u ≡ used log)
-  border-place zero q =
-      let front : used (take (512 * u) log) ≡ used log = used-front u log waiting h 0 (sym q) refl ∙ same-used ∙ (let z : used log + used waiting ≡ used log = omega arith in z) in
-      (omega (arith, front, used-le-sectors (take (512 * u) log), length-take (512 * u) log), λ p. absurd (omega arith))
-  border-place (suc w) q =
-      let both = used-waits u log waiting h (suc w) (sym q) (λ z. omega arith) in
-      let e : u ≡ used log = omega (arith, both, same-used) in
-      (omega arith, λ p. e)
-
   -- a run in the used part is split alike
   split-alike : (page : ℕ) (x : Extent) → Inside (used log + used waiting) page x → split (512 * u) x ≡ split (512 * used log) x
   split-alike page (Stored at n) i = go (used waiting) refl
     where
       go : (w : ℕ) → used waiting ≡ w → split (512 * u) (Stored at n) ≡ split (512 * used log) (Stored at n)
       go zero q =
-          let B = border-place zero q in
+          let B = border-place log waiting u h f zero q in
           let lt : at < 512 * used log = omega (arith, i .2) in
           rw (lt-ltb at (512 * used log) lt, lt-ltb at (512 * u) (omega (arith, B .0))) refl
-      go (suc w) q = ap (λ (k : ℕ). split (512 * k) (Stored at n)) (border-place (suc w) q .1 (omega arith))
+      go (suc w) q = ap (λ (k : ℕ). split (512 * k) (Stored at n)) (border-place log waiting u h f (suc w) q .1 (omega arith))
   split-alike page (Zeros n) i = refl
   split-alike page (Refused w) i = refl
 

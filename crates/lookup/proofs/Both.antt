@@ -1,4 +1,4 @@
--- The first u sectors of a log and those of a waiting part: where their used part ends; and a log read to its end, with nothing behind it.
+-- The first u sectors of a log and those of a waiting part: where their used part ends; the border; and a log read to its end, with nothing behind it.
 use mathlib.Core.Path.{_≡_, refl, sym, ap, _∙_}
 use mathlib.Core.Bool.{Bool, true, false}
 use mathlib.Core.List.{[], append-nil}
@@ -7,13 +7,14 @@ use native.Mathlib.Nat.{le-antisymm}
 use native.Mathlib.Omega.{arith}
 use lib.Dec.{ltb}
 use borrow.Author.Tests.{ltb-true, ltb-false}
-use lib.ListN.{length, take}
+use lib.ListN.{length, take, length-take}
 use Rattle.buffer.specs.Bytes.{Bytes, zeros}
 use Rattle.block.specs.Log.{sectors, at, Alike, joined, usedOf, used}
 use Rattle.block.proofs.Used.{lt-used, used-le, used-le-sectors, at-used, blank-past, at-beyond}
-use Rattle.block.proofs.Joined.{at-log, at-waiting, at-alone}
+use Rattle.block.proofs.Joined.{at-log, at-waiting, at-alone, used-joined}
 use Rattle.block.proofs.Alike.{used-alike}
 use Rattle.log.specs.LookUp.{held, lookUp}
+use Rattle.log.specs.Parts.{tape}
 use Rattle.log.proofs.Alike.{held-alike, look-up-alike}
 
 module _ (u : ℕ) (log waiting : Bytes) (h : u ≤ sectors (length log)) where
@@ -50,6 +51,27 @@ module _ (u : ℕ) (log waiting : Bytes) (h : u ≤ sectors (length log)) where
           go false q =
               let g = ltb-false n u q in
               at-waiting u log [] h n g ∙ at-beyond [] (n - u) (omega arith) ∙ sym (at-waiting u log waiting h n g ∙ at-beyond waiting (n - u) (omega arith))
+
+-- the border from which the waiting sectors are read on: the end of the used part, or nothing waits and it is behind it
+module _ (log waiting : Bytes) (u : ℕ) (h : u ≤ sectors (length log)) (f : Alike (joined u log waiting) (tape log waiting)) where
+  same-used : used (joined u log waiting) ≡ used log + used waiting
+  same-used = used-alike (joined u log waiting) (tape log waiting) f ∙ used-joined log waiting
+
+  pub border-place : (w : ℕ) → used waiting ≡ w → (used log ≤ u) × (0 < w → u ≡ used log)
+  border-place zero q =
+      let front : used (take (512 * u) log) ≡ used log = used-front u log waiting h 0 (sym q) refl ∙ same-used ∙ (let z : used log + used waiting ≡ used log = omega arith in z) in
+      (omega (arith, front, used-le-sectors (take (512 * u) log), length-take (512 * u) log), λ p. absurd (omega arith))
+  border-place (suc w) q =
+      let both = used-waits u log waiting h (suc w) (sym q) (λ z. omega arith) in
+      let e : u ≡ used log = omega (arith, both, same-used) in
+      (omega arith, λ p. e)
+
+  -- so the end of the used part is found among the sectors before it
+  pub used-before : used (take (512 * u) log) ≡ used log
+  unfolding joined used usedOf
+  used-before =
+      ap used (sym (append-nil (take (512 * u) log)))
+      ∙ used-alike (joined u log []) log (at-alone u log [] h (border-place (used waiting) refl .0) refl)
 
 -- a log read to its end, with nothing behind it
 module _ (log : Bytes) where

@@ -71,7 +71,8 @@ pub fn compare<'a>(
     Stored::Refused(Refusal::Clash)
 }
 
-// Stores a block of a type, with a date. The end of the used part is looked for only where the block is appended.
+// Stores a block of a type, with a date. The end of the used part is looked for only where the block is appended, and then among the sectors before the
+// border: where others wait the border is that end.
 pub fn store(log: &[u8], waiting: &mut [u8], date: &[u8], kind: u8, data: &[u8]) -> Receipt
     requires { ⌜ (length (now «data») ≤ longest) × (length (now date) ≡ 8) ⌝ }
     ensures { λ r. ⌜ afterStore r (beside (now (log .entry)) (now (waiting .exit))) ≡ storeOf (beside (now (log .entry)) (now (waiting .entry))) (now (date .entry)) kind (now («data» .entry)) ⌝ }
@@ -80,7 +81,8 @@ pub fn store(log: &[u8], waiting: &mut [u8], date: &[u8], kind: u8, data: &[u8])
     let end = lookup::border(log, waiting);
     let place = lookup::find_held(log, end, waiting, kind, &score);
     let Place::At(b) = place else {
-        let used = reader::used_part(log);
+        let to = SECTOR * end.0;
+        let used = reader::used_part(&log[..to]);
         let stored = append_new(log.len() / SECTOR, used, waiting, date, kind, &score, data);
         return Receipt {
             score: score,
