@@ -2,6 +2,7 @@
 use mathlib.Core.Path.{_≡_, refl, sym, ap, ap₂, _∙_}
 use mathlib.Core.Bool.{Bool, true, false, cond, _&&_}
 use mathlib.Core.List.{List}
+use mathlib.Core.Logic.{_≢_}
 use mathlib.Core.Option.{Option, none, some}
 use Prim.Native.Nat.{ℕ, suc, _+_, _-_, _≤_, _<_}
 use native.Mathlib.Nat.{sub-zero}
@@ -30,7 +31,9 @@ use Rattle.log.specs.Parts.{tape}
 use Rattle.log.specs.LookUp.{blocks, doubtful, firstDoubtful, absence}
 use Rattle.log.proofs.Blocks.{step-none, one-some}
 use Rattle.lookup.proofs.Laws.{placed-some, placed-none}
-use Rattle.hint.specs.Hint.{hint}
+use Rattle.hint.specs.Hint.{soundWith, hint}
+use Rattle.hint.proofs.Found.{some-not-none}
+use Rattle.hint.proofs.Sound.{with-finds}
 use Rattle.rebuild.proofs.Turns.{kind-hex, score-hex, fields}
 use Rattle.known.specs.declared.Doubt.{Doubt}
 use Rattle.known.specs.declared.Doubt.the-variants.{Clear, At as DoubtAt}
@@ -64,11 +67,15 @@ module _ (log index : Bytes) (n : ℕ) (p : Place) (e : p ≡ placed (sound log 
 
   module _ (b : Block) (h : p ≡ At b) (x : Bytes) (q : x ≡ at log n) where
     pub label-facts : (length x ≡ 512) × (isHex (take 2 (drop 36 (behind x))) ≡ true) × (isHex (scoreDigits (behind x)) ≡ true)
+        × (soundWith log n (kindField (behind x)) (scoreField (behind x)) ≢ none)
     label-facts =
-        let r = placed-some (sound log n) p b e h in (
+        let r = placed-some (sound log n) p b e h in
+        let f = fields log n (r .0) (r .1) in (
           ap length q ∙ length-at log n,
           ap (λ (y : Bytes). isHex (take 2 (drop 36 (behind y)))) q ∙ kind-hex log n (r .0) (r .1),
           ap (λ (y : Bytes). isHex (scoreDigits (behind y))) q ∙ score-hex log n (r .0) (r .1),
+          λ z. some-not-none (r .0)
+              (sym (with-finds log n (r .0) (r .1)) ∙ ap₂ (soundWith log n) (f .0) (f .1) ∙ ap (λ (y : Bytes). soundWith log n (kindField (behind y)) (scoreField (behind y))) (sym q) ∙ z),
         )
 
     pub leads-there : (v : Bool) → v ≡ foundBy (hint log index (kindField (behind x)) (scoreField (behind x))) n → v ≡ leadsFound log index (sound log n)

@@ -8,19 +8,39 @@ use sector::SECTOR;
 use sector_number::SectorNumber;
 ghost use mathlib.Core.Path.{_≡_};
 ghost use mathlib.Core.Bool.{true};
+ghost use mathlib.Core.Logic.{_≢_};
+ghost use mathlib.Core.Option.{none};
 ghost use Prim.Native.Nat.{_+_, _≤_, _<_};
 ghost use lib.ListN.{length, take, drop};
 ghost use Rattle.word.specs.Hex.{isHex};
 ghost use Rattle.sector.specs.Sector.{behind, kindField, scoreDigits, scoreField};
 ghost use Rattle.block.specs.Log.{sectors, joined, sound};
-ghost use Rattle.hint.specs.Hint.{hint};
+ghost use Rattle.hint.specs.Hint.{soundWith, hint};
 ghost use Rattle.known.specs.Known.{doubtOf, exactly, learned};
-ghost use Rattle.learn.specs.Learn.{foundBy, leadsFound};
+ghost use Rattle.learn.specs.Learn.{foundBy, leadsFound, tells};
 
 // Where the digits of the type stand among the six lines of a label.
 const KIND: usize = 36;
 
-// Whether the index leads from the type and score of the label s to a block at sector n or before it.
+// Whether the first entry of the bucket that names a type and score tells sector n.
+fn tells_first(index: &[u8], kind: u8, score: &[u8], n: SectorNumber) -> bool
+    requires { ⌜ length (now score) ≡ 20 ⌝ }
+    ensures { λ r. ⌜ r ≡ tells (now (index .entry)) kind (now (score .entry)) (n .0) ⌝ }
+{
+    let b = index::bucket_of(index, score);
+    let mut p = b.from;
+    while p < b.to {
+        if index::names(index, p, kind, score) {
+            let first = index::sector_at(index, p);
+            return first.0 == n.0;
+        }
+        p += 1;
+    }
+    false
+}
+
+// Whether the index leads from the type and score of the label s to a block at sector n or before it. Such a block was found sound at n: where the index
+// tells n first, it is not looked at again.
 fn leads_from<'a>(
     log: &'a [u8],
     end: SectorNumber,
@@ -29,7 +49,7 @@ fn leads_from<'a>(
     s: &[u8],
     n: SectorNumber,
 ) -> bool
-    requires { ⌜ (end .0 ≤ sectors (length (now log))) × (length (now s) ≡ 512) × (isHex (take 2 (drop 36 (behind (now s)))) ≡ true) × (isHex (scoreDigits (behind (now s))) ≡ true) ⌝ }
+    requires { ⌜ (end .0 ≤ sectors (length (now log))) × (length (now s) ≡ 512) × (isHex (take 2 (drop 36 (behind (now s)))) ≡ true) × (isHex (scoreDigits (behind (now s))) ≡ true) × (soundWith (joined (end .0) (now log) (now waiting)) (n .0) (kindField (behind (now s))) (scoreField (behind (now s))) ≢ none) ⌝ }
     ensures { λ r. ⌜ r ≡ foundBy (hint (joined (end .0) (now (log .entry)) (now (waiting .entry))) (now (index .entry)) (kindField (behind (now (s .entry)))) (scoreField (behind (now (s .entry))))) (n .0) ⌝ }
 {
     let k = sector::front_length(s);
@@ -40,6 +60,9 @@ fn leads_from<'a>(
     let last = from + 40;
     let mut score = [0u8; 20];
     let _ = word::hex::read_hex_bytes(&mut score, &s[from..last]);
+    if tells_first(index, kind, &score, n) {
+        return true;
+    }
     let place = index_lookup::find_hint(log, end, waiting, index, kind, &score);
     let Place::At(b) = place else {
         return false;

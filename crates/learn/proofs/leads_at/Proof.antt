@@ -27,7 +27,7 @@ leads-from-requires c κs =
     let a = (c .before .before .before .before .before .before .before .args) in
     let both = joined (a .end .0) (a .log .now) (a .waiting .now) in
     let f = label-facts both (a .index .now) (a .n .0) _ (c .before .before .before .sound-at .ensures) _ (c .before .enum-told .given .1) _ (c .sector-at .ensures) in
-    ((c .before .before .before .before .before .before .before .pre .0), f .0, f .1, f .2)
+    ((c .before .before .before .before .before .before .before .pre .0), f .0, f .1, f .2, f .3)
 
 returns-2 : tie.Need-returns-2
 returns-2 c =

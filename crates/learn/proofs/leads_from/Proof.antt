@@ -6,6 +6,7 @@ use Rattle.sector.proofs.Dates.{front-most}
 use Rattle.block.specs.Log.{joined}
 use Rattle.rebuild.proofs.Turns.{kind-part, kind-fits, score-part, score-read}
 use Rattle.learn.proofs.Turns.{found-nowhere, found-at}
+use Rattle.learn.proofs.Tells.{told-leads}
 use borrow.Author.Needs.{needs}
 use Rattle.learn.proofs.leads_from.Statement.{statement}
 use Rattle.learn.proofs.leads_from.Tie as tie
@@ -59,6 +60,23 @@ part-read-hex-bytes-end c =
 read-hex-bytes-requires : tie.Need-read-hex-bytes-requires
 read-hex-bytes-requires c κs = search needs
 
+slice-aggregate-tells-first : tie.Need-slice-aggregate-tells-first
+slice-aggregate-tells-first c = search needs
+
+tells-first-requires : tie.Need-tells-first-requires
+tells-first-requires c κs = search needs
+
+returns : tie.Need-returns
+returns c =
+    let h = c .before .before .before .before in
+    let f = h .before .before .before .before .before in
+    let a = f .before .before .before .before .before .args in
+    let digits = score-part (a .s .now) _ (f .front-length .ensures) in
+    let kind = h .before .before .before .read-kind .ensures ∙ ap hexValue (kind-part (a .s .now) _ (f .front-length .ensures)) in
+    let score = score-read _ _ _ _ (ap isHex digits ∙ (f .before .before .before .before .before .pre .3)) (h .read-hex-bytes .ensures) ∙ ap readBytes digits in
+    told-leads (joined (a .end .0) (a .log .now) (a .waiting .now)) (a .index .now) _ _ (a .n .0) (f .before .before .before .before .before .pre .4) _ _ _
+    (c .before .tells-first .ensures) kind score (c .if1 .taken)
+
 slice-aggregate-find-hint : tie.Need-slice-aggregate-find-hint
 slice-aggregate-find-hint c = search needs
 
@@ -71,22 +89,25 @@ enum-known-place c = search needs
 enum-told : tie.Need-enum-told
 enum-told c = search needs
 
-returns : tie.Need-returns
-returns c =
-    let a = (c .before .before .before .before .before .before .before .before .before .before .before .before .before .before .before .args) in
-    let digits = score-part (a .s .now) _ (c .before .before .before .before .before .before .before .before .before .before .front-length .ensures) in
-    found-nowhere (joined (a .end .0) (a .log .now) (a .waiting .now)) (a .index .now) (a .n .0) _ _ _ _ _ (c .before .before .find-hint .ensures)
-    ((c .before .before .before .before .before .before .before .before .read-kind .ensures) ∙ ap hexValue (kind-part (a .s .now) _ (c .before .before .before .before .before .before .before .before .before .before .front-length .ensures)))
-    (score-read _ _ _ _ (ap isHex digits ∙ (c .before .before .before .before .before .before .before .before .before .before .before .before .before .before .before .pre .3)) (c .before .before .before .before .before .read-hex-bytes .ensures) ∙ ap readBytes digits)
-    (c .enum-told .given .1)
-
 returns-2 : tie.Need-returns-2
 returns-2 c =
-    let a = (c .before .before .before .before .before .before .before .before .before .before .before .before .before .before .before .before .before .before .args) in
-    let digits = score-part (a .s .now) _ (c .before .before .before .before .before .before .before .before .before .before .before .before .before .front-length .ensures) in
-    found-at (joined (a .end .0) (a .log .now) (a .waiting .now)) (a .index .now) (a .n .0) _ _ _ _ _ (c .before .before .before .before .before .find-hint .ensures)
-    ((c .before .before .before .before .before .before .before .before .before .before .before .read-kind .ensures) ∙ ap hexValue (kind-part (a .s .now) _ (c .before .before .before .before .before .before .before .before .before .before .before .before .before .front-length .ensures)))
-    (score-read _ _ _ _ (ap isHex digits ∙ (c .before .before .before .before .before .before .before .before .before .before .before .before .before .before .before .before .before .before .pre .3)) (c .before .before .before .before .before .before .before .before .read-hex-bytes .ensures) ∙ ap readBytes digits)
+    let h = c .before .before .before .before .before .before .before .before in
+    let f = h .before .before .before .before .before in
+    let a = f .before .before .before .before .before .args in
+    let digits = score-part (a .s .now) _ (f .front-length .ensures) in
+    let kind = h .before .before .before .read-kind .ensures ∙ ap hexValue (kind-part (a .s .now) _ (f .front-length .ensures)) in
+    let score = score-read _ _ _ _ (ap isHex digits ∙ (f .before .before .before .before .before .pre .3)) (h .read-hex-bytes .ensures) ∙ ap readBytes digits in
+    found-nowhere (joined (a .end .0) (a .log .now) (a .waiting .now)) (a .index .now) (a .n .0) _ _ _ _ _ (c .before .before .find-hint .ensures) kind score (c .enum-told .given .1)
+
+returns-3 : tie.Need-returns-3
+returns-3 c =
+    let h = c .before .before .before .before .before .before .before .before .before .before .before in
+    let f = h .before .before .before .before .before in
+    let a = f .before .before .before .before .before .args in
+    let digits = score-part (a .s .now) _ (f .front-length .ensures) in
+    let kind = h .before .before .before .read-kind .ensures ∙ ap hexValue (kind-part (a .s .now) _ (f .front-length .ensures)) in
+    let score = score-read _ _ _ _ (ap isHex digits ∙ (f .before .before .before .before .before .pre .3)) (h .read-hex-bytes .ensures) ∙ ap readBytes digits in
+    found-at (joined (a .end .0) (a .log .now) (a .waiting .now)) (a .index .now) (a .n .0) _ _ _ _ _ (c .before .before .before .before .before .find-hint .ensures) kind score
     _ (c .before .before .before .place .given .1)
 
 pub leads-from-spec : {M : Type 1} → statement M
@@ -107,9 +128,12 @@ leads-from-spec =
     part-read-hex-bytes-start
     part-read-hex-bytes-end
     read-hex-bytes-requires
+    slice-aggregate-tells-first
+    tells-first-requires
+    returns
     slice-aggregate-find-hint
     find-hint-requires
     enum-known-place
     enum-told
-    returns
-    returns-2)
+    returns-2
+    returns-3)

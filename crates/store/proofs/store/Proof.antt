@@ -49,7 +49,7 @@ append-new-requires c κs =
     let a = d .before .before .before .before .before .args in
     let pre = d .before .before .before .before .before .pre in
     let used = p .used-part .ensures ∙ used-before (a .log .now) (a .waiting .now) (border .result .0) (border .ensures .0) (border .ensures .1) in
-    (pre .0, pre .1, d .sha1 .ensures, omega (arith, used, used-le-sectors (a .log .now)))
+    (pre .0, pre .1, d .sha1 .ensures, omega (arith, used, used-le-sectors (a .log .now), border .ensures .0))
 
 same-length : tie.Need-same-length
 same-length c = search needs
