@@ -1,7 +1,8 @@
 -- Blocks stored one after the other are held, and what was held still is.
-use mathlib.Core.Path.{_≡_, refl, sym, ap, ap₂, _∙_}
+use mathlib.Core.Path.{_≡_, refl, sym, ap, ap₂, _∙_, subst}
 use mathlib.Core.Bool.{Bool, true, false, cond, true≢false}
 use mathlib.Core.List.{List, [], _∷_, _++_}
+use mathlib.Core.Logic.{_⊎_, inl, inr}
 use mathlib.Core.Option.{Option, none, some}
 use Prim.Native.Nat.{ℕ, _+_, _≤_}
 use native.Mathlib.Omega.{arith}
@@ -20,6 +21,7 @@ use Rattle.block.specs.Log.{sectors, used}
 use Rattle.log.specs.Parts.{Lent, beside, oneLog, tape, roomFor, appendRow, writtenFrom}
 use Rattle.log.specs.LookUp.{held, lentAllowed}
 use Rattle.log.specs.Store.{AfterStore, afterStore, receipt, newRow, partsFor, appended, compared, store}
+use Rattle.log.specs.declared.Stored.{Stored}
 use Rattle.log.specs.declared.Stored.the-variants.{New, Duplicate, Refused as NotStored}
 use Rattle.log.proofs.Written.{held-written, held-appended}
 use Rattle.request.specs.Step.{dateAllowed}
@@ -32,7 +34,7 @@ use Rattle.writer.specs.Blocks.{Typed}
 use Rattle.writer.specs.WriteFile.{endOf, AfterAll, afterAll, onward, storeAll}
 use Rattle.writer.specs.declared.End.{End}
 use Rattle.writer.specs.declared.End.the-variants.{Done, Refused}
-use Rattle.writer_laws.specs.Held.{Holds, HoldsAll, Writable, AllWritable, Stays}
+use Rattle.writer_laws.specs.Held.{Holds, HoldsAll, Writable, AllWritable, EndedAt, Stays}
 
 -- what one store leaves
 pub record Kept (log w : Bytes) (x : Typed) (a : AfterStore) : Type 0 where
@@ -42,6 +44,42 @@ pub record Kept (log w : Bytes) (x : Typed) (a : AfterStore) : Type 0 where
   pub keeps : (t : ℕ) (s : Bytes) (r : Row) → held (tape log w) t s ≡ some r → held (tape log part) t s ≡ some r
   pub holds : endOf (a .receipt .stored) ≡ Done → Holds (tape log part) x
   pub stays : (y : Refusal) → endOf (a .receipt .stored) ≡ Refused y → a .lent ≡ beside log w
+
+-- the refusal of a call that ended with one
+abbrev why-ended : End → Refusal
+why-ended Done = NoRoom
+why-ended (Refused y) = y
+
+not-stored : (s : Stored) (y : Refusal) → endOf s ≡ Refused y → s ≡ NotStored y
+not-stored (New at) y e = let z : _≡_ {A = ℕ} 0 1 = cc in absurd (omega arith)
+not-stored (Duplicate at) y e = let z : _≡_ {A = ℕ} 0 1 = cc in absurd (omega arith)
+not-stored (NotStored v) y e = ap NotStored (ap why-ended e)
+
+-- on any log a store is refused with 14 or 15
+pub store-refuses : (L : Lent) (date : Bytes) (t : ℕ) (d : Bytes) (y : Refusal) → endOf (store L date t d .receipt .stored) ≡ Refused y → (y ≡ NoRoom) ⊎ (y ≡ Clash)
+unfolding store
+store-refuses L date t d y e = go (held (oneLog L) t (sha1Of d)) e
+  where
+    room : (b : Bool)
+        → endOf (cond b (afterStore (receipt (sha1Of d) (New (record { 0 = used (oneLog L) }))) (appendRow L (newRow L date t d))) (afterStore (receipt (sha1Of d) (NotStored NoRoom)) L) .receipt .stored)
+        ≡ Refused y → (y ≡ NoRoom) ⊎ (y ≡ Clash)
+    room true q = let z : _≡_ {A = ℕ} 0 1 = cc in absurd (omega arith)
+    room false q = inl (sym (ap why-ended q))
+
+    alike : (b : Bool) (n : ℕ)
+        → endOf (cond b (afterStore (receipt (sha1Of d) (Duplicate (record { 0 = n }))) L) (afterStore (receipt (sha1Of d) (NotStored Clash)) L) .receipt .stored) ≡ Refused y
+        → (y ≡ NoRoom) ⊎ (y ≡ Clash)
+    alike true n q = let z : _≡_ {A = ℕ} 0 1 = cc in absurd (omega arith)
+    alike false n q = inr (sym (ap why-ended q))
+
+    go : (o : Option Row) → endOf (on o (appended L date t d) (λ (r : Row). compared L (r .bytes) (r .first) d) .receipt .stored) ≡ Refused y → (y ≡ NoRoom) ⊎ (y ≡ Clash)
+    go none q = room (roomFor L (partsFor date d)) q
+    go (some r) q = alike (same (r .bytes) d) (r .first) q
+
+-- a call that was done left no block out
+pub none-left : (a : AfterAll) (date : Bytes) (rest : List Typed) → EndedAt a date rest → a .end ≡ Done → rest ≡ []
+none-left a date [] E e = refl
+none-left a date (x ∷ xs) E e = let c = sym (E .1) ∙ e in let z : _≡_ {A = ℕ} 0 1 = cc in absurd (omega arith)
 
 no-bytes : (d : Bytes) → length d ≡ 0 → d ≡ []
 no-bytes [] e = refl
@@ -121,7 +159,7 @@ module _ (log w date : Bytes) (x : Typed) (allowed : lentAllowed (length log) (l
 
 pub stays : Stays
 unfolding storeAll
-stays log w date [] al da A = (w, [], [], refl, refl, refl, refl, tt, λ t s r e. e, λ _. refl)
+stays log w date [] al da A = (w, [], [], refl, refl, refl, refl, tt, λ t s r e. e, refl)
 stays log w date (x ∷ xs) al da A =
     go (endOf (store (beside log w) date (x .kind) (x .bytes) .receipt .stored)) (store (beside log w) date (x .kind) (x .bytes) .lent) refl refl (stays log (K .part) date xs (ap (λ (n : ℕ). lentAllowed (length log) n) (K .long) ∙ al) da (A .1))
   where
@@ -133,13 +171,13 @@ stays log w date (x ∷ xs) al da A =
         (w′ : Bytes) × (before rest : List Typed)
         × (b .lent ≡ beside log w′) × (length w′ ≡ length (K .part)) × (xs ≡ before ++ rest) × (storeAll (beside log (K .part)) date before ≡ afterAll Done (b .lent))
         × HoldsAll (tape log w′) before × ((t : ℕ) (s : Bytes) (r : Row) → held (tape log (K .part)) t s ≡ some r → held (tape log w′) t s ≡ some r)
-        × (b .end ≡ Done → rest ≡ []))
+        × EndedAt b date rest)
         → (w′ : Bytes) × (before rest : List Typed)
         × (onward e M (storeAll M date xs) .lent ≡ beside log w′) × (length w′ ≡ length w) × (x ∷ xs ≡ before ++ rest)
         × (storeAll (beside log w) date before ≡ afterAll Done (onward e M (storeAll M date xs) .lent))
         × HoldsAll (tape log w′) before × ((t : ℕ) (s : Bytes) (r : Row) → held (tape log w) t s ≡ some r → held (tape log w′) t s ≡ some r)
-        × (onward e M (storeAll M date xs) .end ≡ Done → rest ≡ [])
-    go Done M p q (w′, before, rest, lent, long, split, stored, holds, keeps, done) =
+        × EndedAt (onward e M (storeAll M date xs)) date rest
+    go Done M p q (w′, before, rest, lent, long, split, stored, holds, keeps, ended) =
         let m : M ≡ beside log (K .part) = sym q ∙ K .lent in
         let there : storeAll M date xs ≡ storeAll (beside log (K .part)) date xs = ap (λ (y : Lent). storeAll y date xs) m in
         let h = K .holds p in (
@@ -152,8 +190,10 @@ stays log w date (x ∷ xs) al da A =
           ap₂ (λ (y : End) (z : Lent). onward y z (storeAll z date before)) p (K .lent) ∙ stored ∙ ap (λ (b : AfterAll). afterAll Done (b .lent)) (sym there),
           ((h .0, keeps (x .kind) (sha1Of (x .bytes)) (h .0) (h .1), h .2), holds),
           λ t s r e. keeps t s r (K .keeps t s r e),
-          λ e. done (ap (λ (b : AfterAll). b .end) (sym there) ∙ e),
+          subst (λ (b : AfterAll). EndedAt b date rest) (sym there) ended,
         )
     go (Refused y) M p q R =
         let m : M ≡ beside log w = sym q ∙ K .stays y p in
-        (w, [], x ∷ xs, m, refl, refl, ap (afterAll Done) (sym m), tt, λ t s r e. e, λ e. let z : _≡_ {A = ℕ} 0 1 = cc in absurd (omega arith))
+        let again : store M date (x .kind) (x .bytes) .receipt .stored ≡ NotStored y =
+        ap (λ (l : Lent). store l date (x .kind) (x .bytes) .receipt .stored) m ∙ not-stored (store (beside log w) date (x .kind) (x .bytes) .receipt .stored) y p in
+        (w, [], x ∷ xs, m, refl, refl, ap (afterAll Done) (sym m), tt, λ t s r e. e, (y, refl, again, store-refuses (beside log w) date (x .kind) (x .bytes) y p))

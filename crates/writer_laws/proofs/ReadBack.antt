@@ -47,7 +47,7 @@ use Rattle.writer.specs.declared.End.the-variants.{Done}
 use Rattle.writer.proofs.Depth.{depth-lies, least-found}
 use Rattle.writer_laws.specs.Held.{HoldsAll}
 use Rattle.writer_laws.specs.ReadBack.{Reads, ReadsBack, ReadsBackLater}
-use Rattle.writer_laws.proofs.Held.{stays}
+use Rattle.writer_laws.proofs.Held.{none-left, stays}
 use Rattle.writer_laws.proofs.Back.{count, length-at, index, read-at}
 use Rattle.writer_laws.proofs.Written.{writable-file, holds-both, holds-level, Passed, passed}
 
@@ -167,6 +167,10 @@ module _ (slice : Bytes) (dsize psize depth : ℕ) (d-from : 1 ≤ dsize) (d-to 
 
 -- ---- the call
 
+-- nothing left out
+all-before : (xs before rest : List Typed) → xs ≡ before ++ rest → rest ≡ [] → xs ≡ before
+all-before xs before rest split none-out = split ∙ ap (λ ys. before ++ ys) none-out ∙ append-nil before
+
 -- what a call that succeeds leaves: the entry, in a log that holds the file's blocks
 pub record Done-with (log w date slice : Bytes) (dsize psize : ℕ) (entry scores : Bytes) : Type 0 where
   pub tests : Passed log w date slice dsize psize entry scores
@@ -189,7 +193,7 @@ module _ (log w date slice : Bytes) (dsize psize : ℕ) (entry scores : Bytes) (
       let S = stays log w date xs (T .lent) (T .dated) (writable-file slice dsize psize d (lies .dsize-to) (lies .psize-from) (lies .psize-to) few sm) in
       let ended : storeAll (beside log w) date xs .end ≡ Done = sym (ap (λ (o : Outcome). o .end) (T .is)) ∙ done in
       let before = S .1 in
-      let all : xs ≡ before = S .5 ∙ ap (λ ys. before ++ ys) (S .9 ended) ∙ append-nil before in
+      let all : xs ≡ before = all-before xs before (S .2) (S .5) (none-left (storeAll (beside log w) date xs) date (S .2) (S .9) ended) in
       record {
         tests = T;
         part = S .0;

@@ -2,20 +2,25 @@
 use mathlib.Core.Path.{_≡_}
 use mathlib.Core.Bool.{true}
 use mathlib.Core.List.{List, [], _∷_, _++_}
+use mathlib.Core.Logic.{_⊎_}
 use mathlib.Core.Option.{some}
 use Prim.Native.Nat.{ℕ, _≤_}
 use lib.ListN.{length}
 use Rattle.buffer.specs.Bytes.{Bytes}
 use Rattle.word.specs.Number.{small}
 use Rattle.sha1.specs.Sha1.{sha1Of}
+use Rattle.refusal.specs.declared.Refusal.{Refusal}
+use Rattle.refusal.specs.declared.Refusal.the-variants.{NoRoom, Clash}
 use Rattle.kind.specs.Kind.{lawful, longest}
 use Rattle.sector.specs.Sector.{isDate}
 use Rattle.block.specs.Block.{Row}
 use Rattle.log.specs.Parts.{beside, tape}
 use Rattle.log.specs.LookUp.{held, lentAllowed}
+use Rattle.log.specs.Store.{store}
+use Rattle.log.specs.declared.Stored.the-variants.{Refused as NotStored}
 use Rattle.writer.specs.Blocks.{Typed}
-use Rattle.writer.specs.WriteFile.{afterAll, storeAll}
-use Rattle.writer.specs.declared.End.the-variants.{Done}
+use Rattle.writer.specs.WriteFile.{AfterAll, afterAll, storeAll}
+use Rattle.writer.specs.declared.End.the-variants.{Done, Refused}
 
 -- look-up finds a block with these very bytes
 abbrev pub Holds : Bytes → Typed → Type 0
@@ -33,6 +38,11 @@ abbrev pub AllWritable : List Typed → Type 0
 AllWritable [] = Unit {0}
 AllWritable (x ∷ xs) = Writable x × AllWritable xs
 
+-- where a call ended that left these blocks out: behind the last of the list, or at the first of them, which the log as it is left still refuses with that number
+abbrev pub EndedAt : AfterAll → Bytes → List Typed → Type 0
+EndedAt a date [] = a .end ≡ Done
+EndedAt a date (x ∷ xs) = (y : Refusal) × (a .end ≡ Refused y) × (store (a .lent) date (x .kind) (x .bytes) .receipt .stored ≡ NotStored y) × ((y ≡ NoRoom) ⊎ (y ≡ Clash))
+
 -- "The first block refused with 14 or 15 ends the call; the blocks stored before it stay": the log is as they leave it, and holds them all, and what it held
 -- before; where none is refused they are all
 abbrev pub Stays : Type 0
@@ -41,4 +51,4 @@ Stays = (log w date : Bytes) (xs : List Typed) → lentAllowed (length log) (len
     (w′ : Bytes) × (before rest : List Typed)
     × (a .lent ≡ beside log w′) × (length w′ ≡ length w) × (xs ≡ before ++ rest) × (storeAll (beside log w) date before ≡ afterAll Done (a .lent))
     × HoldsAll (tape log w′) before × ((t : ℕ) (s : Bytes) (r : Row) → held (tape log w) t s ≡ some r → held (tape log w′) t s ≡ some r)
-    × (a .end ≡ Done → rest ≡ [])
+    × EndedAt a date rest
