@@ -43,7 +43,7 @@ use Rattle.writer.specs.declared.End.the-variants.{Done, Refused}
 use Rattle.writer.proofs.Depth.{depth-lies, least-found}
 use Rattle.writer.proofs.Tested.{tests-passed}
 use Rattle.writer_laws.specs.Held.{Writable, AllWritable}
-use Rattle.writer_laws.specs.Asking.{going, asked, numbers, helloMessage, writeMessage, writeItem, requests, WritesAreStores, WritingIsAsking}
+use Rattle.writer_laws.specs.Asking.{going, asked, numbers, helloMessage, writeMessage, writeItem, requests, lastOr, WritesAreStores, WritingIsAsking}
 use Rattle.writer_laws.proofs.Held.{Kept, one-kept}
 use Rattle.writer_laws.proofs.Written.{writable-file}
 
@@ -198,6 +198,17 @@ writes-are-stores log w date buffer past xs al da ro A =
     let s = subst (λ (l : Lent). Same log date buffer da ro i l past′ (asked L date xs) (storeAll L date xs .lent) (numbers L date xs)) (sym (ap (λ (y : steps.Outcome). y .lent) is)) r in
     ((refl, of-bytes log w date buffer al da ro i (asked L date xs) (small-asked L date xs A)), s .0, ap₂ _∷_ (ap (λ (y : steps.Outcome). y .number) is) (s .1))
 
+-- the end of the call is that of the last block asked for
+ends-as-last : (L : Lent) (date : Bytes) (xs : List Typed) → endNumber (storeAll L date xs .end) ≡ lastOr 0 (numbers L date xs)
+unfolding storeAll numbers
+ends-as-last L date [] = refl
+ends-as-last L date (x ∷ xs) = let a = store L date (x .kind) (x .bytes) in go (endOf (a .receipt .stored)) (a .lent) (ends-as-last (a .lent) date xs)
+  where
+    go : (e : End) (M : Lent) → endNumber (storeAll M date xs .end) ≡ lastOr 0 (numbers M date xs)
+        → endNumber (onward e M (storeAll M date xs) .end) ≡ lastOr 0 (endNumber e ∷ going e (numbers M date xs))
+    go Done M h = h
+    go (Refused y) M h = refl
+
 pub writing-is-asking : WritingIsAsking
 writing-is-asking log w date slice dsize psize entry scores buffer past depth sm ro en sc al da sh de =
     let lies = depth-lies (length slice) dsize psize depth de in
@@ -205,4 +216,4 @@ writing-is-asking log w date slice dsize psize entry scores buffer past depth sm
     let xs = fileBlocks slice dsize psize depth in
     let S = writes-are-stores log w date buffer past xs al da ro (writable-file slice dsize psize depth (lies .dsize-to) (lies .psize-from) (lies .psize-to) few sm) in
     let p = tests-passed log w date slice dsize psize entry scores en sc true (sym al) refl true (sym da) refl sh depth de in
-    (S .0, S .1 ∙ ap (λ (o : Outcome). o .lent) p)
+    (S .0, S .1 ∙ ap (λ (o : Outcome). o .lent) p, S .2, sym (ap (λ (o : Outcome). endNumber (o .end)) p) ∙ ends-as-last (beside log w) date xs)

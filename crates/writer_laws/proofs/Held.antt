@@ -46,7 +46,7 @@ pub record Kept (log w : Bytes) (x : Typed) (a : AfterStore) : Type 0 where
   pub stays : (y : Refusal) → endOf (a .receipt .stored) ≡ Refused y → a .lent ≡ beside log w
 
 -- the refusal of a call that ended with one
-abbrev why-ended : End → Refusal
+abbrev pub why-ended : End → Refusal
 why-ended Done = NoRoom
 why-ended (Refused y) = y
 

@@ -7,3 +7,4 @@ pub mod Written
 pub mod ReadBack
 pub mod Asking
 pub mod Walk
+pub mod Tests

@@ -2,11 +2,14 @@
 use mathlib.Core.Path.{_≡_}
 use mathlib.Core.Bool.{true}
 use mathlib.Core.List.{List, [], _∷_, _++_, map}
+use mathlib.Core.Logic.{_≢_}
 use mathlib.Core.Option.{none, some}
 use Prim.Native.Nat.{ℕ, _+_, _≤_}
 use lib.ListN.{length}
 use Rattle.buffer.specs.Bytes.{Bytes}
 use Rattle.word.specs.Number.{small, beBytes}
+use Rattle.refusal.specs.declared.Refusal.{Refusal}
+use Rattle.refusal.specs.declared.Refusal.the-variants.{NoRoom, Clash}
 use Rattle.kind.specs.Kind.{longest}
 use Rattle.sector.specs.Sector.{isDate}
 use Rattle.log.specs.Parts.{Lent, beside}
@@ -20,7 +23,7 @@ use Rattle.demands.specs.Instance.{archive}
 use Rattle.promises.specs.Histories.{afterwards}
 use Rattle.writer.specs.Blocks.{Typed, fileBlocks}
 use Rattle.writer.specs.Depth.{depthOf}
-use Rattle.writer.specs.WriteFile.{endOf, endNumber, storeAll, scoreRoom, writeFile}
+use Rattle.writer.specs.WriteFile.{endOf, endNumber, storeAll, outcome, scoreRoom, writeFile}
 use Rattle.writer.specs.declared.End.{End}
 use Rattle.writer.specs.declared.End.the-variants.{Done, Refused}
 use Rattle.writer_laws.specs.Held.{AllWritable}
@@ -67,11 +70,26 @@ WritesAreStores = (log w date buffer : Bytes) (past : List Session) (xs : List T
     × (afterwards L past qs ≡ storeAll L date xs .lent)
     × (map (λ s. s .answer .number) (trace (answer archive) (record { log = L; past = past }) qs .seen) ≡ 0 ∷ numbers L date xs)
 
--- and so of the whole call, where its tests let it through; a call that they refuse changes nothing
+-- the last of a list of numbers, n where there is none
+abbrev pub lastOr : ℕ → List ℕ → ℕ
+lastOr n [] = n
+lastOr n (m ∷ ms) = lastOr m ms
+
+-- and so of the whole call, where its tests let it through: its own number is that of the last block asked for, 0 where there is none
 abbrev pub WritingIsAsking : Type 0
 WritingIsAsking = (log w date slice : Bytes) (dsize psize : ℕ) (entry scores buffer : Bytes) (past : List Session) (depth : ℕ)
     → small slice ≡ true → replyRoom ≤ length buffer
     → length entry ≡ 40 → scoreRoom ≤ length scores → lentAllowed (length log) (length w) ≡ true → isDate date ≡ true → length slice ≤ longest
     → depthOf (length slice) dsize psize ≡ some depth
-    → let L = beside log w in let qs = requests date buffer (length past) (asked L date (fileBlocks slice dsize psize depth)) in
-    AllOfBytes archive qs × (afterwards L past qs ≡ writeFile log w date slice dsize psize entry scores .lent)
+    → let L = beside log w in let xs = fileBlocks slice dsize psize depth in let qs = requests date buffer (length past) (asked L date xs) in
+    let o = writeFile log w date slice dsize psize entry scores in
+    AllOfBytes archive qs
+    × (afterwards L past qs ≡ o .lent)
+    × (map (λ s. s .answer .number) (trace (answer archive) (record { log = L; past = past }) qs .seen) ≡ 0 ∷ numbers L date xs)
+    × (endNumber (o .end) ≡ lastOr 0 (numbers L date xs))
+
+-- "Tests .. all before the first block": a call that is refused with any number but 14 and 15 changes nothing
+abbrev pub RefusedWritesNothing : Type 0
+RefusedWritesNothing = (log w date slice : Bytes) (dsize psize : ℕ) (entry scores : Bytes) (y : Refusal)
+    → writeFile log w date slice dsize psize entry scores .end ≡ Refused y → y ≢ NoRoom → y ≢ Clash
+    → writeFile log w date slice dsize psize entry scores ≡ outcome (Refused y) (beside log w) entry scores
