@@ -1,12 +1,12 @@
 -- A writing call and the write messages of its blocks leave the same log.
 use mathlib.Core.Path.{_≡_, refl, sym, ap, ap₂, _∙_, subst}
 use mathlib.Core.Bool.{Bool, true, false, _&&_, _||_, true≢false}
-use mathlib.Core.List.{List, [], _∷_, _++_, map}
+use mathlib.Core.List.{List, [], _∷_, _++_, map, append-nil, append-assoc}
 use mathlib.Core.Option.{Option, none, some}
 use Prim.Native.Nat.{ℕ, zero, suc, _+_, _-_, _*_, _/_, _^_, _≤_, _<_}
 use native.Mathlib.Omega.{arith}
 use lib.Dec.{leb, eqb}
-use lib.ListN.{length, getD, take, length-append}
+use lib.ListN.{length, getD, take, replicate, length-append, length-map}
 use lib.Seq.{take-at}
 use borrow.Author.Tests.{le-leb, leb-true, eq-eqb, eqb-true, le-ltb, lt-ltb}
 use Rattle.buffer.specs.Bytes.{Bytes}
@@ -32,7 +32,6 @@ use Rattle.request.specs.declared.Session.the-variants.{Fresh, Greeted}
 use Rattle.ledger.specs.Trace.{trace}
 use Rattle.ledger.specs.History.{Item, AllOfBytes, Standing, answer}
 use Rattle.demands.specs.Instance.{archive}
-use Rattle.promises.specs.Histories.{afterwards}
 use Rattle.promises.specs.Requests.{Asks, Writes}
 use Rattle.demands.proofs.Seen.{kept}
 use Rattle.promises.proofs.Greeted.{write-step}
@@ -116,6 +115,14 @@ module _ (m buffer : Bytes) (a : AfterStore) where
       go (Duplicate at) = refl
       go (NotStored y) = refl
 
+  kept-session : kept m buffer a .session ≡ Greeted
+  kept-session = go (a .receipt .stored)
+    where
+      go : (s : Stored) → steps.written s (tagOf m) (a .receipt .score) (a .lent) buffer .session ≡ Greeted
+      go (New at) = refl
+      go (Duplicate at) = refl
+      go (NotStored y) = refl
+
   kept-number : kept m buffer a .number ≡ endNumber (endOf (a .receipt .stored))
   kept-number = go (a .receipt .stored)
     where
@@ -133,21 +140,25 @@ end-getD : (xs : List Session) (y : Session) → getD (xs ++ (y ∷ [])) (length
 end-getD [] y = refl
 end-getD (x ∷ xs) y = end-getD xs y
 
+one-more : (past : List Session) (s : Session) (n : ℕ) → s ≡ Greeted → (past ++ (s ∷ [])) ++ replicate n Greeted ≡ past ++ replicate (suc n) Greeted
+one-more past s n e = append-assoc past (s ∷ []) (replicate n Greeted) ∙ ap (λ (x : Session). past ++ (x ∷ replicate n Greeted)) e
+
 -- ---- all of them, in the session that message i left
 
 module _ (log date buffer : Bytes) (dated : isDate date ≡ true) (room : steps.replyRoom ≤ length buffer) (i : ℕ) where
   abbrev start : Lent → List Session → Standing archive
   start L past = record { log = L; past = past }
 
-  -- what a list of blocks asked for leaves, and its numbers
+  -- what a list of blocks asked for leaves, its numbers and sessions
   Same : Lent → List Session → List Typed → Lent → List ℕ → Type 0
   Same L past xs M ns =
-      let T = trace (answer archive) (start L past) (map (writeItem date buffer i) xs) in (T .left .log ≡ M) × (map (λ s. s .answer .number) (T .seen) ≡ ns)
+      let T = trace (answer archive) (start L past) (map (writeItem date buffer i) xs) in
+      (T .left .log ≡ M) × (map (λ s. s .answer .number) (T .seen) ≡ ns) × (T .left .past ≡ past ++ replicate (length xs) Greeted)
 
   run : (xs : List Typed) (w : Bytes) (past : List Session) → lentAllowed (length log) (length w) ≡ true → AllWritable xs → i < length past → getD past i Fresh ≡ Greeted
       → Same (beside log w) past (asked (beside log w) date xs) (storeAll (beside log w) date xs .lent) (numbers (beside log w) date xs)
   unfolding Same asked numbers storeAll
-  run [] w past al A h g = (refl, refl)
+  run [] w past al A h g = (refl, refl, sym (append-nil past))
   run (x ∷ xs) w past al A h g =
       let L = beside log w in
       let a = store L date (x .kind) (x .bytes) in
@@ -157,17 +168,18 @@ module _ (log date buffer : Bytes) (dated : isDate date ≡ true) (room : steps.
       let is : o ≡ kept m buffer a = ap (λ (s : Session). steps.step s m (some date) L buffer) g ∙ write-step m (some date) buffer L (x .kind) (x .bytes) (writes log w date buffer al dated room x (A .0)) in
       let lent : o .lent ≡ a .lent = ap (λ (y : steps.Outcome). y .lent) is ∙ kept-lent m buffer a in
       let number : o .number ≡ endNumber (endOf (a .receipt .stored)) = ap (λ (y : steps.Outcome). y .number) is ∙ kept-number m buffer a in
+      let session : o .session ≡ Greeted = ap (λ (y : steps.Outcome). y .session) is ∙ kept-session m buffer a in
       let past′ = past ++ (o .session ∷ []) in
       let rest = run xs (K .part) past′ (ap (λ (n : ℕ). lentAllowed (length log) n) (K .long) ∙ al) (A .1) (omega (arith, length-append past (o .session ∷ []))) (front-stays past (o .session ∷ []) i h ∙ g) in
       let there = subst (λ (M : Lent). Same M past′ (asked M date xs) (storeAll M date xs .lent) (numbers M date xs)) (sym (K .lent)) rest in
       let all = subst (λ (l : Lent). Same l past′ (going (endOf (a .receipt .stored)) (asked (a .lent) date xs)) (onward (endOf (a .receipt .stored)) (a .lent) (storeAll (a .lent) date xs) .lent)
       (going (endOf (a .receipt .stored)) (numbers (a .lent) date xs))) (sym lent) (ways (endOf (a .receipt .stored)) (a .lent) past′ xs there) in
-      (all .0, ap₂ _∷_ number (all .1))
+      (all .0, ap₂ _∷_ number (all .1), all .2 ∙ one-more past (o .session) (length (going (endOf (a .receipt .stored)) (asked (a .lent) date xs))) session)
     where
       ways : (e : End) (M : Lent) (p : List Session) (ys : List Typed) → Same M p (asked M date ys) (storeAll M date ys .lent) (numbers M date ys)
           → Same M p (going e (asked M date ys)) (onward e M (storeAll M date ys) .lent) (going e (numbers M date ys))
       ways Done M p ys s = s
-      ways (Refused y) M p ys s = (refl, refl)
+      ways (Refused y) M p ys s = (refl, refl, sym (append-nil p))
 
 -- ---- the theorems
 
@@ -196,7 +208,12 @@ writes-are-stores log w date buffer past xs al da ro A =
     let greeted : getD past′ i Fresh ≡ Greeted = end-getD past (o .session) ∙ ap (λ (y : steps.Outcome). y .session) is in
     let r = run log date buffer da ro i xs w past′ al A (omega (arith, length-append past (o .session ∷ []))) greeted in
     let s = subst (λ (l : Lent). Same log date buffer da ro i l past′ (asked L date xs) (storeAll L date xs .lent) (numbers L date xs)) (sym (ap (λ (y : steps.Outcome). y .lent) is)) r in
-    ((refl, of-bytes log w date buffer al da ro i (asked L date xs) (small-asked L date xs A)), s .0, ap₂ _∷_ (ap (λ (y : steps.Outcome). y .number) is) (s .1))
+    let sessions = s .2 ∙ one-more past (o .session) (length (asked L date xs)) (ap (λ (y : steps.Outcome). y .session) is)
+    ∙ ap (λ (n : ℕ). past ++ replicate (suc n) Greeted) (sym (length-map (asked L date xs) (writeItem date buffer i))) in (
+      (refl, of-bytes log w date buffer al da ro i (asked L date xs) (small-asked L date xs A)),
+      λ k. record { log = s .0 k; past = sessions k },
+      ap₂ _∷_ (ap (λ (y : steps.Outcome). y .number) is) (s .1),
+    )
 
 -- the end of the call is that of the last block asked for
 ends-as-last : (L : Lent) (date : Bytes) (xs : List Typed) → endNumber (storeAll L date xs .end) ≡ lastOr 0 (numbers L date xs)
@@ -216,4 +233,5 @@ writing-is-asking log w date slice dsize psize entry scores buffer past depth sm
     let xs = fileBlocks slice dsize psize depth in
     let S = writes-are-stores log w date buffer past xs al da ro (writable-file slice dsize psize depth (lies .dsize-to) (lies .psize-from) (lies .psize-to) few sm) in
     let p = tests-passed log w date slice dsize psize entry scores en sc true (sym al) refl true (sym da) refl sh depth de in
-    (S .0, S .1 ∙ ap (λ (o : Outcome). o .lent) p, S .2, sym (ap (λ (o : Outcome). endNumber (o .end)) p) ∙ ends-as-last (beside log w) date xs)
+    let n = length (requests date buffer (length past) (asked (beside log w) date xs)) in
+    (S .0, S .1 ∙ ap (λ (o : Outcome). record { log = o .lent; past = past ++ replicate n Greeted }) p, S .2, sym (ap (λ (o : Outcome). endNumber (o .end)) p) ∙ ends-as-last (beside log w) date xs)

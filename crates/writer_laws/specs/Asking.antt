@@ -5,7 +5,7 @@ use mathlib.Core.List.{List, [], _∷_, _++_, map}
 use mathlib.Core.Logic.{_≢_}
 use mathlib.Core.Option.{none, some}
 use Prim.Native.Nat.{ℕ, _+_, _≤_}
-use lib.ListN.{length}
+use lib.ListN.{length, replicate}
 use Rattle.buffer.specs.Bytes.{Bytes}
 use Rattle.word.specs.Number.{small, beBytes}
 use Rattle.refusal.specs.declared.Refusal.{Refusal}
@@ -17,10 +17,10 @@ use Rattle.log.specs.LookUp.{lentAllowed}
 use Rattle.log.specs.Store.{store}
 use Rattle.request.specs.Step.{replyRoom}
 use Rattle.request.specs.declared.Session.{Session}
+use Rattle.request.specs.declared.Session.the-variants.{Greeted}
 use Rattle.ledger.specs.Trace.{trace}
 use Rattle.ledger.specs.History.{Item, AllOfBytes, answer}
 use Rattle.demands.specs.Instance.{archive}
-use Rattle.promises.specs.Histories.{afterwards}
 use Rattle.writer.specs.Blocks.{Typed, fileBlocks}
 use Rattle.writer.specs.Depth.{depthOf}
 use Rattle.writer.specs.WriteFile.{endOf, endNumber, storeAll, outcome, scoreRoom, writeFile}
@@ -60,15 +60,16 @@ abbrev pub requests : Bytes → Bytes → ℕ → List Typed → List (Item arch
 requests date buffer i xs =
     record { request = record { message = helloMessage; buffer = buffer; date = some date }; left-by = none } ∷ map (writeItem date buffer i) xs
 
--- the blocks stored one after the other, and asked for by messages: the same log and waiting part, and the same numbers. The requests are of bytes, so that all that
--- is proved of histories speaks of those in which writing calls stand between messages
+-- the blocks stored one after the other, and asked for by messages: the same log and waiting part, and the same numbers; each message leaves a session in which a
+-- hello was accepted. The requests are of bytes, so that all that is proved of histories speaks of those in which writing calls stand between messages
 abbrev pub WritesAreStores : Type 0
 WritesAreStores = (log w date buffer : Bytes) (past : List Session) (xs : List Typed)
     → lentAllowed (length log) (length w) ≡ true → isDate date ≡ true → replyRoom ≤ length buffer → AllWritable xs
     → let L = beside log w in let qs = requests date buffer (length past) (asked L date xs) in
+    let T = trace (answer archive) (record { log = L; past = past }) qs in
     AllOfBytes archive qs
-    × (afterwards L past qs ≡ storeAll L date xs .lent)
-    × (map (λ s. s .answer .number) (trace (answer archive) (record { log = L; past = past }) qs .seen) ≡ 0 ∷ numbers L date xs)
+    × (T .left ≡ record { log = storeAll L date xs .lent; past = past ++ replicate (length qs) Greeted })
+    × (map (λ s. s .answer .number) (T .seen) ≡ 0 ∷ numbers L date xs)
 
 -- the last of a list of numbers, n where there is none
 abbrev pub lastOr : ℕ → List ℕ → ℕ
@@ -82,10 +83,10 @@ WritingIsAsking = (log w date slice : Bytes) (dsize psize : ℕ) (entry scores b
     → length entry ≡ 40 → scoreRoom ≤ length scores → lentAllowed (length log) (length w) ≡ true → isDate date ≡ true → length slice ≤ longest
     → depthOf (length slice) dsize psize ≡ some depth
     → let L = beside log w in let xs = fileBlocks slice dsize psize depth in let qs = requests date buffer (length past) (asked L date xs) in
-    let o = writeFile log w date slice dsize psize entry scores in
+    let o = writeFile log w date slice dsize psize entry scores in let T = trace (answer archive) (record { log = L; past = past }) qs in
     AllOfBytes archive qs
-    × (afterwards L past qs ≡ o .lent)
-    × (map (λ s. s .answer .number) (trace (answer archive) (record { log = L; past = past }) qs .seen) ≡ 0 ∷ numbers L date xs)
+    × (T .left ≡ record { log = o .lent; past = past ++ replicate (length qs) Greeted })
+    × (map (λ s. s .answer .number) (T .seen) ≡ 0 ∷ numbers L date xs)
     × (endNumber (o .end) ≡ lastOr 0 (numbers L date xs))
 
 -- "Tests .. all before the first block": a call that is refused with any number but 14 and 15 changes nothing
