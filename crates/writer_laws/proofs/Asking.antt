@@ -6,7 +6,7 @@ use mathlib.Core.Option.{Option, none, some}
 use Prim.Native.Nat.{ℕ, zero, suc, _+_, _-_, _*_, _/_, _^_, _≤_, _<_}
 use native.Mathlib.Omega.{arith}
 use lib.Dec.{leb, eqb}
-use lib.ListN.{length, getD, take, replicate, length-append, length-map}
+use lib.ListN.{length, getD, take, replicate, length-append}
 use lib.Seq.{take-at}
 use borrow.Author.Tests.{le-leb, leb-true, eq-eqb, eqb-true, le-ltb, lt-ltb}
 use Rattle.buffer.specs.Bytes.{Bytes}
@@ -64,8 +64,16 @@ kind-small t l = go (leb t 9) refl (eqb t 13) refl
 
 -- ---- the messages
 
+-- those of a block that may be written are of bytes
+small-kind : (x : Typed) → Writable x → small (14 ∷ 0 ∷ x .kind ∷ 0 ∷ 0 ∷ 0 ∷ x .bytes) ≡ true
+small-kind x W = rw (lt-ltb (x .kind) 256 (kind-small (x .kind) (W .0))) (W .2)
+
+pub small-message : (x : Typed) → Writable x → small (writeMessage x) ≡ true
+small-message x W =
+    small-append (digits 256 2 (6 + length (x .bytes))) (14 ∷ 0 ∷ x .kind ∷ 0 ∷ 0 ∷ 0 ∷ x .bytes) (below-digits 256 2 (6 + length (x .bytes)) (omega arith)) (small-kind x W)
+
 module _ (log w date buffer : Bytes) (allowed : lentAllowed (length log) (length w) ≡ true) (dated : isDate date ≡ true) (room : steps.replyRoom ≤ length buffer) where
-  greets : steps.step Fresh helloMessage (some date) (beside log w) buffer ≡ steps.granted (helloReply 0) Greeted (beside log w) buffer
+  pub greets : steps.step Fresh helloMessage (some date) (beside log w) buffer ≡ steps.granted (helloReply 0) Greeted (beside log w) buffer
   unfolding steps.step steps.inSession steps.fresh framed digits valueFrom follows textEnd countedEnd bytesEnd exactly requestOf
   greets = rw (le-ltb (length buffer) steps.replyRoom room, allowed, dated) refl
 
@@ -98,12 +106,6 @@ module _ (log w date buffer : Bytes) (allowed : lentAllowed (length log) (length
       not-long = W .1;
     }
 
-    small-kind : small (14 ∷ 0 ∷ x .kind ∷ 0 ∷ 0 ∷ 0 ∷ x .bytes) ≡ true
-    small-kind = rw (lt-ltb (x .kind) 256 (kind-small (x .kind) (W .0))) (W .2)
-
-    small-message : small (writeMessage x) ≡ true
-    small-message = small-append (digits 256 2 (6 + length (x .bytes))) (14 ∷ 0 ∷ x .kind ∷ 0 ∷ 0 ∷ 0 ∷ x .bytes) (below-digits 256 2 (6 + length (x .bytes)) (omega arith)) small-kind
-
 -- ---- one write
 
 module _ (m buffer : Bytes) (a : AfterStore) where
@@ -131,12 +133,32 @@ module _ (m buffer : Bytes) (a : AfterStore) where
       go (Duplicate at) = refl
       go (NotStored y) = refl
 
-front-stays : (xs ys : List Session) (i : ℕ) → i < length xs → getD (xs ++ ys) i Fresh ≡ getD xs i Fresh
+-- what a write message is answered in a session in which a hello was accepted: what the store did
+pub record OneWrite (o : steps.Outcome) (a : AfterStore) : Type 0 where
+  pub lent : o .lent ≡ a .lent
+  pub number : o .number ≡ endNumber (endOf (a .receipt .stored))
+  pub session : o .session ≡ Greeted
+
+pub one-write : (log w date buffer : Bytes) → lentAllowed (length log) (length w) ≡ true → isDate date ≡ true → steps.replyRoom ≤ length buffer → (x : Typed) → Writable x
+    → (s : Session) → s ≡ Greeted → OneWrite (steps.step s (writeMessage x) (some date) (beside log w) buffer) (store (beside log w) date (x .kind) (x .bytes))
+one-write log w date buffer al dated room x W s g =
+    let L = beside log w in
+    let a = store L date (x .kind) (x .bytes) in
+    let m = writeMessage x in
+    let is : steps.step s m (some date) L buffer ≡ kept m buffer a = ap (λ (y : Session). steps.step y m (some date) L buffer) g
+    ∙ write-step m (some date) buffer L (x .kind) (x .bytes) (writes log w date buffer al dated room x W) in
+    record {
+      lent = ap (λ (y : steps.Outcome). y .lent) is ∙ kept-lent m buffer a;
+      number = ap (λ (y : steps.Outcome). y .number) is ∙ kept-number m buffer a;
+      session = ap (λ (y : steps.Outcome). y .session) is ∙ kept-session m buffer a;
+    }
+
+pub front-stays : (xs ys : List Session) (i : ℕ) → i < length xs → getD (xs ++ ys) i Fresh ≡ getD xs i Fresh
 front-stays [] ys i h = absurd (omega arith)
 front-stays (x ∷ xs) ys zero h = refl
 front-stays (x ∷ xs) ys (suc i) h = front-stays xs ys i (omega arith)
 
-end-getD : (xs : List Session) (y : Session) → getD (xs ++ (y ∷ [])) (length xs) Fresh ≡ y
+pub end-getD : (xs : List Session) (y : Session) → getD (xs ++ (y ∷ [])) (length xs) Fresh ≡ y
 end-getD [] y = refl
 end-getD (x ∷ xs) y = end-getD xs y
 
@@ -163,18 +185,14 @@ module _ (log date buffer : Bytes) (dated : isDate date ≡ true) (room : steps.
       let L = beside log w in
       let a = store L date (x .kind) (x .bytes) in
       let K = one-kept log w date x al dated (A .0) in
-      let m = writeMessage x in
-      let o = steps.step (getD past i Fresh) m (some date) L buffer in
-      let is : o ≡ kept m buffer a = ap (λ (s : Session). steps.step s m (some date) L buffer) g ∙ write-step m (some date) buffer L (x .kind) (x .bytes) (writes log w date buffer al dated room x (A .0)) in
-      let lent : o .lent ≡ a .lent = ap (λ (y : steps.Outcome). y .lent) is ∙ kept-lent m buffer a in
-      let number : o .number ≡ endNumber (endOf (a .receipt .stored)) = ap (λ (y : steps.Outcome). y .number) is ∙ kept-number m buffer a in
-      let session : o .session ≡ Greeted = ap (λ (y : steps.Outcome). y .session) is ∙ kept-session m buffer a in
+      let o = steps.step (getD past i Fresh) (writeMessage x) (some date) L buffer in
+      let one = one-write log w date buffer al dated room x (A .0) (getD past i Fresh) g in
       let past′ = past ++ (o .session ∷ []) in
       let rest = run xs (K .part) past′ (ap (λ (n : ℕ). lentAllowed (length log) n) (K .long) ∙ al) (A .1) (omega (arith, length-append past (o .session ∷ []))) (front-stays past (o .session ∷ []) i h ∙ g) in
       let there = subst (λ (M : Lent). Same M past′ (asked M date xs) (storeAll M date xs .lent) (numbers M date xs)) (sym (K .lent)) rest in
       let all = subst (λ (l : Lent). Same l past′ (going (endOf (a .receipt .stored)) (asked (a .lent) date xs)) (onward (endOf (a .receipt .stored)) (a .lent) (storeAll (a .lent) date xs) .lent)
-      (going (endOf (a .receipt .stored)) (numbers (a .lent) date xs))) (sym lent) (ways (endOf (a .receipt .stored)) (a .lent) past′ xs there) in
-      (all .0, ap₂ _∷_ number (all .1), all .2 ∙ one-more past (o .session) (length (going (endOf (a .receipt .stored)) (asked (a .lent) date xs))) session)
+      (going (endOf (a .receipt .stored)) (numbers (a .lent) date xs))) (sym (one .lent)) (ways (endOf (a .receipt .stored)) (a .lent) past′ xs there) in
+      (all .0, ap₂ _∷_ (one .number) (all .1), all .2 ∙ one-more past (o .session) (length (going (endOf (a .receipt .stored)) (asked (a .lent) date xs))) (one .session))
     where
       ways : (e : End) (M : Lent) (p : List Session) (ys : List Typed) → Same M p (asked M date ys) (storeAll M date ys .lent) (numbers M date ys)
           → Same M p (going e (asked M date ys)) (onward e M (storeAll M date ys) .lent) (going e (numbers M date ys))
@@ -192,10 +210,12 @@ small-asked L date (x ∷ xs) A = let a = store L date (x .kind) (x .bytes) in (
     go Done ys h = h
     go (Refused y) ys h = tt
 
-of-bytes : (log w date buffer : Bytes) → lentAllowed (length log) (length w) ≡ true → isDate date ≡ true → steps.replyRoom ≤ length buffer → (i : ℕ) (xs : List Typed) → AllWritable xs
-    → AllOfBytes archive (map (writeItem date buffer i) xs)
-of-bytes log w date buffer al da ro i [] A = tt
-of-bytes log w date buffer al da ro i (x ∷ xs) A = (small-message log w date buffer al da ro x (A .0), of-bytes log w date buffer al da ro i xs (A .1))
+writes-of-bytes : (date buffer : Bytes) (i : ℕ) (xs : List Typed) → AllWritable xs → AllOfBytes archive (map (writeItem date buffer i) xs)
+writes-of-bytes date buffer i [] A = tt
+writes-of-bytes date buffer i (x ∷ xs) A = (small-message x (A .0), writes-of-bytes date buffer i xs (A .1))
+
+pub requests-of-bytes : (date buffer : Bytes) (i : ℕ) (xs : List Typed) → AllWritable xs → AllOfBytes archive (requests date buffer i xs)
+requests-of-bytes date buffer i xs A = (refl, writes-of-bytes date buffer i xs A)
 
 pub writes-are-stores : WritesAreStores
 unfolding Same
@@ -208,9 +228,8 @@ writes-are-stores log w date buffer past xs al da ro A =
     let greeted : getD past′ i Fresh ≡ Greeted = end-getD past (o .session) ∙ ap (λ (y : steps.Outcome). y .session) is in
     let r = run log date buffer da ro i xs w past′ al A (omega (arith, length-append past (o .session ∷ []))) greeted in
     let s = subst (λ (l : Lent). Same log date buffer da ro i l past′ (asked L date xs) (storeAll L date xs .lent) (numbers L date xs)) (sym (ap (λ (y : steps.Outcome). y .lent) is)) r in
-    let sessions = s .2 ∙ one-more past (o .session) (length (asked L date xs)) (ap (λ (y : steps.Outcome). y .session) is)
-    ∙ ap (λ (n : ℕ). past ++ replicate (suc n) Greeted) (sym (length-map (asked L date xs) (writeItem date buffer i))) in (
-      (refl, of-bytes log w date buffer al da ro i (asked L date xs) (small-asked L date xs A)),
+    let sessions = s .2 ∙ one-more past (o .session) (length (asked L date xs)) (ap (λ (y : steps.Outcome). y .session) is) in (
+      requests-of-bytes date buffer i (asked L date xs) (small-asked L date xs A),
       λ k. record { log = s .0 k; past = sessions k },
       ap₂ _∷_ (ap (λ (y : steps.Outcome). y .number) is) (s .1),
     )
@@ -233,5 +252,5 @@ writing-is-asking log w date slice dsize psize entry scores buffer past depth sm
     let xs = fileBlocks slice dsize psize depth in
     let S = writes-are-stores log w date buffer past xs al da ro (writable-file slice dsize psize depth (lies .dsize-to) (lies .psize-from) (lies .psize-to) few sm) in
     let p = tests-passed log w date slice dsize psize entry scores en sc true (sym al) refl true (sym da) refl sh depth de in
-    let n = length (requests date buffer (length past) (asked (beside log w) date xs)) in
+    let n = suc (length (asked (beside log w) date xs)) in
     (S .0, S .1 ∙ ap (λ (o : Outcome). record { log = o .lent; past = past ++ replicate n Greeted }) p, S .2, sym (ap (λ (o : Outcome). endNumber (o .end)) p) ∙ ends-as-last (beside log w) date xs)

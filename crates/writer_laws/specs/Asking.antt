@@ -4,7 +4,7 @@ use mathlib.Core.Bool.{true}
 use mathlib.Core.List.{List, [], _∷_, _++_, map}
 use mathlib.Core.Logic.{_≢_}
 use mathlib.Core.Option.{none, some}
-use Prim.Native.Nat.{ℕ, _+_, _≤_}
+use Prim.Native.Nat.{ℕ, suc, _+_, _≤_}
 use lib.ListN.{length, replicate}
 use Rattle.buffer.specs.Bytes.{Bytes}
 use Rattle.word.specs.Number.{small, beBytes}
@@ -68,7 +68,7 @@ WritesAreStores = (log w date buffer : Bytes) (past : List Session) (xs : List T
     → let L = beside log w in let qs = requests date buffer (length past) (asked L date xs) in
     let T = trace (answer archive) (record { log = L; past = past }) qs in
     AllOfBytes archive qs
-    × (T .left ≡ record { log = storeAll L date xs .lent; past = past ++ replicate (length qs) Greeted })
+    × (T .left ≡ record { log = storeAll L date xs .lent; past = past ++ replicate (suc (length (asked L date xs))) Greeted })
     × (map (λ s. s .answer .number) (T .seen) ≡ 0 ∷ numbers L date xs)
 
 -- the last of a list of numbers, n where there is none
@@ -85,7 +85,7 @@ WritingIsAsking = (log w date slice : Bytes) (dsize psize : ℕ) (entry scores b
     → let L = beside log w in let xs = fileBlocks slice dsize psize depth in let qs = requests date buffer (length past) (asked L date xs) in
     let o = writeFile log w date slice dsize psize entry scores in let T = trace (answer archive) (record { log = L; past = past }) qs in
     AllOfBytes archive qs
-    × (T .left ≡ record { log = o .lent; past = past ++ replicate (length qs) Greeted })
+    × (T .left ≡ record { log = o .lent; past = past ++ replicate (suc (length (asked L date xs))) Greeted })
     × (map (λ s. s .answer .number) (T .seen) ≡ 0 ∷ numbers L date xs)
     × (endNumber (o .end) ≡ lastOr 0 (numbers L date xs))
 

@@ -1,0 +1,3 @@
+-- Writing calls among events: `Verdicts`, of the tests; `Messages`, of a call's messages up to the refused one; `Calls`, of one call; `Happenings`, the theorems.
+pub mod Verdicts
+pub mod Messages

@@ -1,0 +1,2 @@
+-- What is claimed of histories in which writing calls stand between events.
+pub mod Happenings
