@@ -1,3 +1,5 @@
 -- Writing calls among events: `Verdicts`, of the tests; `Messages`, of a call's messages up to the refused one; `Calls`, of one call; `Happenings`, the theorems.
 pub mod Verdicts
 pub mod Messages
+pub mod Calls
+pub mod Happenings

@@ -1,10 +1,10 @@
 -- The messages of a call, up to the first that the ledger refuses, are the blocks up to the first that the log refuses.
-use mathlib.Core.Path.{_≡_, refl, sym, ap, ap₂, _∙_, subst}
+use mathlib.Core.Path.{_≡_, refl, sym, ap, _∙_, subst}
 use mathlib.Core.Bool.{Bool, true, false, cond}
 use mathlib.Core.List.{List, [], _∷_, _++_, map}
 use mathlib.Core.Logic.{_⊎_, inl, inr}
-use mathlib.Core.Option.{Option, none, some}
-use Prim.Native.Nat.{ℕ, suc, _+_, _≤_, _<_}
+use mathlib.Core.Option.{none, some}
+use Prim.Native.Nat.{ℕ, _+_, _≤_, _<_}
 use native.Mathlib.Omega.{arith}
 use lib.Dec.{eqb}
 use lib.ListN.{length, getD, length-append}
@@ -20,7 +20,7 @@ use Rattle.request.specs.Step as steps
 use Rattle.request.specs.declared.Session.{Session}
 use Rattle.request.specs.declared.Session.the-variants.{Fresh, Greeted}
 use Rattle.ledger.specs.Archive.{Seen}
-use Rattle.ledger.specs.History.{Item, Standing, answer, Books, recount}
+use Rattle.ledger.specs.History.{Item, Standing, Books, recount}
 use Rattle.ledger.proofs.Lists.{Stands, seen-alike, goes-on}
 use Rattle.demands.specs.Ledger.{Answer}
 use Rattle.demands.specs.Instance.{archive}
@@ -29,10 +29,10 @@ use Rattle.writer.specs.Blocks.{Typed}
 use Rattle.writer.specs.WriteFile.{endOf, endNumber}
 use Rattle.writer.specs.declared.End.{End}
 use Rattle.writer.specs.declared.End.the-variants.{Done, Refused}
-use Rattle.writer_laws.specs.Held.{Writable, AllWritable}
+use Rattle.writer_laws.specs.Held.{AllWritable}
 use Rattle.writer_laws.specs.Asking.{going, asked, helloMessage, writeMessage, writeItem, requests}
 use Rattle.writer_laws.proofs.Held.{one-kept, store-refuses}
-use Rattle.writer_laws.proofs.Asking.{greets, small-message, OneWrite, one-write, front-stays, end-getD}
+use Rattle.writer_laws.proofs.Asking.{greets, small-message, one-write, front-stays, end-getD}
 use Rattle.writer_events.specs.Happenings.{upToRefused}
 
 not-zero : (y : Refusal) → (y ≡ NoRoom) ⊎ (y ≡ Clash) → eqb (numberOf y) 0 ≡ false

@@ -20,7 +20,7 @@ use Rattle.request.specs.Step.{replyRoom}
 use Rattle.request.specs.declared.Session.{Session}
 use Rattle.request.specs.declared.Session.the-variants.{Greeted}
 use Rattle.ledger.specs.Trace.{Turn, trace, Along}
-use Rattle.ledger.specs.History.{Item, Standing, answer, overlaid, Books, recount, blank-log, blank-books}
+use Rattle.ledger.specs.History.{Item, Standing, overlaid, Books, recount, blank-log, blank-books}
 use Rattle.ledger.specs.Events.{Shown, Event, ask, happen, recountEvent, Possible, log-then, books-then}
 use Rattle.demands.specs.Ledger.{Answer, Extent}
 use Rattle.demands.specs.Instance.{extentOf, archive}

@@ -2,8 +2,8 @@
 use mathlib.Core.Path.{_≡_, refl, sym, ap, ap₂, _∙_, subst}
 use mathlib.Core.Bool.{Bool, true, false, _&&_, _||_, true≢false}
 use mathlib.Core.List.{List, [], _∷_, _++_, map, append-nil, append-assoc}
-use mathlib.Core.Option.{Option, none, some}
-use Prim.Native.Nat.{ℕ, zero, suc, _+_, _-_, _*_, _/_, _^_, _≤_, _<_}
+use mathlib.Core.Option.{some}
+use Prim.Native.Nat.{ℕ, zero, suc, _+_, _-_, _/_, _≤_, _<_}
 use native.Mathlib.Omega.{arith}
 use lib.Dec.{leb, eqb}
 use lib.ListN.{length, getD, take, replicate, length-append}
@@ -13,8 +13,7 @@ use Rattle.buffer.specs.Bytes.{Bytes}
 use Rattle.buffer.proofs.Bytes.{small-append}
 use Rattle.word.specs.Number.{small, digits, valueFrom, beNumber}
 use Rattle.word.proofs.NumberLaws.{length-digits, value-digits, below-digits}
-use Rattle.refusal.specs.declared.Refusal.{Refusal}
-use Rattle.kind.specs.Kind.{lawful, longest}
+use Rattle.kind.specs.Kind.{lawful}
 use Rattle.sector.specs.Sector.{isDate}
 use Rattle.log.specs.Parts.{Lent, beside}
 use Rattle.log.specs.LookUp.{lentAllowed}
@@ -23,27 +22,27 @@ use Rattle.log.specs.declared.Stored.{Stored}
 use Rattle.log.specs.declared.Stored.the-variants.{New, Duplicate, Refused as NotStored}
 use Rattle.utf8.specs.Grammar.{follows}
 use Rattle.field.specs.Field.{textEnd, countedEnd, bytesEnd}
-use Rattle.message.specs.Message.{framed, exactly, writeOf, requestOf, tagOf, dataOf}
+use Rattle.message.specs.Message.{framed, exactly, writeOf, requestOf, tagOf}
 use Rattle.message.specs.Reply.{helloReply}
 use Rattle.message.specs.declared.Request.the-variants.{Write}
 use Rattle.request.specs.Step as steps
 use Rattle.request.specs.declared.Session.{Session}
 use Rattle.request.specs.declared.Session.the-variants.{Fresh, Greeted}
 use Rattle.ledger.specs.Trace.{trace}
-use Rattle.ledger.specs.History.{Item, AllOfBytes, Standing, answer}
+use Rattle.ledger.specs.History.{AllOfBytes, Standing, answer}
 use Rattle.demands.specs.Instance.{archive}
-use Rattle.promises.specs.Requests.{Asks, Writes}
+use Rattle.promises.specs.Requests.{Writes}
 use Rattle.demands.proofs.Seen.{kept}
 use Rattle.promises.proofs.Greeted.{write-step}
 use Rattle.writer.specs.Blocks.{Typed, fileBlocks}
-use Rattle.writer.specs.WriteFile.{endOf, endNumber, AfterAll, Outcome, onward, storeAll, writeFile}
+use Rattle.writer.specs.WriteFile.{endOf, endNumber, Outcome, onward, storeAll}
 use Rattle.writer.specs.declared.End.{End}
 use Rattle.writer.specs.declared.End.the-variants.{Done, Refused}
 use Rattle.writer.proofs.Depth.{depth-lies, least-found}
 use Rattle.writer.proofs.Tested.{tests-passed}
 use Rattle.writer_laws.specs.Held.{Writable, AllWritable}
 use Rattle.writer_laws.specs.Asking.{going, asked, numbers, helloMessage, writeMessage, writeItem, requests, lastOr, WritesAreStores, WritingIsAsking}
-use Rattle.writer_laws.proofs.Held.{Kept, one-kept}
+use Rattle.writer_laws.proofs.Held.{one-kept}
 use Rattle.writer_laws.proofs.Written.{writable-file}
 
 or-none : (a : Bool) → ((a && false) || false) ≡ false

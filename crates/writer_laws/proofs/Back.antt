@@ -1,8 +1,8 @@
 -- Every offset read through the tree of blocks that the writer makes: the slice's byte, and no refusal.
-use mathlib.Core.Path.{_≡_, refl, sym, ap, ap₂, _∙_}
-use mathlib.Core.Bool.{Bool, true, false, cond, _&&_}
-use mathlib.Core.List.{List, [], _∷_, _++_}
-use mathlib.Core.Option.{Option, none, some}
+use mathlib.Core.Path.{_≡_, refl, sym, ap, _∙_}
+use mathlib.Core.Bool.{Bool, true, false}
+use mathlib.Core.List.{[]}
+use mathlib.Core.Option.{some}
 use Prim.Native.Nat.{ℕ, zero, suc, _+_, _-_, _*_, _/_, _%_, _^_, _≤_, _<_, min}
 use native.Mathlib.Nat.{mul-assoc, pow-zero, pow-suc, div-one, div-div-eq-div-mul, div-add-mod, mod-lt}
 use native.Mathlib.Omega.{arith}
@@ -18,14 +18,12 @@ use Rattle.kind.specs.Kind.{lawful, isPointer, zeroScore}
 use Rattle.kind.proofs.Types.{pointer-lawful}
 use Rattle.block.specs.Block.{Row, partsOf, placeOf}
 use Rattle.block.proofs.Facts.{part-of}
-use Rattle.log.specs.LookUp.{held, emptyRow}
-use Rattle.cut.proofs.Multiples.{times-mod}
+use Rattle.log.specs.LookUp.{emptyRow}
 use Rattle.entry.specs.declared.Entry.{Entry}
 use Rattle.entry.specs.Entry.{pointers}
 use Rattle.tree.specs.Tree.{piece, pointer, typeAt}
 use Rattle.tree.proofs.Pointers.{pointer-past}
-use Rattle.leaf.specs.declared.Extent.{Extent}
-use Rattle.leaf.specs.Leaf.{zeroRun, leafRun, pointerIndex, under}
+use Rattle.leaf.specs.Leaf.{leafRun, pointerIndex, under}
 use Rattle.file_laws.specs.Bytes.{byteUnder}
 use Rattle.file_laws.proofs.Extents.{Reads}
 use Rattle.demands.proofs.Seen.{held-zero}

@@ -1,40 +1,37 @@
 -- Blocks stored one after the other are held, and what was held still is.
 use mathlib.Core.Path.{_≡_, refl, sym, ap, ap₂, _∙_, subst}
-use mathlib.Core.Bool.{Bool, true, false, cond, true≢false}
+use mathlib.Core.Bool.{Bool, true, false, cond}
 use mathlib.Core.List.{List, [], _∷_, _++_}
 use mathlib.Core.Logic.{_⊎_, inl, inr}
 use mathlib.Core.Option.{Option, none, some}
-use Prim.Native.Nat.{ℕ, _+_, _≤_}
+use Prim.Native.Nat.{ℕ, _+_}
 use native.Mathlib.Omega.{arith}
 use lib.ListN.{length}
 use Rattle.ground.specs.Choice.{on}
 use Rattle.buffer.specs.Bytes.{Bytes, same}
 use Rattle.buffer.proofs.Bytes.{same-true}
-use Rattle.word.specs.Number.{small}
 use Rattle.sha1.specs.Sha1.{sha1Of}
 use Rattle.refusal.specs.declared.Refusal.{Refusal}
 use Rattle.refusal.specs.declared.Refusal.the-variants.{NoRoom, Clash}
-use Rattle.kind.specs.Kind.{lawful, longest}
+use Rattle.kind.specs.Kind.{lawful}
 use Rattle.sector.specs.Sector.{isDate}
 use Rattle.block.specs.Block.{Row, parts, valid, written as writtenIn}
-use Rattle.block.specs.Log.{sectors, used}
+use Rattle.block.specs.Log.{used}
 use Rattle.log.specs.Parts.{Lent, beside, oneLog, tape, roomFor, appendRow, writtenFrom}
 use Rattle.log.specs.LookUp.{held, lentAllowed}
 use Rattle.log.specs.Store.{AfterStore, afterStore, receipt, newRow, partsFor, appended, compared, store}
 use Rattle.log.specs.declared.Stored.{Stored}
 use Rattle.log.specs.declared.Stored.the-variants.{New, Duplicate, Refused as NotStored}
 use Rattle.log.proofs.Written.{held-written, held-appended}
-use Rattle.request.specs.Step.{dateAllowed}
-use Rattle.demands.specs.Instance.{extentOf}
 use Rattle.demands.proofs.Seen.{held-zero, empty-score}
 use Rattle.demands.proofs.TellAdds.{date-or-none, row-valid, log-allowed-of}
 use Rattle.demands.proofs.LentLaws.{room-one, one-appended, extent-written, start-before, room-same}
-use Rattle.demands.specs.Ledger.{roomFrom, Extent}
+use Rattle.demands.specs.Ledger.{Extent}
 use Rattle.writer.specs.Blocks.{Typed}
 use Rattle.writer.specs.WriteFile.{endOf, AfterAll, afterAll, onward, storeAll}
 use Rattle.writer.specs.declared.End.{End}
 use Rattle.writer.specs.declared.End.the-variants.{Done, Refused}
-use Rattle.writer_laws.specs.Held.{Holds, HoldsAll, Writable, AllWritable, EndedAt, Stays}
+use Rattle.writer_laws.specs.Held.{Holds, HoldsAll, Writable, EndedAt, Stays}
 
 -- what one store leaves
 pub record Kept (log w : Bytes) (x : Typed) (a : AfterStore) : Type 0 where

@@ -1,31 +1,29 @@
 -- What was written is read back, on any log, and after any later requests.
 use mathlib.Core.Path.{_≡_, refl, sym, ap, ap₂, _∙_, subst}
-use mathlib.Core.Bool.{Bool, true, false, cond, not, _&&_, _||_}
+use mathlib.Core.Bool.{true, false, cond}
 use mathlib.Core.List.{List, [], _∷_, _++_, append-nil}
 use mathlib.Core.Option.{Option, none, some}
-use Prim.Native.Nat.{ℕ, zero, suc, _+_, _-_, _*_, _/_, _%_, _^_, _≤_, _<_}
+use Prim.Native.Nat.{ℕ, zero, suc, _+_, _-_, _*_, _/_, _^_, _≤_, _<_}
 use native.Mathlib.Nat.{div-eq-of-lt, div-lt-iff-lt-mul, mul-zero, mul-comm}
 use native.Mathlib.Omega.{arith}
-use lib.Dec.{leb, ltb, eqb}
+use lib.Dec.{eqb}
 use lib.ListN.{length, take, drop, getD, take-append-drop}
 use lib.Seq.{ext-getD, take-all, length-take-le}
 use borrow.Author.Tests.{le-leb, ne-eqb, eq-eqb}
 use Rattle.ground.specs.Choice.{on}
-use Rattle.buffer.specs.Bytes.{Bytes, same}
+use Rattle.buffer.specs.Bytes.{Bytes}
 use Rattle.word.specs.Number.{small}
 use Rattle.kind.specs.Kind.{longest, zeroScore}
 use Rattle.kind.proofs.ZeroScore.{length-zero-score}
-use Rattle.block.specs.Block.{Row, partsOf}
-use Rattle.block.proofs.Facts.{some-parts}
+use Rattle.block.specs.Block.{Row}
 use Rattle.log.specs.Parts.{Lent, beside, tape}
 use Rattle.log.specs.LookUp.{held, lentAllowed}
 use Rattle.entry.specs.declared.Entry.{Entry}
-use Rattle.entry.specs.Entry.{entryOf, scoreOf, pointers, wellFormed, entryAllowed}
-use Rattle.entry.specs.Made.{madeEntry}
+use Rattle.entry.specs.Entry.{entryOf, scoreOf, wellFormed}
 use Rattle.entry.proofs.Made.{made-length, made-score, made-entry}
 use Rattle.tree.specs.Tree.{piece}
 use Rattle.leaf.specs.Leaf.{under}
-use Rattle.file.specs.File.{pageAllowed, entryReadable, extentAt, located}
+use Rattle.file.specs.File.{pageAllowed, entryReadable, located}
 use Rattle.file.proofs.Tests.{goes-down}
 use Rattle.fill.specs.Fill.{fillOf}
 use Rattle.file_laws.specs.Path.{Answers}
@@ -39,16 +37,15 @@ use Rattle.demands.specs.Ledger.{Extent}
 use Rattle.promises.specs.Histories.{Keeps, afterwards}
 use Rattle.promises.proofs.Keeps.{list-keeps}
 use Rattle.trees.specs.Again.{waitingOf}
-use Rattle.writer.specs.Blocks.{Typed, leaves, level, scoresOf, scoresAt, pointerBlocks, widthOf, fileBlocks, topOf, topScore}
-use Rattle.writer.specs.Depth.{depthOf}
-use Rattle.writer.specs.WriteFile.{AfterAll, Outcome, storeAll, entryAfter, entryOver, wrote, writeFile}
+use Rattle.writer.specs.Blocks.{Typed, leaves, scoresOf, scoresAt, pointerBlocks, widthOf, fileBlocks, topOf, topScore}
+use Rattle.writer.specs.WriteFile.{Outcome, storeAll, entryAfter, entryOver, writeFile}
 use Rattle.writer.specs.declared.End.{End}
 use Rattle.writer.specs.declared.End.the-variants.{Done}
 use Rattle.writer.proofs.Depth.{depth-lies, least-found}
 use Rattle.writer_laws.specs.Held.{HoldsAll}
 use Rattle.writer_laws.specs.ReadBack.{Reads, ReadsBack, ReadsBackLater}
 use Rattle.writer_laws.proofs.Held.{none-left, stays}
-use Rattle.writer_laws.proofs.Back.{count, length-at, index, read-at}
+use Rattle.writer_laws.proofs.Back.{count, length-at, read-at}
 use Rattle.writer_laws.proofs.Written.{writable-file, holds-both, holds-level, Passed, passed}
 
 unwrap : (a b : ℕ) → _≡_ {A = Option ℕ} (some a) (some b) → a ≡ b

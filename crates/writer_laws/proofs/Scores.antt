@@ -1,15 +1,15 @@
 -- The scores of blocks laid end to end, and what a reader finds in a block that was cut.
 use mathlib.Core.Path.{_≡_, refl, sym, ap, ap₂, _∙_}
 use mathlib.Core.Bool.{Bool, true, false}
-use mathlib.Core.List.{List, [], _∷_, _++_}
+use mathlib.Core.List.{_++_}
 use Prim.Native.Nat.{ℕ, zero, suc, _+_, _-_, _*_, _/_, _%_, _≤_, _<_}
 use native.Mathlib.Nat.{mul-zero, mul-suc, mul-assoc, mul-add, mul-le-mul-left, div-add-mod, mod-one}
 use native.Mathlib.Omega.{arith}
 use lib.Dec.{ltb}
-use lib.ListN.{length, take, drop, getD, replicate, length-take, length-drop, List·getD-eq-default}
-use lib.Seq.{length-take-le, take-at, drop-at, drop-drop, drop-append-add, take-append-le, getD-take, getD-drop}
+use lib.ListN.{length, take, drop, getD, replicate, List·getD-eq-default}
+use lib.Seq.{length-take-le, take-at, drop-at, drop-drop, drop-append-add, getD-take, getD-drop}
 use borrow.Author.Tests.{ltb-true, ltb-false}
-use Rattle.buffer.specs.Bytes.{Bytes, zeros}
+use Rattle.buffer.specs.Bytes.{Bytes}
 use Rattle.buffer.proofs.Bytes.{zeros-replicate, zeros-getD}
 use Rattle.buffer.proofs.Parts.{part-within}
 use Rattle.sha1.specs.Sha1.{sha1Of}
@@ -18,14 +18,14 @@ use Rattle.kind.specs.Kind.{isPointer, zeroScore}
 use Rattle.kind.proofs.ZeroScore.{length-zero-score}
 use Rattle.block.specs.Block.{partsOf}
 use Rattle.block.proofs.Facts.{parts-bounds}
-use Rattle.cut.specs.Cut.{zeroByte, unitOf, repeat, cutLength}
+use Rattle.cut.specs.Cut.{unitOf, repeat, cutLength}
 use Rattle.cut.proofs.Cases.{unit-pointer, unit-other}
 use Rattle.cut.proofs.Units.{repeat-zeros}
 use Rattle.cut.proofs.Shortest.{cut-le, cut-units, cut-rest}
-use Rattle.cut.proofs.Multiples.{times, times-mod}
+use Rattle.cut.proofs.Multiples.{times}
 use Rattle.tree.specs.Tree.{piece, pointer}
 use Rattle.tree.proofs.Pointers.{pointer-past, pointer-piece}
-use Rattle.writer.specs.Blocks.{Typed, cutBlock, blocksFrom, scoresOf}
+use Rattle.writer.specs.Blocks.{cutBlock, blocksFrom, scoresOf}
 
 -- score j of the blocks from i on is that of block i + j
 pub score-of : (kind w : ℕ) (b : Bytes) (k i j : ℕ) → j < k → piece 20 j (scoresOf (blocksFrom kind w b k i)) ≡ sha1Of (cutBlock kind (piece w (i + j) b))

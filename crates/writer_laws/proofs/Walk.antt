@@ -1,41 +1,35 @@
 -- Every block below the entry that the writer hands back is held.
-use mathlib.Core.Path.{_≡_, refl, sym, ap, ap₂, _∙_, subst}
+use mathlib.Core.Path.{_≡_, refl, sym, ap, _∙_, subst}
 use mathlib.Core.Bool.{Bool, true, false, cond}
-use mathlib.Core.List.{[]}
-use mathlib.Core.Option.{Option, none, some}
 use Prim.Native.Nat.{ℕ, zero, suc, _+_, _-_, _*_, _/_, _%_, _^_, _≤_, _<_, min}
-use native.Mathlib.Nat.{mul-assoc, mul-add, mul-zero}
+use native.Mathlib.Nat.{mul-assoc, mul-zero}
 use native.Mathlib.Omega.{arith}
 use lib.Dec.{ltb, eqb}
-use lib.ListN.{length, take, drop, length-take, length-drop}
+use lib.ListN.{length, take, drop}
 use lib.Seq.{length-take-le}
 use borrow.Author.Tests.{ltb-true, ltb-false, eq-eqb, ne-eqb}
-use Rattle.buffer.specs.Bytes.{Bytes, same}
+use Rattle.buffer.specs.Bytes.{Bytes}
 use Rattle.buffer.proofs.Bytes.{same-refl}
 use Rattle.buffer.proofs.Parts.{part-within}
-use Rattle.sha1.specs.Sha1.{sha1Of}
 use Rattle.kind.specs.Kind.{isPointer, zeroScore, longest}
-use Rattle.block.specs.Block.{Row, partsOf}
-use Rattle.append.proofs.Images.{part-start}
+use Rattle.block.specs.Block.{partsOf}
 use Rattle.log.specs.Parts.{tape}
 use Rattle.log.specs.LookUp.{held, emptyRow}
 use Rattle.cut.specs.Cut.{unitOf, cutLength}
 use Rattle.cut.proofs.Shortest.{cut-le}
 use Rattle.entry.specs.declared.Entry.{Entry}
-use Rattle.entry.specs.Entry.{entryOf, entryAllowed, scoreOf, pointers}
+use Rattle.entry.specs.Entry.{pointers}
 use Rattle.tree.specs.Tree.{piece}
 use Rattle.walk_laws.specs.Found.{Found, leaf, pointers as below}
 use Rattle.demands.proofs.Seen.{held-zero}
-use Rattle.trees.specs.Again.{waitingOf}
-use Rattle.writer.specs.Blocks.{cutBlock, blocksFrom, level, leaves, scoresOf, scoresAt, pointerBlocks, widthOf, fileBlocks, topOf, topScore}
-use Rattle.writer.specs.WriteFile.{writeFile}
+use Rattle.writer.specs.Blocks.{cutBlock, level, leaves, scoresOf, scoresAt, pointerBlocks, widthOf, fileBlocks, topOf, topScore}
 use Rattle.writer.proofs.Levels.{pointer-type}
 use Rattle.writer.proofs.Cutting.{data-lawful}
 use Rattle.writer.proofs.Depth.{Lies, depth-lies, least-found}
-use Rattle.writer_laws.specs.Held.{Holds, HoldsAll}
+use Rattle.writer_laws.specs.Held.{HoldsAll}
 use Rattle.writer_laws.specs.Walk.{WalkFindsFile}
 use Rattle.writer_laws.proofs.Scores.{score-of, piece-piece, cut-whole}
-use Rattle.writer_laws.proofs.Back.{holds-at, zero-left, count, length-at, read-at, part-length}
+use Rattle.writer_laws.proofs.Back.{holds-at, count, length-at, read-at, part-length}
 use Rattle.writer_laws.proofs.Written.{holds-both, holds-level}
 use Rattle.writer_laws.proofs.ReadBack.{entry-is, score-is, well-formed, done-with}
 

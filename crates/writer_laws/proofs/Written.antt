@@ -1,12 +1,12 @@
 -- The blocks of a file can be written, and a call that succeeds passed its tests.
-use mathlib.Core.Path.{_≡_, refl, sym, ap, ap₂, _∙_}
+use mathlib.Core.Path.{_≡_, refl, sym, ap, _∙_}
 use mathlib.Core.Bool.{Bool, true, false, cond, not}
 use mathlib.Core.List.{List, [], _∷_, _++_}
 use mathlib.Core.Option.{Option, none, some}
-use Prim.Native.Nat.{ℕ, zero, suc, _+_, _*_, _/_, _≤_, _<_}
+use Prim.Native.Nat.{ℕ, zero, suc, _+_, _*_, _≤_, _<_}
 use native.Mathlib.Omega.{arith}
 use lib.Dec.{ltb}
-use lib.ListN.{length, take, drop}
+use lib.ListN.{length, drop}
 use borrow.Author.Tests.{ltb-true, ltb-false, not-false}
 use Rattle.ground.specs.Choice.{on}
 use Rattle.buffer.specs.Bytes.{Bytes}
@@ -26,11 +26,9 @@ use Rattle.tree.specs.Tree.{piece}
 use Rattle.writer.specs.Blocks.{Typed, cutBlock, blocksFrom, level, leaves, scoresOf, scoresAt, pointerBlocks, widthOf, fileBlocks}
 use Rattle.writer.specs.Depth.{depthOf}
 use Rattle.writer.specs.WriteFile.{Outcome, outcome, wrote, buffersAllowed, writeFile}
-use Rattle.writer.specs.declared.End.{End}
 use Rattle.writer.specs.declared.End.the-variants.{Done, Refused}
 use Rattle.writer.proofs.Levels.{pointer-type, width-bounds}
 use Rattle.writer.proofs.Cutting.{data-lawful}
-use Rattle.writer.proofs.Depth.{depth-lies, least-found}
 use Rattle.writer_laws.specs.Held.{AllWritable, HoldsAll}
 use Rattle.writer_laws.proofs.Scores.{cut-short}
 use Rattle.writer_laws.proofs.Back.{length-take-most}

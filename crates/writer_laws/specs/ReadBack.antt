@@ -7,7 +7,7 @@ use Prim.Native.Nat.{ℕ, _≤_, _<_}
 use lib.ListN.{length, drop, getD}
 use Rattle.buffer.specs.Bytes.{Bytes}
 use Rattle.word.specs.Number.{small}
-use Rattle.log.specs.Parts.{Lent, tape}
+use Rattle.log.specs.Parts.{tape}
 use Rattle.request.specs.declared.Session.{Session}
 use Rattle.file.specs.File.{pageAllowed, located}
 use Rattle.fill.specs.Fill.{fillOf}
