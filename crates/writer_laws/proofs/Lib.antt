@@ -8,3 +8,5 @@ pub mod ReadBack
 pub mod Asking
 pub mod Walk
 pub mod Tests
+pub mod Visits
+pub mod FileVisits

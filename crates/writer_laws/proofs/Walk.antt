@@ -34,7 +34,7 @@ use Rattle.writer_laws.proofs.Written.{holds-both, holds-level}
 use Rattle.writer_laws.proofs.ReadBack.{entry-is, score-is, well-formed, done-with}
 
 -- a score of a block that was cut is one of the block's
-cut-piece : (kind : ℕ) (b : Bytes) (j : ℕ) → j < length (cutBlock kind b) / 20 → (piece 20 j (cutBlock kind b) ≡ piece 20 j b) × (20 * j + 20 ≤ length b)
+pub cut-piece : (kind : ℕ) (b : Bytes) (j : ℕ) → j < length (cutBlock kind b) / 20 → (piece 20 j (cutBlock kind b) ≡ piece 20 j b) × (20 * j + 20 ≤ length b)
 unfolding cutBlock
 cut-piece kind b j h =
     let n = cutLength (unitOf kind) b in
@@ -42,11 +42,11 @@ cut-piece kind b j h =
     (part-within 20 (20 * j) n b (omega (arith, l)), omega (arith, l, cut-le (unitOf kind) b))
 
 -- a score of a piece of whole scores
-inner : (p i j c all n : ℕ) → all ≡ 20 * c → n ≡ min (20 * p) (all - 20 * p * i) → 20 * j + 20 ≤ n → (j < p) × (p * i + j < c)
+pub inner : (p i j c all n : ℕ) → all ≡ 20 * c → n ≡ min (20 * p) (all - 20 * p * i) → 20 * j + 20 ≤ n → (j < p) × (p * i + j < c)
 inner p i j c all n ea en h = let q : 20 * p * i ≡ 20 * (p * i) = mul-assoc 20 p i in (omega arith, omega arith)
 
 -- a piece of whole scores is whole scores
-whole-piece : (p i c all n : ℕ) → all ≡ 20 * c → n ≡ min (20 * p) (all - 20 * p * i) → n % 20 ≡ 0
+pub whole-piece : (p i c all n : ℕ) → all ≡ 20 * c → n ≡ min (20 * p) (all - 20 * p * i) → n % 20 ≡ 0
 whole-piece p i c all n ea en = let q : 20 * p * i ≡ 20 * (p * i) = mul-assoc 20 p i in omega arith
 
 module _ (log slice : Bytes) (e : Entry) (plain : e .directory ≡ false) (dpos : 0 < e .dsize) (wide : 40 ≤ e .psize) where
@@ -97,29 +97,29 @@ module _ (slice : Bytes) (dsize psize depth : ℕ) (lies : Lies (length slice) d
   abbrev top : Bytes
   top = scoresAt (widthOf psize) (scoresOf (leaves dsize slice)) depth
 
-  parts : HoldsAll log (leaves dsize slice) × HoldsAll log (pointerBlocks (widthOf psize) (scoresOf (leaves dsize slice)) depth)
+  pub parts : HoldsAll log (leaves dsize slice) × HoldsAll log (pointerBlocks (widthOf psize) (scoresOf (leaves dsize slice)) depth)
   unfolding fileBlocks
   parts = holds-both log (leaves dsize slice) (pointerBlocks (widthOf psize) (scoresOf (leaves dsize slice)) depth) H
 
-  long : length top ≡ 20 * count log slice E 0 refl (lies .dsize-from) (lies .psize-from) depth
+  pub long : length top ≡ 20 * count log slice E 0 refl (lies .dsize-from) (lies .psize-from) depth
   long = length-at log slice E 0 refl (lies .dsize-from) (lies .psize-from) depth
+
+  -- no block at the top: the slice is empty, and its depth 0
+  pub shallow : count log slice E 0 refl (lies .dsize-from) (lies .psize-from) depth ≡ 0 → depth ≡ 0
+  shallow q = by (ltb 0 (length slice)) refl (ltb 0 depth) refl
+    where
+      by : (a : Bool) → ltb 0 (length slice) ≡ a → (b : Bool) → ltb 0 depth ≡ b → depth ≡ 0
+      by true u b v =
+          let r = read-at log slice E 0 refl (lies .dsize-from) (lies .psize-from) depth (least .0) (parts .0)
+          (holds-level log (widthOf psize) (scoresOf (leaves dsize slice)) depth (parts .1)) 0 (ltb-true 0 (length slice) u) depth (omega arith) in
+          absurd (omega (arith, r .0, q))
+      by false u true v = absurd (omega (arith, least .2 0 (ltb-true 0 depth v), ltb-false 0 (length slice) u))
+      by false u false v = omega (arith, ltb-false 0 depth v)
 
   found-top : Found log E depth (topScore slice dsize psize depth)
   unfolding topScore topOf
   found-top = go (count log slice E 0 refl (lies .dsize-from) (lies .psize-from) depth) refl
     where
-      -- no block at the top: the slice is empty, and its depth 0
-      shallow : count log slice E 0 refl (lies .dsize-from) (lies .psize-from) depth ≡ 0 → depth ≡ 0
-      shallow q = by (ltb 0 (length slice)) refl (ltb 0 depth) refl
-        where
-          by : (a : Bool) → ltb 0 (length slice) ≡ a → (b : Bool) → ltb 0 depth ≡ b → depth ≡ 0
-          by true u b v =
-              let r = read-at log slice E 0 refl (lies .dsize-from) (lies .psize-from) depth (least .0) (parts .0)
-              (holds-level log (widthOf psize) (scoresOf (leaves dsize slice)) depth (parts .1)) 0 (ltb-true 0 (length slice) u) depth (omega arith) in
-              absurd (omega (arith, r .0, q))
-          by false u true v = absurd (omega (arith, least .2 0 (ltb-true 0 depth v), ltb-false 0 (length slice) u))
-          by false u false v = omega (arith, ltb-false 0 depth v)
-
       none-there : (d : ℕ) → d ≡ 0 → Found log E d zeroScore
       none-there d e = subst (λ (x : ℕ). Found log E x zeroScore) (sym e) (leaf (emptyRow 13) refl (held-zero log 13 zeroScore data-lawful (same-refl zeroScore)))
 
