@@ -23,7 +23,7 @@ use Rattle.fill.specs.declared.Stop.the-variants.{Done, Refused}
 use Rattle.fill.specs.Fill.{byteAt, gathered, FillOutcome, fillIn}
 use Rattle.file_laws.specs.Path.{Answers}
 use Rattle.file_laws.specs.Bytes.{runBytes, fileByte, laid}
-use Rattle.file_laws.specs.Fill.{FillIsTheRuns, FillWhole}
+use Rattle.file_laws.specs.Fill.{FillIsTheRuns, FillFrom, FillWhole}
 use Rattle.file_laws.proofs.Extents.{Reads, shown-reads, shown-answers}
 use Rattle.file_laws.proofs.Runs.{through}
 use Rattle.file_laws.proofs.Laid.{run-bytes}
@@ -96,7 +96,7 @@ done-full lent log entry offset d r (down inside e) q =
     ap (λ (o : FillOutcome). o .filled .count) e
     ∙ gathers (byteAt lent log entry) (min (length d) ((entryOf entry) .size - offset)) offset .done (ap (λ (o : FillOutcome). o .filled .stop) (sym e) ∙ q)
 
-buffer-long : (lent : Bool) (log entry : Bytes) (offset : ℕ) (d : Bytes) → Course lent log entry offset d (fillIn lent log entry offset d)
+pub buffer-long : (lent : Bool) (log entry : Bytes) (offset : ℕ) (d : Bytes) → Course lent log entry offset d (fillIn lent log entry offset d)
     → fillIn lent log entry offset d .filled .count ≤ length (fillIn lent log entry offset d .buffer)
 buffer-long lent log entry offset d (stopped w e h) = rw e (omega arith)
 buffer-long lent log entry offset d (down inside e) =
@@ -147,40 +147,47 @@ fill-runs log waiting page entry offset d p =
 refused-none : (x : Extent) (w : Refusal) → x ≡ run.Refused w → Reads x → ⊥
 refused-none x w e a = rw e at a
 
-whole-count : (lent : Bool) (log page entry d : Bytes) → ((o : ℕ) → o < (entryOf entry) .size → Reads (extentAt lent log page entry o)) → (entryOf entry) .size ≤ length d
-    → (r : FillOutcome) → Course lent log entry 0 d r → (r .filled .count ≡ (entryOf entry) .size) × (0 < (entryOf entry) .size → r .filled .stop ≡ Done)
-whole-count lent log page entry d a h r (stopped w e f) = go (ltb 0 ((entryOf entry) .size)) refl
+from-count : (lent : Bool) (log page entry : Bytes) (offset : ℕ) (d : Bytes) → offset < (entryOf entry) .size
+    → ((o : ℕ) → offset ≤ o → o < (entryOf entry) .size → Reads (extentAt lent log page entry o)) → (r : FillOutcome) → Course lent log entry offset d r
+    → (r .filled .count ≡ min (length d) ((entryOf entry) .size - offset)) × (r .filled .stop ≡ Done)
+from-count lent log page entry offset d inside a r (stopped w e f) =
+    let here = a offset (omega arith) inside in
+    let T = through lent log page entry offset here in
+    absurd (refused-none (extentAt lent log page entry offset) w (sym (f page (T .zeros))) here)
+from-count lent log page entry offset d inside a r (down pos e) = go (gathered (byteAt lent log entry) (min (length d) ((entryOf entry) .size - offset)) offset .stop) refl
   where
-    go : (t : Bool) → ltb 0 ((entryOf entry) .size) ≡ t → (r .filled .count ≡ (entryOf entry) .size) × (0 < (entryOf entry) .size → r .filled .stop ≡ Done)
-    go true q =
-        let pos = ltb-true 0 ((entryOf entry) .size) q in
-        let T = through lent log page entry 0 (a 0 pos) in
-        absurd (refused-none (extentAt lent log page entry 0) w (sym (f page (T .zeros))) (a 0 pos))
-    go false q =
-        let z = ltb-false 0 ((entryOf entry) .size) q in
-        (omega (arith, ap (λ (o : FillOutcome). o .filled .count) e), λ pos. absurd (omega arith))
-whole-count lent log page entry d a h r (down pos e) = go (gathered (byteAt lent log entry) (min (length d) ((entryOf entry) .size - 0)) 0 .stop) refl
-  where
-    go : (s : Stop) → gathered (byteAt lent log entry) (min (length d) ((entryOf entry) .size - 0)) 0 .stop ≡ s
-        → (r .filled .count ≡ (entryOf entry) .size) × (0 < (entryOf entry) .size → r .filled .stop ≡ Done)
+    go : (s : Stop) → gathered (byteAt lent log entry) (min (length d) ((entryOf entry) .size - offset)) offset .stop ≡ s
+        → (r .filled .count ≡ min (length d) ((entryOf entry) .size - offset)) × (r .filled .stop ≡ Done)
     go Done q = (
-      omega (arith, ap (λ (o : FillOutcome). o .filled .count) e, gathers (byteAt lent log entry) (min (length d) ((entryOf entry) .size - 0)) 0 .done q),
-      λ _. ap (λ (o : FillOutcome). o .filled .stop) e ∙ q,
+      ap (λ (o : FillOutcome). o .filled .count) e ∙ gathers (byteAt lent log entry) (min (length d) ((entryOf entry) .size - offset)) offset .done q,
+      ap (λ (o : FillOutcome). o .filled .stop) e ∙ q,
     )
     go (Refused w) q =
-        let n = min (length d) ((entryOf entry) .size - 0) in
-        let t = gathers (byteAt lent log entry) n 0 .ends w q in
-        let o = 0 + length (gathered (byteAt lent log entry) n 0 .bytes) in
-        let T = through lent log page entry 0 (a 0 pos) in
-        absurd (refused-none (extentAt lent log page entry o) w (byte-refused lent log entry page (T .zeros) o w (t .1)) (a o (omega (arith, t .0))))
+        let n = min (length d) ((entryOf entry) .size - offset) in
+        let t = gathers (byteAt lent log entry) n offset .ends w q in
+        let o = offset + length (gathered (byteAt lent log entry) n offset .bytes) in
+        let T = through lent log page entry offset (a offset (omega arith) inside) in
+        absurd (refused-none (extentAt lent log page entry o) w (byte-refused lent log entry page (T .zeros) o w (t .1)) (a o (omega arith) (omega (arith, t .0))))
+
+pub fill-from : FillFrom
+fill-from log waiting page entry offset d inside a =
+    let lent = lentAllowed (length log) (length waiting) in
+    let both = tape log waiting in
+    from-count lent both page entry offset d inside (λ o f g. shown-reads log waiting page entry o (a o f g)) (fillIn lent both entry offset d) (course lent both entry offset d)
 
 pub fill-whole : FillWhole
 fill-whole log waiting page entry d a h =
-    let lent = lentAllowed (length log) (length waiting) in
-    let both = tape log waiting in
-    let W = whole-count lent both page entry d (λ o g. shown-reads log waiting page entry o (a o g)) h (fillIn lent both entry 0 d) (course lent both entry 0 d) in
-    let F = files-in lent both entry 0 d in (
+    let F = files-in (lentAllowed (length log) (length waiting)) (tape log waiting) entry 0 d in
+    let W = go (ltb 0 ((entryOf entry) .size)) refl in (
       W .0,
-      λ i g. let z : i ≡ 0 + i = omega arith in ap (fileByte both entry) z ∙ F .2 i (omega (arith, W .0)),
+      λ i g. let z : i ≡ 0 + i = omega arith in ap (fileByte (tape log waiting) entry) z ∙ F .2 i (omega (arith, W .0)),
       W .1,
     )
+  where
+    go : (t : Bool) → ltb 0 ((entryOf entry) .size) ≡ t → let r = fillIn (lentAllowed (length log) (length waiting)) (tape log waiting) entry 0 d in
+        (r .filled .count ≡ (entryOf entry) .size) × (0 < (entryOf entry) .size → r .filled .stop ≡ Done)
+    go true q = let R = fill-from log waiting page entry 0 d (ltb-true 0 ((entryOf entry) .size) q) (λ o f g. a o g) in (omega (arith, R .0), λ _. R .1)
+    go false q =
+        let F = files-in (lentAllowed (length log) (length waiting)) (tape log waiting) entry 0 d in
+        let z = ltb-false 0 ((entryOf entry) .size) q in
+        (omega (arith, F .1), λ pos. absurd (omega arith))

@@ -31,6 +31,12 @@ FillIsTheRuns = (log waiting page entry : Bytes) (offset : ℕ) (d : Bytes) → 
     (take (r .filled .count) (r .buffer) ≡ take (r .filled .count) (laid (r .filled .count) log waiting page entry offset))
     × (r .filled .stop ≡ Done → r .filled .count ≡ min (length d) ((entryOf entry) .size - offset))
 
+-- where every offset from one on reads, filling from there stops at the end of the buffer or of the file and nowhere before
+abbrev pub FillFrom : Type 0
+FillFrom = (log waiting page entry : Bytes) (offset : ℕ) (d : Bytes) → offset < (entryOf entry) .size
+    → ((o : ℕ) → offset ≤ o → o < (entryOf entry) .size → Answers (located log waiting page entry o))
+    → let r = fillOf log waiting entry offset d in (r .filled .count ≡ min (length d) ((entryOf entry) .size - offset)) × (r .filled .stop ≡ Done)
+
 -- where every offset reads, a buffer of at least the file's size gets the file's `size` bytes
 abbrev pub FillWhole : Type 0
 FillWhole = (log waiting page entry d : Bytes) → ((o : ℕ) → o < (entryOf entry) .size → Answers (located log waiting page entry o)) → (entryOf entry) .size ≤ length d

@@ -177,7 +177,8 @@ module _ (slice : Bytes) (dsize psize depth : ℕ) (lies : Lies (length slice) d
       ap (λ (d : ℕ). visitEntry (suc f) log E d nest zeroScore left) z
       ∙ leaf-visited log E refl f nest left zeroScore (emptyRow 13) (held-zero log 13 zeroScore data-lawful (same-refl zeroScore)) (omega (arith, lies .dsize-from)) n (omega arith)
 
-  file-length : length (fileBlocks slice dsize psize depth) ≡ count log slice E 0 refl (lies .dsize-from) (lies .psize-from) 0 + length (pointerBlocks (widthOf psize) (scoresOf (leaves dsize slice)) depth)
+  file-length : length (fileBlocks slice dsize psize depth)
+      ≡ count log slice E 0 refl (lies .dsize-from) (lies .psize-from) 0 + length (pointerBlocks (widthOf psize) (scoresOf (leaves dsize slice)) depth)
   unfolding fileBlocks count
   file-length =
       let n = blocks-count 13 dsize slice (partsOf dsize (length slice)) 0 in

@@ -1,10 +1,10 @@
 -- Blocks stored one after the other are held, and what was held still is.
 use mathlib.Core.Path.{_≡_, refl, sym, ap, ap₂, _∙_, subst}
 use mathlib.Core.Bool.{Bool, true, false, cond}
-use mathlib.Core.List.{List, [], _∷_, _++_}
+use mathlib.Core.List.{List, [], _∷_}
 use mathlib.Core.Logic.{_⊎_, inl, inr}
 use mathlib.Core.Option.{Option, none, some}
-use Prim.Native.Nat.{ℕ, _+_}
+use Prim.Native.Nat.{ℕ}
 use native.Mathlib.Omega.{arith}
 use lib.ListN.{length}
 use Rattle.ground.specs.Choice.{on}
@@ -31,7 +31,7 @@ use Rattle.writer.specs.Blocks.{Typed}
 use Rattle.writer.specs.WriteFile.{endOf, AfterAll, afterAll, onward, storeAll}
 use Rattle.writer.specs.declared.End.{End}
 use Rattle.writer.specs.declared.End.the-variants.{Done, Refused}
-use Rattle.writer_laws.specs.Held.{Holds, HoldsAll, Writable, EndedAt, Stays}
+use Rattle.writer_laws.specs.Held.{Holds, Writable, EndedAt, StaysIn, Stays}
 
 -- what one store leaves
 pub record Kept (log w : Bytes) (x : Typed) (a : AfterStore) : Type 0 where
@@ -58,7 +58,8 @@ unfolding store
 store-refuses L date t d y e = go (held (oneLog L) t (sha1Of d)) e
   where
     room : (b : Bool)
-        → endOf (cond b (afterStore (receipt (sha1Of d) (New (record { 0 = used (oneLog L) }))) (appendRow L (newRow L date t d))) (afterStore (receipt (sha1Of d) (NotStored NoRoom)) L) .receipt .stored)
+        → endOf (cond b (afterStore (receipt (sha1Of d) (New (record { 0 = used (oneLog L) }))) (appendRow L (newRow L date t d)))
+        (afterStore (receipt (sha1Of d) (NotStored NoRoom)) L) .receipt .stored)
         ≡ Refused y → (y ≡ NoRoom) ⊎ (y ≡ Clash)
     room true q = let z : _≡_ {A = ℕ} 0 1 = cc in absurd (omega arith)
     room false q = inl (sym (ap why-ended q))
@@ -158,22 +159,14 @@ pub stays : Stays
 unfolding storeAll
 stays log w date [] al da A = (w, [], [], refl, refl, refl, refl, tt, λ t s r e. e, refl)
 stays log w date (x ∷ xs) al da A =
-    go (endOf (store (beside log w) date (x .kind) (x .bytes) .receipt .stored)) (store (beside log w) date (x .kind) (x .bytes) .lent) refl refl (stays log (K .part) date xs (ap (λ (n : ℕ). lentAllowed (length log) n) (K .long) ∙ al) da (A .1))
+    go (endOf (store (beside log w) date (x .kind) (x .bytes) .receipt .stored)) (store (beside log w) date (x .kind) (x .bytes) .lent) refl refl
+    (stays log (K .part) date xs (ap (λ (n : ℕ). lentAllowed (length log) n) (K .long) ∙ al) da (A .1))
   where
     K : Kept log w x (store (beside log w) date (x .kind) (x .bytes))
     K = one-kept log w date x al da (A .0)
 
     go : (e : End) (M : Lent) → endOf (store (beside log w) date (x .kind) (x .bytes) .receipt .stored) ≡ e → store (beside log w) date (x .kind) (x .bytes) .lent ≡ M
-        → (let b = storeAll (beside log (K .part)) date xs in
-        (w′ : Bytes) × (before rest : List Typed)
-        × (b .lent ≡ beside log w′) × (length w′ ≡ length (K .part)) × (xs ≡ before ++ rest) × (storeAll (beside log (K .part)) date before ≡ afterAll Done (b .lent))
-        × HoldsAll (tape log w′) before × ((t : ℕ) (s : Bytes) (r : Row) → held (tape log (K .part)) t s ≡ some r → held (tape log w′) t s ≡ some r)
-        × EndedAt b date rest)
-        → (w′ : Bytes) × (before rest : List Typed)
-        × (onward e M (storeAll M date xs) .lent ≡ beside log w′) × (length w′ ≡ length w) × (x ∷ xs ≡ before ++ rest)
-        × (storeAll (beside log w) date before ≡ afterAll Done (onward e M (storeAll M date xs) .lent))
-        × HoldsAll (tape log w′) before × ((t : ℕ) (s : Bytes) (r : Row) → held (tape log w) t s ≡ some r → held (tape log w′) t s ≡ some r)
-        × EndedAt (onward e M (storeAll M date xs)) date rest
+        → StaysIn log (K .part) date xs (storeAll (beside log (K .part)) date xs) → StaysIn log w date (x ∷ xs) (onward e M (storeAll M date xs))
     go Done M p q (w′, before, rest, lent, long, split, stored, holds, keeps, ended) =
         let m : M ≡ beside log (K .part) = sym q ∙ K .lent in
         let there : storeAll M date xs ≡ storeAll (beside log (K .part)) date xs = ap (λ (y : Lent). storeAll y date xs) m in

@@ -3,16 +3,17 @@ use mathlib.Core.Path.{_≡_, refl, sym, ap, ap₂, _∙_, subst}
 use mathlib.Core.Bool.{true, false, cond}
 use mathlib.Core.List.{List, [], _∷_, _++_, append-nil}
 use mathlib.Core.Option.{Option, none, some}
-use Prim.Native.Nat.{ℕ, zero, suc, _+_, _-_, _*_, _/_, _^_, _≤_, _<_}
+use Prim.Native.Nat.{ℕ, zero, suc, _+_, _-_, _*_, _/_, _^_, _≤_, _<_, min}
 use native.Mathlib.Nat.{div-eq-of-lt, div-lt-iff-lt-mul, mul-zero, mul-comm}
 use native.Mathlib.Omega.{arith}
 use lib.Dec.{eqb}
-use lib.ListN.{length, take, drop, getD, take-append-drop}
-use lib.Seq.{ext-getD, take-all, length-take-le}
-use borrow.Author.Tests.{le-leb, ne-eqb, eq-eqb}
+use lib.ListN.{length, take, drop, getD, take-append-drop, length-drop}
+use lib.Seq.{ext-getD, getD-take, getD-drop, length-take-le}
+use borrow.Author.Tests.{le-leb, le-ltb, ne-eqb, eq-eqb}
 use Rattle.ground.specs.Choice.{on}
 use Rattle.buffer.specs.Bytes.{Bytes}
 use Rattle.word.specs.Number.{small}
+use Rattle.refusal.specs.declared.Refusal.the-variants.{Offset}
 use Rattle.kind.specs.Kind.{longest, zeroScore}
 use Rattle.kind.proofs.ZeroScore.{length-zero-score}
 use Rattle.block.specs.Block.{Row}
@@ -25,13 +26,14 @@ use Rattle.tree.specs.Tree.{piece}
 use Rattle.leaf.specs.Leaf.{under}
 use Rattle.file.specs.File.{pageAllowed, entryReadable, located}
 use Rattle.file.proofs.Tests.{goes-down}
-use Rattle.fill.specs.Fill.{fillOf}
+use Rattle.fill.specs.declared.Stop.the-variants as fill
+use Rattle.fill.specs.Fill.{FillOutcome, fillOutcome, fillIn, fillOf}
 use Rattle.file_laws.specs.Path.{Answers}
 use Rattle.file_laws.specs.Bytes.{byteUnder, fileByte, laid}
 use Rattle.file_laws.proofs.Extents as extents
 use Rattle.file_laws.proofs.Laid.{whole-file}
-use Rattle.file_laws.proofs.Filled.{fill-files}
-use Rattle.file_laws.proofs.Whole.{fill-runs, fill-whole}
+use Rattle.file_laws.proofs.Filled.{course, fill-files}
+use Rattle.file_laws.proofs.Whole.{buffer-long, fill-from}
 use Rattle.sha1.specs.Sha1.{sha1Of}
 use Rattle.demands.specs.Ledger.{Extent}
 use Rattle.promises.specs.Histories.{Keeps, afterwards}
@@ -147,20 +149,35 @@ module _ (slice : Bytes) (dsize psize depth : ℕ) (d-from : 1 ≤ dsize) (d-to 
         let got = sym (whole .1 i (omega (arith, size-is))) ∙ read-byte i inside (tape log w) 0 H in
         ap (λ (x : Bytes). getD x i 0) (sym same-laid) ∙ unwrap _ _ got)
 
-    fill-is : (d : Bytes) → length slice ≤ length d → let r = fillOf log w made 0 d in (r .filled .count ≡ length slice) × (r .buffer ≡ slice ++ drop (length slice) d)
-    fill-is d room =
-        let r = fillOf log w made 0 d in
-        let n : r .filled .count ≡ length slice = fill-whole log w page made d every (omega (arith, size-is)) .0 ∙ size-is in
-        let front = fill-runs log w page made 0 d zeros .0 in
-        let back = fill-files log w made 0 d .3 in
-        let first : take (length slice) (r .buffer) ≡ slice =
-        ap (λ (k : ℕ). take k (r .buffer)) (sym n) ∙ front ∙ ap (λ (k : ℕ). take k (laid k log w page made 0)) n ∙ ap (take (length slice)) laid-is ∙ take-all (length slice) slice (omega arith) in
-        let rest : drop (length slice) (r .buffer) ≡ drop (length slice) d =
-        ap (λ (k : ℕ). drop k (r .buffer)) (sym n) ∙ back ∙ ap (λ (k : ℕ). drop k d) n in
-        (n, sym (take-append-drop (length slice) (r .buffer)) ∙ ap₂ _++_ first rest)
+    -- a buffer filled from an offset on
+    module _ (o : ℕ) (d : Bytes) where
+      abbrev r : FillOutcome
+      r = fillOf log w made o d
+
+      abbrev n : ℕ
+      n = min (length d) (length slice - o)
+
+      fill-is : o < length slice → r ≡ fillOutcome (record { count = n; stop = fill.Done }) (take n (drop o slice) ++ drop n d)
+      fill-is inside =
+          let F = fill-from log w page made o d (omega (arith, size-is)) (λ x _ h. every x h) in
+          let G = fill-files log w made o d in
+          let counted : r .filled .count ≡ n = F .0 ∙ ap (λ (k : ℕ). min (length d) (k - o)) size-is in
+          let room : n ≤ length (r .buffer) = omega (arith, counted, buffer-long (lentAllowed (length log) (length w)) (tape log w) made o d (course (lentAllowed (length log) (length w)) (tape log w) made o d)) in
+          let front : take n (r .buffer) ≡ take n (drop o slice) =
+          ext-getD 0 (take n (r .buffer)) (take n (drop o slice)) (length-take-le n (r .buffer) room ∙ sym (length-take-le n (drop o slice) (omega (arith, length-drop o slice))))
+          (λ i h. let g : i < n = omega (arith, h, length-take-le n (r .buffer) room) in
+          getD-take n (r .buffer) i 0 g ∙ unwrap _ _ (sym (G .2 i (omega (arith, counted))) ∙ read-byte (o + i) (omega arith) (tape log w) 0 H)
+          ∙ sym (getD-take n (drop o slice) i 0 g ∙ getD-drop o slice i 0)) in
+          let rest : drop n (r .buffer) ≡ drop n d = ap (λ (k : ℕ). drop k (r .buffer)) (sym counted) ∙ G .3 ∙ ap (λ (k : ℕ). drop k d) counted in
+          let all : r .buffer ≡ take n (drop o slice) ++ drop n d = sym (take-append-drop n (r .buffer)) ∙ ap₂ _++_ front rest in
+          λ i. record { filled = record { count = counted i; stop = F .1 i }; buffer = all i }
+
+      fill-past : length slice ≤ o → r ≡ fillOutcome (record { count = 0; stop = fill.Refused Offset }) d
+      unfolding fillIn
+      fill-past h = rw (allowed, readable, le-ltb o ((entryOf made) .size) (omega (arith, size-is))) refl
 
     pub reads-made : Reads log w page made slice
-    reads-made = record { answers = answer; bytes = λ o h. read-byte o h (tape log w) 0 H; runs = laid-is; filled = fill-is }
+    reads-made = record { answers = answer; bytes = λ o h. read-byte o h (tape log w) 0 H; runs = laid-is; filled = fill-is; past-end = fill-past }
 
 -- ---- the call
 

@@ -43,12 +43,16 @@ abbrev pub EndedAt : AfterAll → Bytes → List Typed → Type 0
 EndedAt a date [] = a .end ≡ Done
 EndedAt a date (x ∷ xs) = (y : Refusal) × (a .end ≡ Refused y) × (store (a .lent) date (x .kind) (x .bytes) .receipt .stored ≡ NotStored y) × ((y ≡ NoRoom) ⊎ (y ≡ Clash))
 
--- "The first block refused with 14 or 15 ends the call; the blocks stored before it stay": the log is as they leave it, and holds them all, and what it held
--- before; where none is refused they are all
-abbrev pub Stays : Type 0
-Stays = (log w date : Bytes) (xs : List Typed) → lentAllowed (length log) (length w) ≡ true → isDate date ≡ true → AllWritable xs
-    → let a = storeAll (beside log w) date xs in
+-- what a call leaves of the blocks of a list, on a log with a waiting part: the log is as those before a place in the list leave it, and holds them all, and what it
+-- held before; and the call ended at that place
+abbrev pub StaysIn : Bytes → Bytes → Bytes → List Typed → AfterAll → Type 0
+StaysIn log w date xs a =
     (w′ : Bytes) × (before rest : List Typed)
     × (a .lent ≡ beside log w′) × (length w′ ≡ length w) × (xs ≡ before ++ rest) × (storeAll (beside log w) date before ≡ afterAll Done (a .lent))
     × HoldsAll (tape log w′) before × ((t : ℕ) (s : Bytes) (r : Row) → held (tape log w) t s ≡ some r → held (tape log w′) t s ≡ some r)
     × EndedAt a date rest
+
+-- "The first block refused with 14 or 15 ends the call; the blocks stored before it stay"
+abbrev pub Stays : Type 0
+Stays = (log w date : Bytes) (xs : List Typed) → lentAllowed (length log) (length w) ≡ true → isDate date ≡ true → AllWritable xs
+    → StaysIn log w date xs (storeAll (beside log w) date xs)

@@ -3,14 +3,16 @@ use mathlib.Core.Path.{_≡_}
 use mathlib.Core.Bool.{true}
 use mathlib.Core.List.{List, _++_}
 use mathlib.Core.Option.{some}
-use Prim.Native.Nat.{ℕ, _≤_, _<_}
-use lib.ListN.{length, drop, getD}
+use Prim.Native.Nat.{ℕ, _-_, _≤_, _<_, min}
+use lib.ListN.{length, take, drop, getD}
 use Rattle.buffer.specs.Bytes.{Bytes}
 use Rattle.word.specs.Number.{small}
+use Rattle.refusal.specs.declared.Refusal.the-variants.{Offset}
 use Rattle.log.specs.Parts.{tape}
 use Rattle.request.specs.declared.Session.{Session}
 use Rattle.file.specs.File.{pageAllowed, located}
-use Rattle.fill.specs.Fill.{fillOf}
+use Rattle.fill.specs.declared.Stop.the-variants as fill
+use Rattle.fill.specs.Fill.{fillOutcome, fillOf}
 use Rattle.file_laws.specs.Path.{Answers}
 use Rattle.file_laws.specs.Bytes.{fileByte, laid}
 use Rattle.ledger.specs.History.{Item, AllOfBytes}
@@ -20,13 +22,16 @@ use Rattle.trees.specs.Again.{waitingOf}
 use Rattle.writer.specs.WriteFile.{writeFile}
 use Rattle.writer.specs.declared.End.the-variants.{Done}
 
--- an entry through which a log and its waiting part read as the slice: at every offset, by the runs laid end to end, and by filling a buffer
+-- an entry through which a log and its waiting part read as the slice: at every offset, by the runs laid end to end, and by filling a buffer from any offset on, up to
+-- its end or the slice's, with no refusal; where the slice has no byte, 17
 pub record Reads (log waiting page entry slice : Bytes) : Type 0 where
   pub answers : (offset : ℕ) → offset < length slice → Answers (located log waiting page entry offset)
   pub bytes : (offset : ℕ) → offset < length slice → fileByte (tape log waiting) entry offset ≡ some (getD slice offset 0)
   pub runs : laid (length slice) log waiting page entry 0 ≡ slice
-  pub filled : (d : Bytes) → length slice ≤ length d
-      → let r = fillOf log waiting entry 0 d in (r .filled .count ≡ length slice) × (r .buffer ≡ slice ++ drop (length slice) d)
+  pub filled : (offset : ℕ) (d : Bytes) → offset < length slice
+      → let n = min (length d) (length slice - offset) in
+      fillOf log waiting entry offset d ≡ fillOutcome (record { count = n; stop = fill.Done }) (take n (drop offset slice) ++ drop n d)
+  pub past-end : (offset : ℕ) (d : Bytes) → length slice ≤ offset → fillOf log waiting entry offset d ≡ fillOutcome (record { count = 0; stop = fill.Refused Offset }) d
 
 -- "reading every offset through the new entry .. gives the slice": where the call succeeds, with any page of zeros
 abbrev pub ReadsBack : Type 0
