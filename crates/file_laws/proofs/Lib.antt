@@ -9,3 +9,4 @@ pub mod Pages
 pub mod Gathered
 pub mod Filled
 pub mod Whole
+pub mod Elsewhere

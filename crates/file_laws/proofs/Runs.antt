@@ -75,7 +75,7 @@ module _ (log : Bytes) (page : ℕ) (e : Entry) (offset : ℕ) where
   rename f g x y p q (nothing a b) = nothing (p ∙ a) (λ o h. q o h ∙ b o h)
   rename f g x y p q (block t s r a k m b c) = block t s r a k m (p ∙ b) (λ o h. q o h ∙ c o h)
 
-  below-zero : (level : ℕ) (s : Bytes) (o : ℕ) → same s zeroScore ≡ true → byteUnder log e o level s ≡ some 0
+  pub below-zero : (level : ℕ) (s : Bytes) (o : ℕ) → same s zeroScore ≡ true → byteUnder log e o level s ≡ some 0
   unfolding byteUnder
   below-zero zero s o q = rw q
   below-zero (suc d) s o q = rw q
@@ -99,20 +99,20 @@ module _ (log : Bytes) (page : ℕ) (e : Entry) (offset : ℕ) where
 
   -- one level, where the score is not zero and its block is held
   module _ (s : Bytes) (q : same s zeroScore ≡ false) (r : Row) where
-    leaf-is : held log (typeAt e 0) s ≡ some r → leb (length (r .bytes)) (e .dsize) ≡ true → under log page e offset 0 s ≡ leafRun page e offset (placeOf r)
+    pub leaf-is : held log (typeAt e 0) s ≡ some r → leb (length (r .bytes)) (e .dsize) ≡ true → under log page e offset 0 s ≡ leafRun page e offset (placeOf r)
     unfolding under
     leaf-is h k = rw (q, h, k)
 
-    leaf-byte : held log (typeAt e 0) s ≡ some r → (o : ℕ) → byteUnder log e o 0 s ≡ some (getD (r .bytes) (o % e .dsize) 0)
+    pub leaf-byte : held log (typeAt e 0) s ≡ some r → (o : ℕ) → byteUnder log e o 0 s ≡ some (getD (r .bytes) (o % e .dsize) 0)
     unfolding byteUnder
     leaf-byte h o = rw (q, h)
 
-    level-is : (d : ℕ) → held log (2 + suc d) s ≡ some r → leb (length (r .bytes)) (e .psize) ≡ true → eqb (length (r .bytes) % 20) 0 ≡ true
+    pub level-is : (d : ℕ) → held log (2 + suc d) s ≡ some r → leb (length (r .bytes)) (e .psize) ≡ true → eqb (length (r .bytes) % 20) 0 ≡ true
         → under log page e offset (suc d) s ≡ under log page e offset d (pointer (r .bytes) (pointerIndex e offset d))
     unfolding under
     level-is d h k w = rw (q, h, k, w)
 
-    level-byte : (d : ℕ) → held log (2 + suc d) s ≡ some r → (o : ℕ) → o / e .dsize ≡ offset / e .dsize
+    pub level-byte : (d : ℕ) → held log (2 + suc d) s ≡ some r → (o : ℕ) → o / e .dsize ≡ offset / e .dsize
         → byteUnder log e o (suc d) s ≡ byteUnder log e o d (pointer (r .bytes) (pointerIndex e offset d))
     unfolding byteUnder
     level-byte d h o g = rw (q, h) (ap (λ (n : ℕ). byteUnder log e o d (pointer (r .bytes) (n / pointers e ^ d % pointers e))) g)

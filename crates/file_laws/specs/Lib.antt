@@ -2,3 +2,4 @@
 pub mod Path
 pub mod Bytes
 pub mod Fill
+pub mod Elsewhere

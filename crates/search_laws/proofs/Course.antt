@@ -41,7 +41,8 @@ module _ (log waiting page entry query : Bytes) where
     bad-log : lentAllowed (length log) (length waiting) ≡ false → searchOf log waiting page entry query ≡ Refused why.LogLength → Course
     bad-page : lentAllowed (length log) (length waiting) ≡ true → pageAllowed page ≡ false → searchOf log waiting page entry query ≡ Refused why.Page → Course
     bad-entry : lentAllowed (length log) (length waiting) ≡ true → pageAllowed page ≡ true → entryReadable entry ≡ false → searchOf log waiting page entry query ≡ Refused why.Entry → Course
-    long : longestCard < entryOf entry .size → searchOf log waiting page entry query ≡ Refused why.Card → Course
+    long : lentAllowed (length log) (length waiting) ≡ true → pageAllowed page ≡ true → entryReadable entry ≡ true → longestCard < entryOf entry .size
+        → searchOf log waiting page entry query ≡ Refused why.Card → Course
     through : Open log waiting page entry → Course
 
   pub course : Course
@@ -52,7 +53,7 @@ module _ (log waiting page entry query : Bytes) where
       go false g r t p q u e = bad-log p (rw p refl)
       go true false r t p q u e = bad-page p q (rw (p, q) refl)
       go true true false t p q u e = bad-entry p q u (rw (p, q, u) refl)
-      go true true true false p q u e = long (leb-false (entryOf entry .size) longestCard e) (rw (p, q, u, e) refl)
+      go true true true false p q u e = long p q u (leb-false (entryOf entry .size) longestCard e) (rw (p, q, u, e) refl)
       go true true true true p q u e = through (record { log-allowed = p; page-allowed = q; entry-readable = u; short = leb-true (entryOf entry .size) longestCard e })
 
   -- a value comes only past the tests
@@ -63,5 +64,5 @@ module _ (log waiting page entry query : Bytes) where
       go (bad-log p q) = absurd (no-value why.LogLength v (searchOf log waiting page entry query) q e)
       go (bad-page p r q) = absurd (no-value why.Page v (searchOf log waiting page entry query) q e)
       go (bad-entry p r s q) = absurd (no-value why.Entry v (searchOf log waiting page entry query) q e)
-      go (long h q) = absurd (no-value why.Card v (searchOf log waiting page entry query) q e)
+      go (long p r s h q) = absurd (no-value why.Card v (searchOf log waiting page entry query) q e)
       go (through p) = p

@@ -71,7 +71,7 @@ module _ (log waiting page entry query : Bytes) (o : ℕ) (w : Refusal) (h : o <
   unreadable s (bad-log a q) = tested why.LogLength q (stops-log lent both page entry o false (sym a) refl)
   unreadable s (bad-page a g q) = tested why.Page q (stops-page lent both page entry o true (sym a) refl false (sym g) refl)
   unreadable s (bad-entry a g r q) = tested why.Entry q (stops-entry lent both page entry o true (sym a) refl true (sym g) refl false (sym r) refl)
-  unreadable s (long l q) = absurd (omega arith)
+  unreadable s (long a g r l q) = absurd (omega arith)
   unreadable s (through p) = opened log waiting page entry query p ∙ ap (λ (x : Stop). onceRead x (cardOf log waiting entry .bytes) query) (first p)
 
 pub unreadable-is-refused : UnreadableIsRefused

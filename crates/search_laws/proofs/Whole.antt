@@ -13,7 +13,7 @@ use Rattle.refusal.specs.declared.Refusal.the-variants as why
 use Rattle.log.specs.LookUp.{lentAllowed}
 use Rattle.log.specs.Parts.{tape}
 use Rattle.entry.specs.Entry.{entryOf}
-use Rattle.file.specs.File.{pageAllowed, located}
+use Rattle.file.specs.File.{pageAllowed, extentAt, located}
 use Rattle.leaf.specs.declared.Extent.the-variants as extent
 use Rattle.file.specs.declared.Located.the-variants as run
 use Rattle.file.proofs.Tests.{shown}
@@ -57,12 +57,19 @@ module _ (log waiting entry : Bytes) where
     front-answers o h = shown-answers log waiting page entry o (byte-answers lent (tape log waiting) entry page p o _ (nth o h))
 
     -- the offset that stops it is refused
+    pub stop-extent : (w : Refusal) → cardOf log waiting entry .stop ≡ stop.Refused w
+        → (length (cardOf log waiting entry .bytes) < entryOf entry .size)
+        × (extentAt lent (tape log waiting) page entry (length (cardOf log waiting entry .bytes)) ≡ extent.Refused w)
+    stop-extent w e =
+        let n = length (cardOf log waiting entry .bytes) in
+        let q = G .ends w e in
+        (q .0, byte-refused lent (tape log waiting) entry page p n w (ap readAt (sym (zero-add n)) ∙ q .1))
+
     pub stop-refused : (w : Refusal) → cardOf log waiting entry .stop ≡ stop.Refused w
         → (length (cardOf log waiting entry .bytes) < entryOf entry .size) × (located log waiting page entry (length (cardOf log waiting entry .bytes)) ≡ run.Refused w)
     stop-refused w e =
-        let n = length (cardOf log waiting entry .bytes) in
-        let q = G .ends w e in
-        (q .0, sym (shown log waiting page entry n (extent.Refused w) (sym (byte-refused lent (tape log waiting) entry page p n w (ap readAt (sym (zero-add n)) ∙ q .1)))))
+        let q = stop-extent w e in
+        (q .0, sym (shown log waiting page entry (length (cardOf log waiting entry .bytes)) (extent.Refused w) (sym (q .1))))
 
     -- read to its end, every offset answers
     pub done-answers : cardOf log waiting entry .stop ≡ stop.Done → (o : ℕ) → o < entryOf entry .size → Answers (located log waiting page entry o)
@@ -122,26 +129,24 @@ read-answer log waiting page entry query ls r =
     ∙ rw (lines-are card ls (r .lines) .0)
 
 -- its bytes are the file's
+module _ (log waiting page entry : Bytes) (p : Open log waiting page entry) (reads : (o : ℕ) → o < entryOf entry .size → Answers (located log waiting page entry o)) where
+  pub read-done : cardOf log waiting entry .stop ≡ stop.Done
+  read-done = answers-done log waiting entry page (p .page-allowed) reads
+
+  pub read-length : length (cardOf log waiting entry .bytes) ≡ entryOf entry .size
+  read-length = G log waiting entry .done read-done
+
+  pub read-bytes : (i : ℕ) → i < entryOf entry .size → fileByte (tape log waiting) entry i ≡ some (getD (cardOf log waiting entry .bytes) i 0)
+  read-bytes i h =
+      let n = entryOf entry .size in
+      let b = cardOf log waiting entry .bytes in
+      let d : Bytes = replicate n 0 in
+      let room : n ≤ length d = omega (arith, length-replicate {A = ℕ} n 0) in
+      fill-whole log waiting page entry d reads room .1 i h
+      ∙ ap (λ (x : FillOutcome). some (getD (x .buffer) i 0)) (filled-card log waiting entry d n (p .log-allowed) (p .entry-readable) refl room (λ e. omega (arith, h, e)))
+      ∙ ap (λ (x : ℕ). some x) (List·getD-append b (drop (0 + length b) d) 0 i (omega (arith, h, read-length)))
+
 pub card-is-the-file : CardIsTheFile
-card-is-the-file log waiting page entry ls r = (G log waiting entry .done done, each)
-  where
-    n : ℕ
-    n = entryOf entry .size
-
-    b : Bytes
-    b = cardOf log waiting entry .bytes
-
-    d : Bytes
-    d = replicate n 0
-
-    done : cardOf log waiting entry .stop ≡ stop.Done
-    done = answers-done log waiting entry page (r .page-allowed) (r .reads)
-
-    room : n ≤ length d
-    room = omega (arith, length-replicate {A = ℕ} n 0)
-
-    each : (i : ℕ) → i < n → fileByte (tape log waiting) entry i ≡ some (getD b i 0)
-    each i h =
-        fill-whole log waiting page entry d (r .reads) room .1 i h
-        ∙ ap (λ (x : FillOutcome). some (getD (x .buffer) i 0)) (filled-card log waiting entry d n (r .log-allowed) (r .entry-readable) refl room (λ e. omega (arith, h, e)))
-        ∙ ap (λ (x : ℕ). some x) (List·getD-append b (drop (0 + length b) d) 0 i (omega (arith, h, G log waiting entry .done done)))
+card-is-the-file log waiting page entry ls r =
+    let p = read-as-open log waiting page entry ls r in
+    (read-length log waiting page entry p (r .reads), read-bytes log waiting page entry p (r .reads))

@@ -3,12 +3,13 @@
 use mathlib.Core.Path.{_≡_}
 use mathlib.Core.Bool.{true}
 use mathlib.Core.List.{List, _∷_, _++_}
-use mathlib.Core.Logic.{_≢_}
+use mathlib.Core.Logic.{_≢_, _⊎_}
 use mathlib.Core.Option.{some}
 use Prim.Native.Nat.{ℕ, _≤_, _<_}
 use lib.ListN.{length, getD}
 use Rattle.buffer.specs.Bytes.{Bytes}
 use Rattle.refusal.specs.declared.Refusal.{Refusal}
+use Rattle.refusal.specs.declared.Refusal.the-variants as why
 use Rattle.log.specs.LookUp.{lentAllowed}
 use Rattle.log.specs.Parts.{tape, Lent}
 use Rattle.request.specs.declared.Session.{Session}
@@ -20,6 +21,7 @@ use Rattle.file.specs.File.{pageAllowed, entryReadable, located}
 use Rattle.file.specs.declared.Located.the-variants as run
 use Rattle.file_laws.specs.Path.{Answers, Whole}
 use Rattle.file_laws.specs.Bytes.{fileByte}
+use Rattle.file_laws.specs.Elsewhere.{BlocksHeldBy}
 use Rattle.trees.specs.Again.{waitingOf}
 use Rattle.kleene.specs.declared.Value.{Value}
 use Rattle.kleene.specs.declared.Value.the-variants.{NotKnown}
@@ -27,9 +29,10 @@ use Rattle.card.specs.Name.{isName}
 use Rattle.card.specs.Card.{Line, linesOf}
 use Rattle.card.specs.Says.{Among}
 use Rattle.query.specs.Reading.{notWord}
+use Rattle.evaluate.specs.declared.Answer.{Answer}
 use Rattle.evaluate.specs.declared.Answer.the-variants.{Told, Refused}
 use Rattle.evaluate.specs.Evaluate.{evaluateOf}
-use Rattle.search.specs.Search.{longestCard, cardOf, searchOf}
+use Rattle.search.specs.Search.{longestCard, cardOf, judged, searchOf}
 
 -- the entry's file is no longer than a card, every offset of it reads, and its bytes are a card with these lines
 pub record ReadAs (log waiting page entry : Bytes) (ls : List Line) : Type 0 where
@@ -49,6 +52,30 @@ abbrev pub CardIsTheFile : Type 0
 CardIsTheFile = (log waiting page entry : Bytes) (ls : List Line) → ReadAs log waiting page entry ls
     → let b = cardOf log waiting entry .bytes in
     (length b ≡ entryOf entry .size) × ((i : ℕ) → i < entryOf entry .size → fileByte (tape log waiting) entry i ≡ some (getD b i 0))
+
+-- the answer is that of the card's bytes: where every offset reads, and these are the file's bytes, it is what they say
+abbrev pub JudgedByItsBytes : Type 0
+JudgedByItsBytes = (log waiting page entry card query : Bytes) → lentAllowed (length log) (length waiting) ≡ true → pageAllowed page ≡ true → entryReadable entry ≡ true
+    → entryOf entry .size ≡ length card → length card ≤ longestCard
+    → ((o : ℕ) → o < length card → Answers (located log waiting page entry o)) → ((o : ℕ) → o < length card → fileByte (tape log waiting) entry o ≡ some (getD card o 0))
+    → searchOf log waiting page entry query ≡ judged card query
+
+-- two logs in which every offset of the card reads to the same byte give the same answer
+abbrev pub SameBytesSameAnswer : Type 0
+SameBytesSameAnswer = (log waiting log′ waiting′ page entry query : Bytes) → lentAllowed (length log) (length waiting) ≡ true → lentAllowed (length log′) (length waiting′) ≡ true
+    → ((o : ℕ) → o < entryOf entry .size → Answers (located log waiting page entry o) × Answers (located log′ waiting′ page entry o)
+    × (fileByte (tape log′ waiting′) entry o ≡ fileByte (tape log waiting) entry o))
+    → searchOf log′ waiting′ page entry query ≡ searchOf log waiting page entry query
+
+-- an answer that the card's bytes give, and no reading of them: a value, 25 or 26
+abbrev pub OfTheCard : Answer → Type 0
+OfTheCard (Told v) = Unit {0}
+OfTheCard (Refused w) = (w ≡ why.Card) ⊎ (w ≡ why.Query)
+
+-- such an answer, given by a log, is given by every log that holds its blocks: a card may be judged in a small log to which its blocks were copied
+abbrev pub AnsweredElsewhere : Type 0
+AnsweredElsewhere = (log waiting log′ waiting′ page entry query : Bytes) → lentAllowed (length log′) (length waiting′) ≡ true → BlocksHeldBy (tape log waiting) (tape log′ waiting′)
+    → OfTheCard (searchOf log waiting page entry query) → searchOf log′ waiting′ page entry query ≡ searchOf log waiting page entry query
 
 -- "a card the archive can't read keeps the archive's number at the first refused offset"; a reason has its number, and 12 its sector
 abbrev pub UnreadableIsRefused : Type 0

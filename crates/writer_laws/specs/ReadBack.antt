@@ -8,9 +8,11 @@ use lib.ListN.{length, take, drop, getD}
 use Rattle.buffer.specs.Bytes.{Bytes}
 use Rattle.word.specs.Number.{small}
 use Rattle.refusal.specs.declared.Refusal.the-variants.{Offset}
+use Rattle.log.specs.LookUp.{lentAllowed}
 use Rattle.log.specs.Parts.{tape}
 use Rattle.request.specs.declared.Session.{Session}
-use Rattle.file.specs.File.{pageAllowed, located}
+use Rattle.entry.specs.Entry.{entryOf}
+use Rattle.file.specs.File.{pageAllowed, entryReadable, located}
 use Rattle.fill.specs.declared.Stop.the-variants as fill
 use Rattle.fill.specs.Fill.{fillOutcome, fillOf}
 use Rattle.file_laws.specs.Path.{Answers}
@@ -22,9 +24,12 @@ use Rattle.trees.specs.Again.{waitingOf}
 use Rattle.writer.specs.WriteFile.{writeFile}
 use Rattle.writer.specs.declared.End.the-variants.{Done}
 
--- an entry through which a log and its waiting part read as the slice: at every offset, by the runs laid end to end, and by filling a buffer from any offset on, up to
--- its end or the slice's, with no refusal; where the slice has no byte, 17
+-- an entry through which a log and its waiting part read as the slice: it is lawful and of the slice's size, and reads at every offset, by the runs laid end to end,
+-- and by filling a buffer from any offset on, up to its end or the slice's, with no refusal; where the slice has no byte, 17
 pub record Reads (log waiting page entry slice : Bytes) : Type 0 where
+  pub allowed : lentAllowed (length log) (length waiting) ≡ true
+  pub readable : entryReadable entry ≡ true
+  pub size : (entryOf entry) .size ≡ length slice
   pub answers : (offset : ℕ) → offset < length slice → Answers (located log waiting page entry offset)
   pub bytes : (offset : ℕ) → offset < length slice → fileByte (tape log waiting) entry offset ≡ some (getD slice offset 0)
   pub runs : laid (length slice) log waiting page entry 0 ≡ slice
