@@ -120,7 +120,7 @@ uint64_t skywimple_search(const uint8_t *log, size_t log_len, const uint8_t *wai
                           const uint8_t *entry, size_t entry_len, const uint8_t *query,
                           size_t query_len);
 
-/* 1 where the bytes are well-formed as a card, whatever their count, else 0. */
+/* 1 where the bytes are a card: at most 4,096, and well-formed; else 0. */
 uint32_t skywimple_is_card(const uint8_t *bytes, size_t bytes_len);
 
 /* The block type of a number of the enumeration: the number 9 for none, else 256 times the type. */

@@ -53,7 +53,14 @@ table =
     ∷ bad (absent ((0x60 ∷ []) ∷ []))
     ∷ bad (absent ((0x7B ∷ []) ∷ []))
     ∷ bad (absent ((0x41 ∷ 0x20 ∷ []) ∷ []))
-    -- no line feed at the end, one too many, another one, a line cut off, another word, no "="
+    -- bytes past ASCII: the first, é as UTF-8 has it, a letter with its high bit set, the last
+    ∷ bad (absent ((0x80 ∷ []) ∷ []))
+    ∷ bad (absent ((0xC3 ∷ 0xA9 ∷ []) ∷ []))
+    ∷ bad (absent ((0xC1 ∷ []) ∷ []))
+    ∷ bad (absent ((0xFF ∷ []) ∷ []))
+    ∷ bad (absent ((0x41 ∷ []) ∷ []) ++ (0x80 ∷ []))
+    -- "A==absent"; no line feed at the end, one too many, another one, a line cut off, another word, no "="
+    ∷ bad (0x41 ∷ 0x3D ∷ 0x3D ∷ 0x61 ∷ 0x62 ∷ 0x73 ∷ 0x65 ∷ 0x6E ∷ 0x74 ∷ 0x0A ∷ [])
     ∷ bad (0x41 ∷ 0x3D ∷ 0x61 ∷ 0x62 ∷ 0x73 ∷ 0x65 ∷ 0x6E ∷ 0x74 ∷ [])
     ∷ bad (absent ((0x41 ∷ []) ∷ []) ++ (0x0A ∷ []))
     ∷ bad (0x0A ∷ [])

@@ -2,9 +2,8 @@
 use evaluate::Answer;
 use kleene::Value;
 ghost use mathlib.Core.Path.{_≡_};
-ghost use Rattle.card.specs.Card.{wellFormed};
 ghost use Rattle.search.specs.Search.{searchOf};
-ghost use Rattle.results.specs.Search.{valueNumber, toldNumber, answerSector, searchResult, cardNumber};
+ghost use Rattle.results.specs.Search.{valueNumber, toldNumber, answerSector, searchResult, isCard, cardNumber};
 
 // A value as a number.
 fn value_number(value: Value) -> u64
@@ -49,10 +48,13 @@ pub fn search<'a>(log: &'a [u8], waiting: &'a [u8], page: &[u8], entry: &[u8], q
     number as u64 + 256 * (told + 256 * (sector as u64))
 }
 
-// 1 where the bytes are a card, else 0.
+// 1 where the bytes are a card, else 0: more than 4,096 are none.
 pub fn is_card(bytes: &[u8]) -> u32
-    ensures { λ r. ⌜ r ≡ cardNumber (wellFormed (now (bytes .entry))) ⌝ }
+    ensures { λ r. ⌜ r ≡ cardNumber (isCard (now (bytes .entry))) ⌝ }
 {
+    if 4096 < bytes.len() {
+        return 0;
+    }
     if card::is_card(bytes) {
         return 1;
     }

@@ -1,5 +1,5 @@
 -- A file reads alike in every log that holds its blocks.
-use mathlib.Core.Path.{_≡_, refl, sym, ap, subst, _∙_}
+use mathlib.Core.Path.{_≡_, refl, sym, ap, _∙_}
 use mathlib.Core.Bool.{Bool, true, false}
 use mathlib.Core.Option.{some}
 use Prim.Native.Nat.{ℕ, zero, suc, _+_, _%_}
@@ -16,10 +16,9 @@ use Rattle.log.specs.Parts.{tape}
 use Rattle.entry.specs.declared.Entry.{Entry}
 use Rattle.entry.specs.Entry.{entryOf, scoreOf}
 use Rattle.tree.specs.Tree.{pointer, typeAt}
-use Rattle.leaf.specs.declared.Extent.{Extent}
 use Rattle.leaf.specs.Leaf.{zeroRun, leafRun, pointerIndex, under}
 use Rattle.leaf.proofs.Steps.{under-zero}
-use Rattle.file.specs.File.{test, pageAllowed, entryReadable, extentAt}
+use Rattle.file.specs.File.{pageAllowed, entryReadable, extentAt}
 use Rattle.file_laws.specs.Bytes.{byteUnder, fileByte}
 use Rattle.file_laws.specs.Elsewhere.{BlocksHeldBy, ReadsElsewhere}
 use Rattle.file_laws.proofs.Extents.{Reads, shown-reads, shown-answers}

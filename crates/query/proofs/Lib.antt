@@ -3,7 +3,7 @@ pub mod Words
 pub mod Names
 pub mod Front
 pub mod Sound
-pub mod Complete
+pub mod Tokens
 pub mod OneToOne
 pub mod Monotone
 pub mod Examples

@@ -15,7 +15,7 @@ use Rattle.query.specs.Claims.{EveryTextOneReading, EveryReadingOneText,
 use Rattle.query.proofs.Words.{joined-words, allUnspaced, words-joined, joined-length}
 use Rattle.query.proofs.Names.{tokens-unspaced}
 use Rattle.query.proofs.Sound.{OfList, list-read}
-use Rattle.query.proofs.Complete.{list-back}
+use Rattle.query.proofs.Tokens.{list-back}
 
 -- ---- a text's reading
 

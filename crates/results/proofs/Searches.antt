@@ -1,10 +1,12 @@
 -- The answer of a card search is small, and is read back as it was.
 use mathlib.Core.Path.{_≡_, refl, sym, ap, _∙_}
+use mathlib.Core.Bool.{Bool}
 use mathlib.Core.List.{[], _∷_}
 use Prim.Native.Nat.{ℕ, _+_, _*_, _/_, _%_, _≤_, _<_}
 use native.Mathlib.Nat.{zero-add}
 use native.Mathlib.Omega.{arith}
 use lib.Dec.{leb}
+use borrow.Author.Tests.{le-leb, lt-leb}
 use lib.ListN.{length}
 use Rattle.ground.proofs.Cases.{cond-ind, on-ind}
 use Rattle.buffer.specs.Bytes.{Bytes}
@@ -31,7 +33,7 @@ use Rattle.evaluate.specs.declared.Answer.the-variants.{Told, Refused}
 use Rattle.evaluate.specs.Evaluate.{evaluateOf}
 use Rattle.search.specs.Search.{longestCard, cardOf, judged, onceRead, searchOf, answerNumber}
 use Rattle.results.specs.Tree.{mostBoth}
-use Rattle.results.specs.Search.{valueFrom, toldNumber, answerSector, searchResult}
+use Rattle.results.specs.Search.{valueFrom, toldNumber, answerSector, searchResult, isCard, cardNumber}
 use Rattle.results.specs.Unpacked as claims
 use Rattle.results.proofs.Numbers.{number-bounds}
 use Rattle.results.proofs.Bounds.{refused-within}
@@ -119,3 +121,15 @@ search-unpacks a =
 -- of the code's parts
 pub searched-so : (a b : Answer) (k v s : ℕ) → a ≡ b → k ≡ answerNumber a → v ≡ toldNumber a → s ≡ answerSector a → k + 256 * (v + 256 * s) ≡ searchResult b
 searched-so a b k v s e f g h = (λ i. f i + 256 * (g i + 256 * h i)) ∙ ap searchResult e
+
+-- ---- whether bytes are a card
+
+-- more than 4,096 are none
+pub long-no-card : (s : Bytes) → longestCard < length s → 0 ≡ cardNumber (isCard s)
+unfolding isCard
+long-no-card s h = rw (lt-leb (length s) longestCard h) refl
+
+-- no more are one if they are well-formed
+pub short-card : (s : Bytes) (b t : Bool) → length s ≤ longestCard → t ≡ wellFormed s → t ≡ b → cardNumber b ≡ cardNumber (isCard s)
+unfolding isCard
+short-card s b t h e q = rw (le-leb (length s) longestCard h, sym e ∙ q) refl

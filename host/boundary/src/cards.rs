@@ -46,7 +46,7 @@ fn searched(result: u64) -> Result<Value, Refusal> {
     })
 }
 
-/// Whether these bytes are a card.
+/// Whether these bytes are a card: at most 4,096, and well-formed.
 pub fn is_card(bytes: &[u8]) -> bool {
     // SAFETY: the pointer and the length are those of a slice that outlives the call.
     unsafe { boundary::skywimple_is_card(bytes.as_ptr(), bytes.len()) == 1 }

@@ -18,7 +18,7 @@ pub fn run(arguments: &Arguments, streams: &mut Streams) -> Result<u8, Failure> 
     let path = arguments.path(0);
     let (name, card) = read(path, streams.input)?;
     let name = name.display();
-    if card.len() <= MOST && is_card(&card) {
+    if is_card(&card) {
         let lines = card.iter().filter(|byte| **byte == b'\n').count();
         let antigens = match lines {
             1 => "1 antigen".to_string(),

@@ -19,6 +19,9 @@ pub fn is_name(bytes: &[u8]) -> bool {
 
 /// The lines of a card, or 25. Each is ended by a line feed; names rise strictly, byte by byte.
 pub fn lines(card: &[u8]) -> Result<Vec<Line>, u8> {
+    if card.len() as u64 > MOST_CARD {
+        return Err(25);
+    }
     let mut lines: Vec<Line> = Vec::new();
     let mut rest = card;
     while !rest.is_empty() {
