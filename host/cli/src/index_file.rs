@@ -227,6 +227,11 @@ impl Index {
         &mut self.bytes
     }
 
+    /// The same, for one who only reads and keeps nothing else of it.
+    pub fn into_lent(self) -> Vec<u8> {
+        self.bytes
+    }
+
     /// A request that was lent the index stored a block. Where its bucket was full, the index grows.
     pub fn stored(&mut self, kind: u8, score: &Score, sector: usize) {
         let hint = entry(kind, score, sector);
@@ -316,6 +321,14 @@ impl Index {
         self.whole = false;
         Ok(())
     }
+}
+
+/// Where a block of a type and score starts, by the hints of an index.
+pub fn sectors<'a>(index: &'a [u8], kind: u8, score: &Score) -> impl Iterator<Item = usize> + 'a {
+    let name = entry(kind, score, 0);
+    let (places, _) = index[bucket(index.len(), score)].as_chunks::<ENTRY>();
+    let named = places.iter().filter(move |place| place[..21] == name[..21]);
+    named.map(|place| u32::from_be_bytes([place[21], place[22], place[23], place[24]]) as usize)
 }
 
 /// A small index with the hints that the file beside a log has for one block: for a read of that block

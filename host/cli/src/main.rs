@@ -24,6 +24,7 @@ mod failing;
 mod faults;
 mod findings;
 mod format;
+mod gathered;
 mod get;
 mod handshake;
 mod held;

@@ -12,8 +12,10 @@ use crate::date::{self, Dates};
 use crate::entry::LENGTH as ENTRY;
 use crate::escape;
 use crate::findings::{Finding, Findings, Row};
-use crate::format::Score;
+use crate::format::{used, Score, SECTOR};
+use crate::gathered::{Answered, Gathered, BLANK};
 use crate::hex;
+use crate::index_file::Index;
 use crate::output_file::{self, Kind};
 use crate::page;
 use crate::progress::Progress;
@@ -31,9 +33,6 @@ const PAGE: Kind = Kind {
     fronts: &["<!doctype html>"],
 };
 
-/// The blank page that a reading is lent.
-const BLANK: [u8; 1] = [0];
-
 /// What is searched.
 enum Target {
     Root(Score),
@@ -44,8 +43,15 @@ pub fn run(arguments: &Arguments, streams: &mut Streams) -> Result<u8, Failure> 
     let asked = Asked::new(&arguments.words[2])?;
     let target = target(arguments)?;
     let page = wanted_page(arguments)?;
-    let mut log = reader::read(arguments.path(0), arguments.flag("--adopt"), streams)?;
+    let path = arguments.path(0);
+    let mut log = reader::read(path, arguments.flag("--adopt"), streams)?;
     let (files, names_lost) = files(&mut log, &target, arguments)?;
+    // Of a single card the index would take as long as the scan.
+    let index = match files.len() {
+        0 | 1 => Vec::new(),
+        _ => Index::read(path, &log[..used(&log) * SECTOR]).into_lent(),
+    };
+    let mut log = Gathered::new(log, index)?;
 
     let mut rows = Vec::new();
     let (mut progress, count) = (Progress::start(), files.len());
@@ -53,7 +59,7 @@ pub fn run(arguments: &Arguments, streams: &mut Streams) -> Result<u8, Failure> 
         progress.show_before(streams, || {
             format!("{} of {count} cards searched", rows.len())
         });
-        let finding = asked.of(&log, entry)?;
+        let finding = asked.of(&mut log, entry)?;
         rows.push(Row {
             name,
             place,
@@ -132,19 +138,24 @@ impl Asked<'_> {
     }
 
     /// What comes of the card of an entry. The answer is the proved call's.
-    fn of(&self, log: &[u8], entry: Result<[u8; ENTRY], Refusal>) -> Result<Finding, Failure> {
+    fn of(
+        &self,
+        log: &mut Gathered,
+        entry: Result<[u8; ENTRY], Refusal>,
+    ) -> Result<Finding, Failure> {
         let entry = match entry {
             Ok(entry) => entry,
             Err(refusal) => return Ok(unreadable(refusal, "its entry cannot be read")),
         };
-        match search(log, &[], &BLANK, &entry, self.text.as_bytes()) {
+        let answered = log.search(&entry, self.text.as_bytes());
+        match answered.answer {
             Ok(Value::Yes) => Ok(Finding::Yes),
             Ok(Value::No) => Ok(Finding::No),
             Ok(Value::NotKnown) => Ok(Finding::NotKnown {
-                missing: self.missing(&card(log, &entry)),
+                missing: self.missing(&card(&answered, &entry)),
             }),
             Err(Refusal::Query) => Err(Failure::refused(Refusal::Query)),
-            Err(Refusal::Card) => Ok(unreadable(Refusal::Card, &ill_formed(log, &entry))),
+            Err(Refusal::Card) => Ok(unreadable(Refusal::Card, &ill_formed(&answered, &entry))),
             Err(refusal) => Ok(Finding::Unreadable {
                 refusal,
                 detail: None,
@@ -169,21 +180,21 @@ fn unreadable(refusal: Refusal, detail: &str) -> Finding {
 }
 
 /// The bytes of a card that was just read whole, and one more where it is too long for one.
-fn card(log: &[u8], entry: &[u8; ENTRY]) -> Vec<u8> {
+fn card(answered: &Answered, entry: &[u8; ENTRY]) -> Vec<u8> {
     let size = contents::size(entry).min(card_text::MOST as u64 + 1);
     let mut card = vec![0; size as usize];
-    let filled = fill(log, &[], entry, 0, &mut card);
+    let filled = fill(answered.log, answered.waiting, entry, 0, &mut card);
     card.truncate(filled.count);
     card
 }
 
 /// Where a file that is no card goes wrong.
-fn ill_formed(log: &[u8], entry: &[u8; ENTRY]) -> String {
+fn ill_formed(answered: &Answered, entry: &[u8; ENTRY]) -> String {
     let size = contents::size(entry);
     if size > card_text::MOST as u64 {
         return format!("it has {size} bytes, and a card has at most 4,096");
     }
-    let fault = card_text::fault(&card(log, entry));
+    let fault = card_text::fault(&card(answered, entry));
     fault.map_or(String::new(), |fault| fault.to_string())
 }
 

@@ -133,6 +133,24 @@ impl Client {
         self.ask(log, &message(READ, &body))
     }
 
+    /// The index that its reads of a log in memory are lent.
+    pub fn hints(&self) -> &[u8] {
+        &self.index
+    }
+
+    /// Stores a block in a log in memory, among its waiting sectors, with no day's date.
+    pub fn lay_down(
+        &mut self,
+        log: &mut [u8],
+        waiting: &mut [u8],
+        kind: u8,
+        data: &[u8],
+    ) -> Result<(), Refusal> {
+        let (message, reply, index) = (write_message(kind, data), &mut self.reply, &mut []);
+        let served = serve(self.session, &message, &NO_DAY, log, waiting, index, reply);
+        served.outcome
+    }
+
     /// Asks of a log with nothing waiting, and gives the reply's body.
     fn ask(&mut self, log: &mut [u8], message: &[u8]) -> Result<&[u8], Refusal> {
         let reply = &mut self.reply;

@@ -375,6 +375,13 @@ pub fn hex(bytes: &[u8]) -> String {
     bytes.iter().map(|byte| format!("{byte:02x}")).collect()
 }
 
+pub fn used(log: &[u8]) -> usize {
+    let used = |sector: &[u8]| sector.iter().any(|byte| *byte != 0);
+    log.chunks(SECTOR)
+        .rposition(used)
+        .map_or(0, |last| last + 1)
+}
+
 /// The score of these bytes.
 pub fn score(block: &[u8]) -> String {
     hex(&boundary::sha1(block))
