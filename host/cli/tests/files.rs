@@ -555,6 +555,7 @@ fn progress() {
     save.extend(names.iter().map(|name| &name[..]));
     shows(&place, &save, " of 400, ");
     let root = place.run(&save).with(0).text();
+    fs::remove_file(place.path("log.index")).unwrap(); // with it a search is over at once
     shows(
         &place,
         &["search", "log", &root, "A0"],
