@@ -10,3 +10,4 @@ pub mod Gathered
 pub mod Filled
 pub mod Whole
 pub mod Elsewhere
+pub mod Reasons

@@ -3,3 +3,4 @@ pub mod Path
 pub mod Bytes
 pub mod Fill
 pub mod Elsewhere
+pub mod Reasons

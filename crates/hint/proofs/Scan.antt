@@ -18,7 +18,7 @@ use Rattle.log.specs.declared.Look.{Look}
 use Rattle.log.specs.declared.Look.the-variants.{Found, Refused}
 use Rattle.log.proofs.First.{first-sound}
 use Rattle.hint.specs.Hint.{hint, heldBy, lookUpBy}
-use Rattle.hint.specs.Promises.{NoClash, bytesOf, HintIsScan, RefusesAlike, HintHolds, Exact, ExactIsScan}
+use Rattle.hint.specs.Promises.{NoClash, bytesOf, HintIsScan, OneBlockIsTheScans, RefusesAlike, HintHolds, Exact, ExactIsScan}
 use Rattle.hint.proofs.Found.{some-not-none, is-some}
 use Rattle.hint.proofs.Leads.{hint-sound, hint-finds}
 
@@ -42,6 +42,16 @@ hint-is-scan log index c t s = seen bytesOf log index t s
     (λ r x p q. let a = hint-sound log index t s r p in
     let b = first-sound log t s x q in
     ap (λ (y : Bytes). some y) (c r x (a .0) (b .0) (a .1 ∙ sym (b .1)) (a .2 ∙ sym (b .2))))
+
+-- sound at one sector is one block
+same-row : (log : Bytes) (r x : Row) → sound log (r .first) ≡ some r → sound log (x .first) ≡ some x → r .first ≡ x .first → some r ≡ some x
+same-row log r x p q e = sym p ∙ ap (sound log) e ∙ q
+
+pub one-block-is-the-scans : OneBlockIsTheScans
+one-block-is-the-scans log index t s one = seen (λ o. o) log index t s
+    (λ r x p q. let a = hint-sound log index t s r p in
+    let b = first-sound log t s x q in
+    same-row log r x (a .0) (b .0) (one r x (a .0) (b .0) (a .1, a .2) (b .1, b .2)))
 
 look : Bytes → Option Row → Look
 look log o = on o (Refused (absence log)) (λ (r : Row). Found (placeOf r))

@@ -30,6 +30,12 @@ bytesOf (some r) = some (r .bytes)
 abbrev pub HintIsScan : Type 0
 HintIsScan = (log index : Bytes) → NoClash log → (t : ℕ) (s : Bytes) → bytesOf (heldBy log index t s) ≡ bytesOf (held log t s)
 
+-- in any log, of a score and type of which no more than one block is sound, the two find the same one or none: whatever clashes elsewhere
+abbrev pub OneBlockIsTheScans : Type 0
+OneBlockIsTheScans = (log index : Bytes) (t : ℕ) (s : Bytes)
+    → ((a b : Row) → sound log (a .first) ≡ some a → sound log (b .first) ≡ some b → (a .kind ≡ t) × (a .score ≡ s) → (b .kind ≡ t) × (b .score ≡ s) → a .first ≡ b .first)
+    → heldBy log index t s ≡ held log t s
+
 -- and on any log at all the two refuse alike: the number is the same, and so is the sector that 12 tells
 abbrev pub RefusesAlike : Type 0
 RefusesAlike = (log index : Bytes) (t : ℕ) (s : Bytes)

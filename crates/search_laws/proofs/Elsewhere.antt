@@ -3,31 +3,22 @@ use mathlib.Core.Path.{_≡_, refl, sym, ap, subst, _∙_}
 use mathlib.Core.Bool.{true, false, true≢false}
 use mathlib.Core.Logic.{inl, inr}
 use mathlib.Core.Option.{Option, some}
-use Prim.Native.Nat.{ℕ, _%_, _<_}
+use Prim.Native.Nat.{ℕ, _≤_, _<_}
 use native.Mathlib.Omega.{arith}
-use lib.Dec.{ltb, eqb}
 use lib.ListN.{length, getD}
 use lib.Seq.{ext-getD}
-use Rattle.ground.proofs.Cases.{cond-ind}
 use Rattle.buffer.specs.Bytes.{Bytes}
 use Rattle.refusal.specs.declared.Refusal.{Refusal}
 use Rattle.refusal.specs.declared.Refusal.the-variants as why
 use Rattle.refusal.specs.Number.{numberOf}
-use Rattle.block.specs.Block.{placeOf}
-use Rattle.block.specs.declared.Block.{Block}
-use Rattle.log.specs.LookUp.{doubtful, absence, lentAllowed}
+use Rattle.log.specs.LookUp.{lentAllowed}
 use Rattle.log.specs.Parts.{tape}
-use Rattle.entry.specs.declared.Entry.{Entry}
-use Rattle.entry.specs.Entry.{entryOf, scoreOf}
-use Rattle.leaf.specs.declared.Extent.{Extent}
-use Rattle.leaf.specs.declared.Extent.the-variants as extent
-use Rattle.leaf.specs.Leaf.{leafRun}
-use Rattle.leaf.proofs.Under.{under-ind}
+use Rattle.entry.specs.Entry.{entryOf}
 use Rattle.file.specs.File.{pageAllowed, entryReadable, located}
-use Rattle.file.proofs.Tests.{goes-down}
 use Rattle.file_laws.specs.Path.{Answers}
 use Rattle.file_laws.specs.Bytes.{fileByte}
 use Rattle.file_laws.proofs.Elsewhere.{reads-elsewhere}
+use Rattle.file_laws.proofs.Reasons.{readings-reasons}
 use Rattle.fill.specs.declared.Stop.{Stop}
 use Rattle.fill.specs.declared.Stop.the-variants as stop
 use Rattle.evaluate.specs.declared.Answer.the-variants.{Refused}
@@ -35,7 +26,7 @@ use Rattle.search.specs.Search.{longestCard, cardOf, judged, onceRead, searchOf
 use Rattle.search.proofs.Tests.{search-page, search-entry, search-long}
 use Rattle.search_laws.specs.Promises.{JudgedByItsBytes, SameBytesSameAnswer, OfTheCard, AnsweredElsewhere}
 use Rattle.search_laws.proofs.Course.{Open, Course, bad-log, bad-page, bad-entry, long, through, course, opened}
-use Rattle.search_laws.proofs.Whole.{stop-extent, done-answers, read-done, read-length, read-bytes}
+use Rattle.search_laws.proofs.Whole.{stop-refused, done-answers, read-done, read-length, read-bytes}
 
 same-byte : (a b : ℕ) → _≡_ {A = Option ℕ} (some a) (some b) → a ≡ b
 same-byte a b e = cc
@@ -104,32 +95,13 @@ same-bytes-same-answer log waiting log′ waiting′ page entry query a a′ S =
 
 -- ---- a log that holds the card's blocks
 
--- no reason of reading is 25 or 26
-abbrev Unread : Extent → Type 0
-Unread (extent.Stored at n) = Unit {0}
-Unread (extent.Zeros n) = Unit {0}
-Unread (extent.Refused w) = numberOf w < 25
+-- the reason for which a card is not read whole is reading's
+stop-reason : (log waiting page entry : Bytes) → Open log waiting page entry → (w : Refusal) → cardOf log waiting entry .stop ≡ stop.Refused w → numberOf w ≤ 19
+stop-reason log waiting page entry p w e =
+    readings-reasons log waiting page entry (length (cardOf log waiting entry .bytes)) w (stop-refused log waiting entry page (p .page-allowed) w e .1)
 
-missing-unread : (log : Bytes) → numberOf (absence log) < 25
-unfolding absence
-missing-unread log = cond-ind (λ (w : Refusal). numberOf w < 25) (eqb (doubtful log) 0) _ _ (λ _. omega arith) (λ _. omega arith)
-
-leaf-unread : (page : ℕ) (e : Entry) (offset : ℕ) (b : Block) → Unread (leafRun page e offset b)
-unfolding leafRun
-leaf-unread page e offset b = cond-ind Unread (ltb (offset % e .dsize) (b .size)) _ _ (λ _. tt) (λ _. tt)
-
-module _ (log waiting page entry : Bytes) (p : Open log waiting page entry) where
-  stop-unread : (w : Refusal) → cardOf log waiting entry .stop ≡ stop.Refused w → numberOf w < 25
-  stop-unread w e =
-      let both = tape log waiting in
-      let E = entryOf entry in
-      let n = length (cardOf log waiting entry .bytes) in
-      let q = stop-extent log waiting entry page (p .page-allowed) w e in
-      let down = goes-down (lentAllowed (length log) (length waiting)) both page entry n true (sym (p .log-allowed)) refl true (sym (p .page-allowed)) refl true (sym (p .entry-readable)) refl E refl (q .0) in
-      subst Unread (down ∙ q .1)
-      (under-ind both (length page) E n Unread (missing-unread both) (omega arith) (omega arith) tt (λ r _. leaf-unread (length page) E n (placeOf r)) (E .depth) (scoreOf entry))
-
-no-card : (w : Refusal) → numberOf w < 25 → OfTheCard (Refused w) → ⊥
+-- and none of a card or a query
+no-card : (w : Refusal) → numberOf w ≤ 19 → OfTheCard (Refused w) → ⊥
 no-card w h (inl e) = let z : numberOf w ≡ 25 = ap numberOf e in omega arith
 no-card w h (inr e) = let z : numberOf w ≡ 26 = ap numberOf e in omega arith
 
@@ -137,7 +109,7 @@ pub answered-elsewhere : AnsweredElsewhere
 answered-elsewhere log waiting log′ waiting′ page entry query a′ more c = go (course log waiting page entry query)
   where
     -- a test or a reading refused it
-    not-so : (w : Refusal) → searchOf log waiting page entry query ≡ Refused w → numberOf w < 25 → ⊥
+    not-so : (w : Refusal) → searchOf log waiting page entry query ≡ Refused w → numberOf w ≤ 19 → ⊥
     not-so w q h = no-card w h (subst OfTheCard q c)
 
     read : Open log waiting page entry → (s : Stop) → cardOf log waiting entry .stop ≡ s → Alike log waiting log′ waiting′ page entry query a′
@@ -146,7 +118,7 @@ answered-elsewhere log waiting log′ waiting′ page entry query a′ more c = 
         (λ o h. let here = done-answers log waiting entry page (p .page-allowed) e o h in
         let there = reads-elsewhere log waiting log′ waiting′ page entry o a′ more here in (here, there .0, there .1))
     read p (stop.Refused w) e =
-        absurd (not-so w (opened log waiting page entry query p ∙ ap (λ (s : Stop). onceRead s (cardOf log waiting entry .bytes) query) e) (stop-unread log waiting page entry p w e))
+        absurd (not-so w (opened log waiting page entry query p ∙ ap (λ (s : Stop). onceRead s (cardOf log waiting entry .bytes) query) e) (stop-reason log waiting page entry p w e))
 
     go : Course log waiting page entry query → Alike log waiting log′ waiting′ page entry query a′
     go (bad-log b q) = absurd (not-so why.LogLength q (omega arith))

@@ -13,7 +13,7 @@ use Rattle.refusal.specs.declared.Refusal.the-variants as why
 use Rattle.log.specs.LookUp.{lentAllowed}
 use Rattle.log.specs.Parts.{tape}
 use Rattle.entry.specs.Entry.{entryOf}
-use Rattle.file.specs.File.{pageAllowed, extentAt, located}
+use Rattle.file.specs.File.{pageAllowed, located}
 use Rattle.leaf.specs.declared.Extent.the-variants as extent
 use Rattle.file.specs.declared.Located.the-variants as run
 use Rattle.file.proofs.Tests.{shown}
@@ -57,19 +57,12 @@ module _ (log waiting entry : Bytes) where
     front-answers o h = shown-answers log waiting page entry o (byte-answers lent (tape log waiting) entry page p o _ (nth o h))
 
     -- the offset that stops it is refused
-    pub stop-extent : (w : Refusal) → cardOf log waiting entry .stop ≡ stop.Refused w
-        → (length (cardOf log waiting entry .bytes) < entryOf entry .size)
-        × (extentAt lent (tape log waiting) page entry (length (cardOf log waiting entry .bytes)) ≡ extent.Refused w)
-    stop-extent w e =
-        let n = length (cardOf log waiting entry .bytes) in
-        let q = G .ends w e in
-        (q .0, byte-refused lent (tape log waiting) entry page p n w (ap readAt (sym (zero-add n)) ∙ q .1))
-
     pub stop-refused : (w : Refusal) → cardOf log waiting entry .stop ≡ stop.Refused w
         → (length (cardOf log waiting entry .bytes) < entryOf entry .size) × (located log waiting page entry (length (cardOf log waiting entry .bytes)) ≡ run.Refused w)
     stop-refused w e =
-        let q = stop-extent w e in
-        (q .0, sym (shown log waiting page entry (length (cardOf log waiting entry .bytes)) (extent.Refused w) (sym (q .1))))
+        let n = length (cardOf log waiting entry .bytes) in
+        let q = G .ends w e in
+        (q .0, sym (shown log waiting page entry n (extent.Refused w) (sym (byte-refused lent (tape log waiting) entry page p n w (ap readAt (sym (zero-add n)) ∙ q .1)))))
 
     -- read to its end, every offset answers
     pub done-answers : cardOf log waiting entry .stop ≡ stop.Done → (o : ℕ) → o < entryOf entry .size → Answers (located log waiting page entry o)
