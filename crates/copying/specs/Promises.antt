@@ -25,6 +25,7 @@ use Rattle.descent.specs.Descent.{paddedTo}
 use Rattle.walk.specs.Walk.{walkOf}
 use Rattle.walk_laws.specs.Found.{Found, FoundEntries, FoundRoot}
 use Rattle.copying.specs.Copy.{Copied, copyAllowed, copyOf}
+use Rattle.copying.specs.PostOrder.{postOrderOf, storeVisits}
 
 -- a log that holds what another does
 abbrev pub Holds : Bytes → Bytes → Type 0
@@ -107,3 +108,8 @@ AsWalk c w = (c .answer ≡ w) ⊎ (OfSecond (c .answer .end) × (c .answer .vis
 abbrev pub CopyIsWalk : Type 0
 CopyIsWalk = (log waiting date score second : Bytes) (n : ℕ) → copyAllowed (length log) (length waiting) (length second) ≡ true → isDate date ≡ true
     → AsWalk (copyOf log waiting date score second n) (walkOf log waiting score n)
+
+-- the copy is the walk's blocks stored in post-order, "Children go before parents, the root last"
+abbrev pub CopyIsStores : Type 0
+CopyIsStores = (log waiting date score second : Bytes) (n : ℕ) → copyAllowed (length log) (length waiting) (length second) ≡ true → isDate date ≡ true
+    → let p = postOrderOf log waiting score n in copyOf log waiting date score second n ≡ storeVisits date (p .visits) (p .answer) second
