@@ -24,8 +24,8 @@ use Rattle.log.proofs.Written.{held-written, held-appended}
 use Rattle.entry.specs.declared.Entry.{Entry}
 use Rattle.walk_laws.specs.Found.{Found, leaf, FoundEntries, FoundRoot}
 use Rattle.walk_laws.specs.Found.{directory as directoryFound, pointers as pointersFound}
-use Rattle.copying.specs.Promises.{Holds, Linked, plain, directory, pointers, root, wrote, wroteAll, Writes, none, next, Stays}
-use Rattle.copying.proofs.Stored.{Named, held-named, Stored, new, there, refused, Fits, stored-alone}
+use Rattle.copying.specs.PostOrder.{Role, typeOf, Visit}
+use Rattle.copying.specs.Promises.{Holds, Shown, Linked, below-root, below-top, no-link, entries, scores, Stays, LinkedAs}
 
 -- ---- what a log finds, one finds that holds as much
 
@@ -38,11 +38,15 @@ module _ (s s′ : Bytes) (h : Holds s s′) where
   pub entries-hold : {b : Bytes} → FoundEntries s b → FoundEntries s′ b
   entries-hold E = record { formed = E .formed; found = λ i l k. found-holds (E .found i l k) }
 
-  pub linked-holds : {t : ℕ} {b : Bytes} → Linked s t b → Linked s′ t b
-  linked-holds plain = plain
-  linked-holds (directory f) = directory (entries-hold f)
-  linked-holds (pointers e d m f) = pointers e d m (λ i l. found-holds (f i l))
-  linked-holds (root top w q f) = root top w (h _ _ top q) (entries-hold f)
+  pub linked-holds : {t : Role} {b : Bytes} → Linked s t b → Linked s′ t b
+  linked-holds (below-root r w q f) = below-root r w (h _ _ r q) (entries-hold f)
+  linked-holds (below-top f) = below-top (entries-hold f)
+  linked-holds (no-link d) = no-link d
+  linked-holds (entries d f) = entries d (entries-hold f)
+  linked-holds (scores m f) = scores m (λ i l. found-holds (f i l))
+
+  pub shown-holds : {t : ℕ} {x b : Bytes} → Shown s t x b → Shown s′ t x b
+  shown-holds S = record { row = S .row; row-held = h _ _ (S .row) (S .row-held); these = S .these }
 
   pub root-holds : {x : Bytes} → FoundRoot s x → FoundRoot s′ x
   root-holds R = record {
@@ -54,14 +58,17 @@ module _ (s s′ : Bytes) (h : Holds s s′) where
     below = entries-hold (R .below);
   }
 
+  pub as-holds : (vs : List Visit) (x : Row) → LinkedAs vs s x → LinkedAs vs s′ x
+  as-holds vs x (v, m, k, b, l) = (v, m, k, b, linked-holds l)
+
 -- ---- logs that grow
 
-pub record Grown (date s s′ : Bytes) : Type 0 where
+pub record Grown (vs : List Visit) (date s s′ : Bytes) : Type 0 where
   pub stays : Stays date s s′
-  pub linked : (x : Row) → List·Memᴰ x (stays .new) → Linked s′ (x .kind) (x .bytes)
+  pub linked : (x : Row) → List·Memᴰ x (stays .new) → LinkedAs vs s′ x
 
-pub grown-same : (date s : Bytes) → Grown date s s
-grown-same date s = record {
+pub grown-same : (vs : List Visit) (date s : Bytes) → Grown vs date s s
+grown-same vs date s = record {
   stays = record {
     new = [];
     as-long = refl;
@@ -82,8 +89,8 @@ used-grows s s′ f = go (used s) refl
     go zero e = omega arith
     go (suc n) e = lt-used s′ n (ap zeros (f n (omega arith)) ∙ at-used s n e)
 
-pub grown-again : {date s s₁ s₂ : Bytes} → Grown date s s₁ → Grown date s₁ s₂ → Grown date s s₂
-grown-again {date} {s} {s₁} {s₂} A B = record {
+pub grown-again : {vs : List Visit} {date s s₁ s₂ : Bytes} → Grown vs date s s₁ → Grown vs date s₁ s₂ → Grown vs date s s₂
+grown-again {vs} {date} {s} {s₁} {s₂} A B = record {
   stays = record {
     new = A .stays .new ++ B .stays .new;
     as-long = B .stays .as-long ∙ A .stays .as-long;
@@ -93,7 +100,7 @@ grown-again {date} {s} {s₁} {s₂} A B = record {
     new-held = λ x m. by (λ (y : Row). held s₂ (y .kind) (y .score) ≡ some y) x (λ k. B .stays .still-held _ _ x (A .stays .new-held x k)) (B .stays .new-held x) m;
     new-dated = λ x m. by (λ (y : Row). y .date ≡ date) x (A .stays .new-dated x) (B .stays .new-dated x) m;
   };
-  linked = λ x m. by (λ (y : Row). Linked s₂ (y .kind) (y .bytes)) x (λ k. linked-holds s₁ s₂ (B .stays .still-held) (A .linked x k)) (B .linked x) m;
+  linked = λ x m. by (LinkedAs vs s₂) x (λ k. as-holds s₁ s₂ (B .stays .still-held) vs x (A .linked x k)) (B .linked x) m;
 }
   where
     by : (P : Row → Type 0) (x : Row) → (List·Memᴰ x (A .stays .new) → P x) → (List·Memᴰ x (B .stays .new) → P x) → List·Memᴰ x (A .stays .new ++ B .stays .new) → P x
@@ -108,14 +115,14 @@ grown-again {date} {s} {s₁} {s₂} A B = record {
 only : (P : Row → Type 0) (r : Row) → P r → (x : Row) → List·Memᴰ x (r ∷ []) → P x
 only P r p x m = subst P (sym (List·Memᴰ·eq-of-singleton m)) p
 
-module _ (date s : Bytes) (r : Row) (v : valid r ≡ true) (f : r .first ≡ used s) (room : r .first + parts r ≤ sectors (length s)) (d : r .date ≡ date)
-    (h : held s (r .kind) (r .score) ≡ nothing) (l : Linked s (r .kind) (r .bytes)) where
+module _ (vs : List Visit) (date s : Bytes) (r : Row) (v : valid r ≡ true) (f : r .first ≡ used s) (room : r .first + parts r ≤ sectors (length s)) (d : r .date ≡ date)
+    (h : held s (r .kind) (r .score) ≡ nothing) (l : LinkedAs vs s r) where
   front-same : (n : ℕ) → n < used s → at (written s r) n ≡ at s n
   front-same n k =
       let z : leb (r .first) n ≡ false = lt-leb (r .first) n (omega (arith, f)) in
       at-written s r v room n ∙ ap (λ (b : Bool). cond (b && ltb n (r .first + parts r)) (image r (n - r .first)) (at s n)) z
 
-  pub grown-written : Grown date s (written s r)
+  pub grown-written : Grown vs date s (written s r)
   grown-written = record {
     stays = record {
       new = r ∷ [];
@@ -126,5 +133,5 @@ module _ (date s : Bytes) (r : Row) (v : valid r ≡ true) (f : r .first ≡ use
       new-held = only (λ (x : Row). held (written s r) (x .kind) (x .score) ≡ some x) r (held-appended s r v f room h);
       new-dated = only (λ (x : Row). x .date ≡ date) r d;
     };
-    linked = only (λ (x : Row). Linked (written s r) (x .kind) (x .bytes)) r (linked-holds s (written s r) (held-written s r v f room) l);
+    linked = only (LinkedAs vs (written s r)) r (as-holds s (written s r) (held-written s r v f room) vs r l);
   }

@@ -1,7 +1,8 @@
--- The promises of a copy: by its tests, then from its root.
-use mathlib.Core.Path.{_≡_, refl, sym, ap, subst, _∙_}
+-- The promises of a copy: by its tests, then by the blocks that it stores.
+use mathlib.Core.Path.{_≡_, refl, sym, ap, ap₂, subst, _∙_}
 use mathlib.Core.Bool.{Bool, true, false, cond, _&&_, true≢false}
-use mathlib.Core.List.{List, [], _∷_, _++_, List·Memᴰ}
+use mathlib.Core.List.{List, [], _∷_, _++_, List·Memᴰ, Memᴰ·append-left}
+use mathlib.Core.Logic.{_⊎_, inl, inr}
 use mathlib.Core.Option.{some}
 use Prim.Native.Nat.{ℕ, _/_, _%_, _≤_, _^_}
 use native.Mathlib.Omega.{arith}
@@ -22,14 +23,17 @@ use Rattle.log.proofs.Parts.{held-alone, lent-alone}
 use Rattle.visit.specs.declared.Walked.{Walked}
 use Rattle.visit.specs.declared.End.the-variants.{Done, Refused}
 use Rattle.visit.specs.Visit.{walked}
-use Rattle.walk.specs.Walk.{walkRoot, walkIn, walkOf, mostAllowance}
+use Rattle.walk.specs.Walk.{walkOf, mostAllowance}
 use Rattle.walk_laws.proofs.Found.{not-done, walk-found}
-use Rattle.copying.specs.Copy.{Copied, stopped, copyRoot, copyIn, copyAllowed, copyOf}
-use Rattle.copying.specs.Promises.{Holds, Linked, OnlyWrites, CopyIsWrites, CopiedStays, NoDangling, EndsWhole}
+use Rattle.copying.specs.Copy.{Copied, copied, stopped, copyRoot, copyIn, copyAllowed, copyOf}
+use Rattle.copying.specs.PostOrder.{typeOf, Visit, PostOrder, postOrderIn, postOrderOf, storeVisits}
+use Rattle.copying.specs.Promises.{Holds, HeldIn, HoldsAll, wroteAll, Writes, none, OnlyWrites, CopyIsWrites, Refuses, StopsAt, ended, refused, CopyStopsAt, RoomAndNoClash}
+use Rattle.copying.specs.Promises.{CopiedStays, NoDangling, EndsWhole, AsWalk, CopyIsWalk, CopyAgain, CopyAgainAddsNothing}
 use Rattle.copying.proofs.Stored.{Fits}
-use Rattle.copying.proofs.Grown.{Grown, grown-same, root-holds}
-use Rattle.copying.proofs.Writes.{only-none, only-grown}
-use Rattle.copying.proofs.Copies.{Copies, root-copies}
+use Rattle.copying.proofs.Grown.{shown-holds, Grown, grown-same, root-holds}
+use Rattle.copying.proofs.Writes.{refuses-second, not-of-second, writes-grown, writes-held, stops-at, all-there, refused-again}
+use Rattle.copying.proofs.InPostOrder.{onward, store-append, parts-allowed, copy-is-stores}
+use Rattle.copying.proofs.Tour.{tests-tour, post-order-is-walk}
 
 -- ---- the tests
 
@@ -58,7 +62,7 @@ allowed-fits m e = go (eqb (m % 512) 0) e
     go true q = omega (arith, leb-true (m / 512) mostSectors q)
     go false q = absurd (true≢false (sym q))
 
-second-allowed : (m w k : ℕ) → copyAllowed m w k ≡ true → logAllowed k ≡ true
+pub second-allowed : (m w k : ℕ) → copyAllowed m w k ≡ true → logAllowed k ≡ true
 unfolding copyAllowed
 second-allowed m w k e = and-true (lentAllowed m w) (logAllowed k) e .1
 
@@ -70,6 +74,12 @@ cancel (x ∷ a) b c e = cancel a b c (ap rest e)
     rest [] = []
     rest (y ∷ ys) = ys
 
+holds-along : (s s′ : Bytes) → Holds s s′ → (vs : List Visit) → HoldsAll s vs → HoldsAll s′ vs
+holds-along s s′ h [] k = tt
+holds-along s s′ h (v ∷ vs) k = (shown-holds s s′ h (k .0), holds-along s s′ h vs (k .1))
+
+-- ---- how it ends
+
 module _ (log waiting date score second : Bytes) (n : ℕ) where
   abbrev lent : Bool
   lent = copyAllowed (length log) (length waiting) (length second)
@@ -77,43 +87,95 @@ module _ (log waiting date score second : Bytes) (n : ℕ) where
   abbrev outcome : Copied
   outcome = copyOf log waiting date score second n
 
-  fits : lent ≡ true → Fits second
+  abbrev reached : PostOrder
+  reached = postOrderOf log waiting score n
+
+  pub fits : lent ≡ true → Fits second
   fits e = allowed-fits (length second) (second-allowed (length log) (length waiting) (length second) e)
 
+  pub stops : lent ≡ true → isDate date ≡ true → StopsAt (tape log waiting) date reached second outcome
+  stops l d =
+      let T = tests-tour (lentAllowed (length log) (length waiting)) score n in
+      let L = tape log waiting in
+      subst (StopsAt L date reached second) (sym (copy-is-stores log waiting date score second n l d))
+      (stops-at L date d (reached .visits) (reached .answer) second (fits l) (λ x. Unit {0}) (λ x y h q. tt) tt (T .links L) (T .shown L) (T .within L))
+
+  -- what it wrote are blocks of the walk
+  Wrote : Type 0
+  Wrote = (vs : List Visit) × Writes (tape log waiting) date vs second × (outcome .second ≡ wroteAll date vs second) × ((v : Visit) → List·Memᴰ v vs → List·Memᴰ v (reached .visits))
+
+  written : lent ≡ true → isDate date ≡ true → Wrote
+  unfolding Wrote
+  written l d = go (stops l d)
+    where
+      go : StopsAt (tape log waiting) date reached second outcome
+          → (vs : List Visit) × Writes (tape log waiting) date vs second × (outcome .second ≡ wroteAll date vs second) × ((v : Visit) → List·Memᴰ v vs → List·Memᴰ v (reached .visits))
+      go (ended W e a) = (reached .visits, W, e, λ v m. m)
+      go (refused before after v q W e _ _ _ _ _) = (before, W, e, λ x m. subst (List·Memᴰ x) (sym q) (Memᴰ·append-left (v ∷ after) m))
+
   only-writes : OnlyWrites (tape log waiting) date second (outcome .second)
+  unfolding Wrote wroteAll
   only-writes = go (tested (tape log waiting) date score n second lent)
     where
       go : Tested lent (tape log waiting) date score n second outcome → OnlyWrites (tape log waiting) date second (outcome .second)
-      go (failed why _ e) = subst (λ (c : Copied). OnlyWrites (tape log waiting) date second (c .second)) (sym e) (only-none (tape log waiting) date second)
-      go (passed l d a e) =
-          subst (λ (c : Copied). OnlyWrites (tape log waiting) date second (c .second)) (sym e) (root-copies (tape log waiting) date d score n second (fits l) .only)
+      go (failed why _ e) = record { visits = []; writes = none; behind = ap (λ (c : Copied). c .second) e }
+      go (passed l d a e) = let f = written l d in record { visits = f .0; writes = f .1; behind = f .2 }
 
-  grown : Grown date second (outcome .second)
+  grown : Grown (reached .visits) date second (outcome .second)
+  unfolding Wrote
   grown = go (tested (tape log waiting) date score n second lent)
     where
-      go : Tested lent (tape log waiting) date score n second outcome → Grown date second (outcome .second)
-      go (failed why _ e) = subst (λ (c : Copied). Grown date second (c .second)) (sym e) (grown-same date second)
-      go (passed l d a e) = only-grown (tape log waiting) date d only-writes (fits l)
-
-  walk-in : (lent′ : Bool) (L : Bytes) (v : ℕ) → lent′ ≡ true → ltb mostAllowance n ≡ false → walkRoot L score n ≡ walked v Done → walkIn lent′ L score n ≡ walked v Done
-  unfolding walkIn
-  walk-in lent′ L v l a e = rw (l, a) e
-
-  still-lent : lent ≡ true → lentAllowed (length (outcome .second)) 0 ≡ true
-  still-lent l =
-      lent-alone (length (outcome .second)) ∙ ap logAllowed (grown .stays .as-long) ∙ second-allowed (length log) (length waiting) (length second) l
-
-  walks : (v : ℕ) → outcome .answer ≡ walked v Done → walkOf (outcome .second) [] score n ≡ walked v Done
-  walks v q = go (tested (tape log waiting) date score n second lent)
-    where
-      go : Tested lent (tape log waiting) date score n second outcome → walkOf (outcome .second) [] score n ≡ walked v Done
-      go (failed why _ e) = not-done why (ap (λ (c : Copied). c .answer .end) (sym e) ∙ ap (λ (w : Walked). w .end) q)
+      go : Tested lent (tape log waiting) date score n second outcome → Grown (reached .visits) date second (outcome .second)
+      go (failed why _ e) = subst (λ (c : Copied). Grown (reached .visits) date second (c .second)) (sym e) (grown-same (reached .visits) date second)
       go (passed l d a e) =
-          let z : copyRoot (tape log waiting) date score n second .answer ≡ walked v Done = ap (λ (c : Copied). c .answer) (sym e) ∙ q in
-          let h : Holds (copyRoot (tape log waiting) date score n second .second) (tape (outcome .second) []) =
-          λ t x r p. held-alone (outcome .second) t x ∙ subst (λ (c : Copied). held (c .second) t x ≡ some r) (sym e) p in
-          walk-in (lentAllowed (length (outcome .second)) 0) (tape (outcome .second) []) v (still-lent l) a
-          (root-copies (tape log waiting) date d score n second (fits l) .ends (ap (λ (w : Walked). w .end) z) (tape (outcome .second) []) h ∙ z)
+          let f = written l d in
+          subst (Grown (reached .visits) date second) (sym (f .2)) (writes-grown (tape log waiting) date d (reached .visits) (f .1) (f .3) (fits l))
+
+  -- ---- where it is done
+
+  -- it passed the tests, and all blocks of the walk are in the second log
+  pub Whole : ℕ → Type 0
+  Whole v = (lent ≡ true) × (reached .answer ≡ walked v Done) × HoldsAll (outcome .second) (reached .visits)
+
+  whole : (v : ℕ) → outcome .answer ≡ walked v Done → Whole v
+  unfolding Whole
+  whole v q = go (tested (tape log waiting) date score n second lent)
+    where
+      by : (l : lent ≡ true) → isDate date ≡ true → StopsAt (tape log waiting) date reached second outcome
+          → (lent ≡ true) × (reached .answer ≡ walked v Done) × HoldsAll (outcome .second) (reached .visits)
+      by l d (ended W e a) = (l, sym a ∙ q, subst (λ (s : Bytes). HoldsAll s (reached .visits)) (sym e) (writes-held (tape log waiting) date d W (fits l)))
+      by l d (refused _ _ _ _ _ _ _ _ R _ _) = not-of-second (refuses-second R) (ap (λ (w : Walked). w .end) q)
+
+      go : Tested lent (tape log waiting) date score n second outcome → (lent ≡ true) × (reached .answer ≡ walked v Done) × HoldsAll (outcome .second) (reached .visits)
+      go (failed why _ e) = not-done why (ap (λ (c : Copied). c .answer .end) (sym e) ∙ ap (λ (w : Walked). w .end) q)
+      go (passed l d a e) = by l d (stops l d)
+
+  still-lent : lent ≡ true → copyAllowed (length log) (length waiting) (length (outcome .second)) ≡ true
+  still-lent l = ap (copyAllowed (length log) (length waiting)) (grown .stays .as-long) ∙ l
+
+  same-walk : (v : ℕ) → outcome .answer ≡ walked v Done → postOrderOf (outcome .second) [] score n ≡ reached
+  unfolding Whole
+  same-walk v q =
+      let W = whole v q in
+      let s = outcome .second in
+      let a : lentAllowed (length s) 0 ≡ true =
+      lent-alone (length s) ∙ second-allowed (length log) (length waiting) (length s) (still-lent (W .0)) in
+      let b = parts-allowed (length log) (length waiting) (length second) (W .0) in
+      ap (λ (t : Bool). postOrderIn t (tape s []) score n) (a ∙ sym b)
+      ∙ tests-tour (lentAllowed (length log) (length waiting)) score n .again (tape log waiting) (tape s []) (ap (λ (w : Walked). w .end) (W .1))
+      (holds-along s (tape s []) (λ t x r p. held-alone s t x ∙ p) (reached .visits) (W .2))
+
+pub copy-stops-at : CopyStopsAt
+copy-stops-at = stops
+
+pub room-and-no-clash : RoomAndNoClash
+room-and-no-clash log waiting date score second n l d f = go (stops log waiting date score second n l d)
+  where
+    go : StopsAt (tape log waiting) date (postOrderOf log waiting score n) second (copyOf log waiting date score second n)
+        → (v : Visit) × HeldIn (tape log waiting) v
+        × Refuses (copyOf log waiting date score second n .second) date (typeOf (v .role)) (v .bytes) (copyOf log waiting date score second n .answer .end)
+    go (ended W e a) = absurd (f (a ∙ post-order-is-walk log waiting score n))
+    go (refused _ _ v _ _ _ h _ R _ _) = (v, h, R)
 
 pub copy-is-writes : CopyIsWrites
 copy-is-writes = only-writes
@@ -127,7 +189,63 @@ no-dangling log waiting date score second n new e x m =
     G .linked x (subst (List·Memᴰ x) (cancel (blocks second) new (G .stays .new) (sym e ∙ G .stays .added)) m)
 
 pub ends-whole : EndsWhole
+unfolding Whole
 ends-whole log waiting date score second n v q =
     let s = copyOf log waiting date score second n .second in
-    let w = walks log waiting date score second n v q in
-    (w, root-holds (tape s []) s (λ t x r p. sym (held-alone s t x) ∙ p) (walk-found s [] score n v w))
+    let W = whole log waiting date score second n v q in
+    let p = same-walk log waiting date score second n v q in
+    let w : walkOf s [] score n ≡ walked v Done = sym (post-order-is-walk s [] score n) ∙ ap (λ (x : PostOrder). x .answer) p ∙ W .1 in
+    (p, W .2, w, root-holds (tape s []) s (λ t x r h. sym (held-alone s t x) ∙ h) (walk-found s [] score n v w))
+
+pub copy-is-walk : CopyIsWalk
+copy-is-walk log waiting date score second n l d = go (stops log waiting date score second n l d)
+  where
+    go : StopsAt (tape log waiting) date (postOrderOf log waiting score n) second (copyOf log waiting date score second n)
+        → AsWalk (copyOf log waiting date score second n) (walkOf log waiting score n)
+    go (ended W e a) = inl (a ∙ post-order-is-walk log waiting score n)
+    go (refused _ _ v _ _ _ _ _ R s i) = inr (refuses-second R, rw (← post-order-is-walk log waiting score n, s) i)
+
+-- ---- copying again
+
+module _ (log waiting date score second : Bytes) (n : ℕ) where
+  abbrev result : Copied
+  result = copyOf log waiting date score second n
+
+  abbrev order : PostOrder
+  order = postOrderOf log waiting score n
+
+  -- the blocks stored again in what they left
+  stored-again : copyAllowed (length log) (length waiting) (length second) ≡ true → isDate date ≡ true
+      → StopsAt (tape log waiting) date order second result → storeVisits date (order .visits) (order .answer) (result .second) ≡ result
+  stored-again l d (ended W e a) =
+      let h = subst (λ (s : Bytes). HoldsAll s (order .visits)) (sym e) (writes-held (tape log waiting) date d W (fits log waiting date score second n l)) in
+      all-there date (order .visits) (order .answer) (result .second) h ∙ ap (λ (w : Walked). copied w (result .second)) (sym a)
+  stored-again l d (refused before after v q W e _ _ R s _) =
+      let h = subst (λ (x : Bytes). HoldsAll x before) (sym e) (writes-held (tape log waiting) date d W (fits log waiting date score second n l)) in
+      ap (λ (vs : List Visit). storeVisits date vs (order .answer) (result .second)) q
+      ∙ store-append date before (v ∷ after) 0 (order .answer) (result .second)
+      ∙ ap (λ (c : Copied). onward c (λ x. storeVisits date (v ∷ after) (order .answer) x)) (all-there date before (walked 0 Done) (result .second) h)
+      ∙ refused-again date v after (order .answer) (result .second) (result .answer .end) R
+      ∙ ap (λ (m : ℕ). copied (walked m (result .answer .end)) (result .second)) (sym s)
+
+  again : copyOf log waiting date score (result .second) n ≡ result
+  again = go (tested (tape log waiting) date score n second (copyAllowed (length log) (length waiting) (length second)))
+    where
+      go : Tested (copyAllowed (length log) (length waiting) (length second)) (tape log waiting) date score n second result → copyOf log waiting date score (result .second) n ≡ result
+      go (failed why _ e) = ap (λ (c : Copied). copyOf log waiting date score (c .second) n) e
+      go (passed l d a e) =
+          copy-is-stores log waiting date score (result .second) n (still-lent log waiting date score second n l) d
+          ∙ stored-again l d (stops log waiting date score second n l d)
+
+pub copy-again : CopyAgain
+copy-again = again
+
+pub copy-again-adds-nothing : CopyAgainAddsNothing
+unfolding Whole
+copy-again-adds-nothing log waiting date date′ score second n v d q =
+    let c = copyOf log waiting date score second n in
+    let W = whole log waiting date score second n v q in
+    let p = postOrderOf log waiting score n in
+    copy-is-stores log waiting date′ score (c .second) n (still-lent log waiting date score second n (W .0)) d
+    ∙ all-there date′ (p .visits) (p .answer) (c .second) (W .2)
+    ∙ ap (λ (w : Walked). copied w (c .second)) (W .1 ∙ sym q)

@@ -1,8 +1,7 @@
 -- One block stored in a log alone: appended, there already, or refused.
 use mathlib.Core.Path.{_≡_, refl, sym, ap, subst, _∙_}
-use mathlib.Core.Bool.{Bool, true, false, cond, _&&_}
+use mathlib.Core.Bool.{Bool, true, false, cond, _&&_, true≢false}
 use mathlib.Core.List.{[], _∷_}
-use mathlib.Core.Logic.{_⊎_, inl, inr}
 use mathlib.Core.Option.{Option, none, some}
 use Prim.Native.Nat.{ℕ, _+_, _≤_, _^_}
 use native.Mathlib.Omega.{arith}
@@ -29,7 +28,7 @@ use Rattle.log.specs.declared.Stored.the-variants.{New, Duplicate, Refused as N
 use Rattle.log.proofs.First.{first-sound}
 use Rattle.visit.specs.declared.End.the-variants.{Done, Refused}
 use Rattle.copying.specs.Copy.{storeEnd}
-use Rattle.copying.specs.Promises.{OfSecond}
+use Rattle.copying.specs.Promises.{Refuses, no-room, clash}
 
 -- ---- a row that look-up finds
 
@@ -75,7 +74,7 @@ pub data Stored (s date : Bytes) (t : ℕ) (b : Bytes) (a : AfterStore) : Type 0
   new : (r : Row) → valid r ≡ true → r .first ≡ used s → r .first + parts r ≤ sectors (length s) → r .kind ≡ t → r .score ≡ sha1Of b → r .bytes ≡ b → r .date ≡ date
       → held s t (sha1Of b) ≡ none → a .lent .log ≡ written s r → storeEnd (a .receipt .stored) ≡ Done → Stored s date t b a
   there : (x : Row) → held s t (sha1Of b) ≡ some x → x .bytes ≡ b → a .lent .log ≡ s → storeEnd (a .receipt .stored) ≡ Done → Stored s date t b a
-  refused : OfSecond (storeEnd (a .receipt .stored)) → a .lent .log ≡ s → Stored s date t b a
+  refused : Refuses s date t b (storeEnd (a .receipt .stored)) → a .lent .log ≡ s → Stored s date t b a
 
 -- a log whose sectors eight digits name
 abbrev pub Fits : Bytes → Type 0
@@ -115,13 +114,13 @@ module _ (s date : Bytes) (t : ℕ) (b : Bytes) (fit : Fits s) (d : isDate date 
         dated = date-or-none date d;
       }) in
       new r v refl p refl refl refl refl h refl refl
-  by-room h false q = refused (inl refl) refl
+  by-room h false q = refused (no-room h q) refl
 
   by-bytes : (x : Row) → held s t (sha1Of b) ≡ some x → (q : Bool) → same (x .bytes) b ≡ q
       → Stored s date t b (cond q (afterStore (receipt (sha1Of b) (Duplicate (record { 0 = x .first }))) (alone s))
       (afterStore (receipt (sha1Of b) (NotStored Clash)) (alone s)))
   by-bytes x h true q = there x h (same-true (x .bytes) b q) refl refl
-  by-bytes x h false q = refused (inr refl) refl
+  by-bytes x h false q = refused (clash x h (λ e. true≢false (sym (rw e (same-refl b)) ∙ q))) refl
 
   pub stored-alone : Stored s date t b (store (alone s) date t b)
   unfolding store

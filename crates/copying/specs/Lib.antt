@@ -3,4 +3,3 @@ pub mod Copy
 pub mod Parts
 pub mod PostOrder
 pub mod Promises
-pub mod Requests

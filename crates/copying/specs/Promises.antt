@@ -1,19 +1,20 @@
 -- What a copy promises, for any first log and any second log.
 use mathlib.Core.Path.{_≡_}
-use mathlib.Core.Bool.{true}
+use mathlib.Core.Bool.{true, false}
 use mathlib.Core.List.{List, [], _∷_, _++_, List·Memᴰ}
-use mathlib.Core.Logic.{_⊎_}
-use mathlib.Core.Option.{some}
-use Prim.Native.Nat.{ℕ, suc, _+_, _/_, _%_, _≤_, _<_}
+use mathlib.Core.Logic.{_≢_, _⊎_}
+use mathlib.Core.Option.{some, none as nothing}
+use Prim.Native.Nat.{ℕ, zero, suc, _/_, _%_, _≤_, _<_}
 use lib.ListN.{length}
 use Rattle.buffer.specs.Bytes.{Bytes}
+use Rattle.sha1.specs.Sha1.{sha1Of}
 use Rattle.refusal.specs.declared.Refusal.the-variants.{NoRoom, Clash}
 use Rattle.sector.specs.Sector.{isDate}
 use Rattle.block.specs.Block.{Row}
 use Rattle.block.specs.Log.{at, used}
 use Rattle.log.specs.LookUp.{blocks, held}
-use Rattle.log.specs.Parts.{tape, alone}
-use Rattle.log.specs.Store.{store}
+use Rattle.log.specs.Parts.{tape, alone, roomFor}
+use Rattle.log.specs.Store.{partsFor}
 use Rattle.entry.specs.declared.Entry.{Entry}
 use Rattle.entry.specs.Root.{rootWellFormed, rootScore}
 use Rattle.tree.specs.Tree.{piece}
@@ -24,47 +25,100 @@ use Rattle.visit.specs.Visit.{walked}
 use Rattle.descent.specs.Descent.{paddedTo}
 use Rattle.walk.specs.Walk.{walkOf}
 use Rattle.walk_laws.specs.Found.{Found, FoundEntries, FoundRoot}
-use Rattle.copying.specs.Copy.{Copied, copyAllowed, copyOf}
-use Rattle.copying.specs.PostOrder.{postOrderOf, storeVisits}
+use Rattle.copying.specs.Copy.{Copied, copied, storeEnd, copyAllowed, copyOf}
+use Rattle.copying.specs.PostOrder.{Role, root, top, ofEntry, typeOf, Visit, PostOrder, postOrderOf, stored, storeVisits}
+
+-- ---- what it stores
+
+-- the walk in post-order answers as the walk does
+abbrev pub PostOrderIsWalk : Type 0
+PostOrderIsWalk = (log waiting score : Bytes) (n : ℕ) → postOrderOf log waiting score n .answer ≡ walkOf log waiting score n
+
+-- "Children go before parents, the root last": a copy is the blocks of the walk over the first log, stored in post-order up to the first refused one; behind
+-- the last one its answer is the walk's
+abbrev pub CopyIsStores : Type 0
+CopyIsStores = (log waiting date score second : Bytes) (n : ℕ) → copyAllowed (length log) (length waiting) (length second) ≡ true → isDate date ≡ true
+    → let p = postOrderOf log waiting score n in copyOf log waiting date score second n ≡ storeVisits date (p .visits) (p .answer) second
+
+-- ---- blocks in a log
 
 -- a log that holds what another does
 abbrev pub Holds : Bytes → Bytes → Type 0
 Holds log log′ = (t : ℕ) (s : Bytes) (x : Row) → held log t s ≡ some x → held log′ t s ≡ some x
 
--- "a link followed in the visit that copied it": all that a block of a type and bytes links to is in a log, and all that is below that. A data block links
--- to nothing, a directory block to what its active entries name, a pointer block of an entry to its scores, a root to its directory block
-pub data Linked (log : Bytes) : ℕ → Bytes → Type 0 where
-  plain : {b : Bytes} → Linked log 13 b
-  directory : {b : Bytes} → FoundEntries log b → Linked log 2 b
-  pointers : {b : Bytes} (e : Entry) (d : ℕ) → length b % 20 ≡ 0 → ((i : ℕ) → i < length b / 20 → Found log e d (piece 20 i b)) → Linked log (2 + suc d) b
-  root : {b : Bytes} (top : Row) → rootWellFormed (paddedTo 300 b) ≡ true → held log 2 (rootScore (paddedTo 300 b)) ≡ some top
-      → FoundEntries log (top .bytes) → Linked log 1 b
+-- look-up finds a block of these very bytes
+pub record Shown (log : Bytes) (t : ℕ) (score b : Bytes) : Type 0 where
+  pub row : Row
+  pub row-held : held log t score ≡ some row
+  pub these : row .bytes ≡ b
+
+abbrev pub HeldIn : Bytes → Visit → Type 0
+HeldIn log v = Shown log (typeOf (v .role)) (v .score) (v .bytes)
+
+abbrev pub HoldsAll : Bytes → List Visit → Type 0
+HoldsAll log [] = Unit {0}
+HoldsAll log (v ∷ vs) = HeldIn log v × HoldsAll log vs
+
+-- "a link followed in the visit that copied it": all that a block links to, as what it was visited, is in a log, and all that is below that. A root links to its
+-- directory block, a directory block to what its active entries name, a pointer block of an entry to its scores, a data block to nothing
+pub data Linked (log : Bytes) : Role → Bytes → Type 0 where
+  below-root : {b : Bytes} (r : Row) → rootWellFormed (paddedTo 300 b) ≡ true → held log 2 (rootScore (paddedTo 300 b)) ≡ some r
+      → FoundEntries log (r .bytes) → Linked log root b
+  below-top : {b : Bytes} → FoundEntries log b → Linked log top b
+  no-link : {e : Entry} {b : Bytes} → e .directory ≡ false → Linked log (ofEntry e zero) b
+  entries : {e : Entry} {b : Bytes} → e .directory ≡ true → FoundEntries log b → Linked log (ofEntry e zero) b
+  scores : {e : Entry} {d : ℕ} {b : Bytes} → length b % 20 ≡ 0 → ((i : ℕ) → i < length b / 20 → Found log e d (piece 20 i b)) → Linked log (ofEntry e (suc d)) b
 
 -- ---- to the second log's ledger it is a list of writes
 
--- the second log after a write of a row's type and bytes, and after those of a list
-abbrev pub wrote : Bytes → Row → Bytes → Bytes
-wrote date r s = store (alone s) date (r .kind) (r .bytes) .lent .log
+-- the second log after a block is stored, and after those of a list
+abbrev pub wrote : Bytes → Visit → Bytes → Bytes
+wrote date v s = stored date v s .lent .log
 
-unfoldable pub wroteAll : Bytes → List Row → Bytes → Bytes
+unfoldable pub wroteAll : Bytes → List Visit → Bytes → Bytes
 wroteAll date [] s = s
-wroteAll date (r ∷ rs) s = wroteAll date rs (wrote date r s)
+wroteAll date (v ∷ vs) s = wroteAll date vs (wrote date v s)
 
--- each row is held in the first log, and "Children go before parents": when it is written, all that it links to is in the second
-pub data Writes (first date : Bytes) : List Row → Bytes → Type 0 where
+-- each block is held in the first log; when it is written, all that it links to is in the second; and its write is not refused
+pub data Writes (first date : Bytes) : List Visit → Bytes → Type 0 where
   none : {s : Bytes} → Writes first date [] s
-  next : {r : Row} {rs : List Row} {s : Bytes} → held first (r .kind) (r .score) ≡ some r → Linked s (r .kind) (r .bytes)
-      → Writes first date rs (wrote date r s) → Writes first date (r ∷ rs) s
+  next : {v : Visit} {vs : List Visit} {s : Bytes} → HeldIn first v → Linked s (v .role) (v .bytes) → storeEnd (stored date v s .receipt .stored) ≡ Done
+      → Writes first date vs (wrote date v s) → Writes first date (v ∷ vs) s
 
 pub record OnlyWrites (first date second second′ : Bytes) : Type 0 where
-  pub rows : List Row
-  pub writes : Writes first date rows second
-  pub behind : second′ ≡ wroteAll date rows second
+  pub visits : List Visit
+  pub writes : Writes first date visits second
+  pub behind : second′ ≡ wroteAll date visits second
 
 -- "appended to that log itself": the second log is what a list of writes leaves, one after the other, each settled at once
 abbrev pub CopyIsWrites : Type 0
 CopyIsWrites = (log waiting date score second : Bytes) (n : ℕ)
     → OnlyWrites (tape log waiting) date second (copyOf log waiting date score second n .second)
+
+-- why a log refuses a block: 14, it holds none of this type and score and has too few sectors left; 15, it holds one of other bytes
+pub data Refuses (s date : Bytes) (t : ℕ) (b : Bytes) : End → Type 0 where
+  no-room : held s t (sha1Of b) ≡ nothing → roomFor (alone s) (partsFor date b) ≡ false → Refuses s date t b (Refused NoRoom)
+  clash : (x : Row) → held s t (sha1Of b) ≡ some x → x .bytes ≢ b → Refuses s date t b (Refused Clash)
+
+-- how a copy ends: with the walk's answer, and all blocks of the walk written; or at the first block that the second log refuses, as it is left behind: those before
+-- it are written, all that it links to is there, and the answer is that refusal with the visits spent by then
+pub data StopsAt (first date : Bytes) (p : PostOrder) (second : Bytes) (c : Copied) : Type 0 where
+  ended : Writes first date (p .visits) second → c .second ≡ wroteAll date (p .visits) second → c .answer ≡ p .answer → StopsAt first date p second c
+  refused : (before after : List Visit) (v : Visit) → p .visits ≡ before ++ (v ∷ after) → Writes first date before second → c .second ≡ wroteAll date before second
+      → HeldIn first v → Linked (c .second) (v .role) (v .bytes) → Refuses (c .second) date (typeOf (v .role)) (v .bytes) (c .answer .end)
+      → c .answer .visits ≡ v .spent → v .spent ≤ p .answer .visits → StopsAt first date p second c
+
+-- "14 and 15 now speak of the second log": they come only where it refuses a block
+abbrev pub CopyStopsAt : Type 0
+CopyStopsAt = (log waiting date score second : Bytes) (n : ℕ) → copyAllowed (length log) (length waiting) (length second) ≡ true → isDate date ≡ true
+    → StopsAt (tape log waiting) date (postOrderOf log waiting score n) second (copyOf log waiting date score second n)
+
+-- and so where a copy does not answer as the walk does, there is such a block
+abbrev pub RoomAndNoClash : Type 0
+RoomAndNoClash = (log waiting date score second : Bytes) (n : ℕ) → copyAllowed (length log) (length waiting) (length second) ≡ true → isDate date ≡ true
+    → let c = copyOf log waiting date score second n in
+    c .answer ≢ walkOf log waiting score n
+    → (v : Visit) × HeldIn (tape log waiting) v × Refuses (c .second) date (typeOf (v .role)) (v .bytes) (c .answer .end)
 
 -- ---- what stays
 
@@ -82,19 +136,27 @@ pub record Stays (date second second′ : Bytes) : Type 0 where
 abbrev pub CopiedStays : Type 0
 CopiedStays = (log waiting date score second : Bytes) (n : ℕ) → Stays date second (copyOf log waiting date score second n .second)
 
+-- a row is the block of one of the walk's visits, and all that it links to as what it was visited is in a log
+abbrev pub LinkedAs : List Visit → Bytes → Row → Type 0
+LinkedAs vs log x = (v : Visit) × List·Memᴰ v vs × (typeOf (v .role) ≡ x .kind) × (v .bytes ≡ x .bytes) × Linked log (v .role) (x .bytes)
+
 -- "no block copied by this call points, by a link followed in the visit that copied it, to one that the second log lacks"
 abbrev pub NoDangling : Type 0
 NoDangling = (log waiting date score second : Bytes) (n : ℕ) (new : List Row)
     → blocks (copyOf log waiting date score second n .second) ≡ blocks second ++ new
-    → (x : Row) → List·Memᴰ x new → Linked (copyOf log waiting date score second n .second) (x .kind) (x .bytes)
+    → (x : Row) → List·Memᴰ x new → LinkedAs (postOrderOf log waiting score n .visits) (copyOf log waiting date score second n .second) x
 
 -- ---- the walk
 
--- "If it ends, the walk over the second log visits the same blocks with the same count": it ends with as many visits, and finds all below the root
+-- "If it ends, the walk over the second log visits the same blocks with the same count": the same types, scores and bytes in the same order, each after as many
+-- visits, and it ends; so all below the root is found
 abbrev pub EndsWhole : Type 0
-EndsWhole = (log waiting date score second : Bytes) (n v : ℕ) → copyOf log waiting date score second n .answer ≡ walked v Done
-    → (walkOf (copyOf log waiting date score second n .second) [] score n ≡ walked v Done)
-    × FoundRoot (copyOf log waiting date score second n .second) score
+EndsWhole = (log waiting date score second : Bytes) (n v : ℕ) → let c = copyOf log waiting date score second n in
+    c .answer ≡ walked v Done
+    → (postOrderOf (c .second) [] score n ≡ postOrderOf log waiting score n)
+    × HoldsAll (c .second) (postOrderOf log waiting score n .visits)
+    × (walkOf (c .second) [] score n ≡ walked v Done)
+    × FoundRoot (c .second) score
 
 -- refusals that speak of the second log
 abbrev pub OfSecond : End → Type 0
@@ -109,7 +171,14 @@ abbrev pub CopyIsWalk : Type 0
 CopyIsWalk = (log waiting date score second : Bytes) (n : ℕ) → copyAllowed (length log) (length waiting) (length second) ≡ true → isDate date ≡ true
     → AsWalk (copyOf log waiting date score second n) (walkOf log waiting score n)
 
--- the copy is the walk's blocks stored in post-order, "Children go before parents, the root last"
-abbrev pub CopyIsStores : Type 0
-CopyIsStores = (log waiting date score second : Bytes) (n : ℕ) → copyAllowed (length log) (length waiting) (length second) ≡ true → isDate date ≡ true
-    → let p = postOrderOf log waiting score n in copyOf log waiting date score second n ≡ storeVisits date (p .visits) (p .answer) second
+-- ---- copying again
+
+-- copying again into what a copy left, whether it ended or stopped, answers alike and adds nothing
+abbrev pub CopyAgain : Type 0
+CopyAgain = (log waiting date score second : Bytes) (n : ℕ)
+    → copyOf log waiting date score (copyOf log waiting date score second n .second) n ≡ copyOf log waiting date score second n
+
+-- where it ended, with any date
+abbrev pub CopyAgainAddsNothing : Type 0
+CopyAgainAddsNothing = (log waiting date date′ score second : Bytes) (n v : ℕ) → isDate date′ ≡ true → let c = copyOf log waiting date score second n in
+    c .answer ≡ walked v Done → copyOf log waiting date′ score (c .second) n ≡ c

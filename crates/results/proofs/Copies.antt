@@ -12,8 +12,7 @@ use Rattle.visit.specs.Visit.{endNumber}
 use Rattle.walk.specs.Walk.{mostAllowance, walkOf}
 use Rattle.copying.specs.Copy.{Copied, copied, copyAllowed, copyOf}
 use Rattle.copying.specs.Promises.{OfSecond, AsWalk}
-use Rattle.copying.proofs.Promised.{Tested, failed, passed, tested}
-use Rattle.copying.proofs.WalkAlike.{copy-is-walk}
+use Rattle.copying.proofs.Promised.{Tested, failed, passed, tested, copy-is-walk}
 use Rattle.results.specs.Tree.{mostBoth, endSector, walkResult}
 use Rattle.results.specs.Copies.{transfer, copyResult, CopyUnpacks}
 use Rattle.results.proofs.Visits.{Within, walk-within}
