@@ -54,7 +54,7 @@ module _ (first date score : Bytes) (n : ℕ) (s : Bytes) where
   unfolding copyIn
   tested lent = by-tests lent (isDate date) (ltb mostAllowance n) refl refl
 
-allowed-fits : (m : ℕ) → logAllowed m ≡ true → sectors m ≤ 16 ^ 8
+pub allowed-fits : (m : ℕ) → logAllowed m ≡ true → sectors m ≤ 16 ^ 8
 unfolding logAllowed
 allowed-fits m e = go (eqb (m % 512) 0) e
   where

@@ -1,0 +1,2 @@
+-- What is claimed of a copy beside requests and growth.
+pub mod Requests
