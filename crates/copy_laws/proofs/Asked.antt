@@ -56,7 +56,7 @@ still-alone s date t b = go (held s t (sha1Of b))
     go none = either (roomFor (alone s) (partsFor date b)) _ _ refl refl
     go (some r) = either (same (r .bytes) b) _ _ refl refl
 
-as-long : (s date : Bytes) (t : ℕ) (b : Bytes) (a : AfterStore) → Stored s date t b a → length (a .lent .log) ≡ length s
+pub as-long : (s date : Bytes) (t : ℕ) (b : Bytes) (a : AfterStore) → Stored s date t b a → length (a .lent .log) ≡ length s
 as-long s date t b a (new r v f room k sc eb d h e _) = ap length e ∙ length-written s r v room
 as-long s date t b a (there x h eb e _) = ap length e
 as-long s date t b a (refused R e) = ap length e

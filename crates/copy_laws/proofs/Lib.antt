@@ -1,4 +1,5 @@
--- Laws of a copy: `Messages`, of one write message to any log; `Asked`, of the list of them; `Promised`, the theorems.
+-- Laws of a copy: `Messages`, of one write message to any log; `Asked`, of the list of them; `Promised`, the theorems of requests; `Resumed`, of growth.
 pub mod Messages
 pub mod Asked
 pub mod Promised
+pub mod Resumed

@@ -74,7 +74,7 @@ cancel (x ∷ a) b c e = cancel a b c (ap rest e)
     rest [] = []
     rest (y ∷ ys) = ys
 
-holds-along : (s s′ : Bytes) → Holds s s′ → (vs : List Visit) → HoldsAll s vs → HoldsAll s′ vs
+pub holds-along : (s s′ : Bytes) → Holds s s′ → (vs : List Visit) → HoldsAll s vs → HoldsAll s′ vs
 holds-along s s′ h [] k = tt
 holds-along s s′ h (v ∷ vs) k = (shown-holds s s′ h (k .0), holds-along s s′ h vs (k .1))
 

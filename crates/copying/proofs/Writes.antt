@@ -176,7 +176,7 @@ module _ (first date : Bytes) (d : isDate date ≡ true) where
 
 -- ---- storing again
 
-then-done : (e : End) (n : ℕ) (s s′ : Bytes) (k : Bytes → Copied) → e ≡ Done → s′ ≡ s → thenBy e n s′ (λ m x. k x) ≡ k s
+pub then-done : (e : End) (n : ℕ) (s s′ : Bytes) (k : Bytes → Copied) → e ≡ Done → s′ ≡ s → thenBy e n s′ (λ m x. k x) ≡ k s
 then-done Done n s s′ k q z = ap k z
 then-done (Refused why) n s s′ k q z = not-done why q
 
