@@ -114,8 +114,8 @@ module _ (date : Bytes) where
   -- ---- a block behind what is below it
 
   kept-goes-on : (t : ℕ) (b : Bytes) (c : Copied) (e : End) → keptAfter e date t b (c .answer .visits + 1) (c .second)
-      ≡ thenBy e (1 + c .answer .visits) (c .second) (λ n x. storedIn n (store (alone x) date t b))
-  kept-goes-on t b c Done = let q : c .answer .visits + 1 ≡ 1 + c .answer .visits = omega arith in ap (λ (n : ℕ). storedIn n (store (alone (c .second)) date t b)) q
+      ≡ thenBy e (1 + c .answer .visits) (c .second) (λ n x. keptAfter Done date t b n x)
+  kept-goes-on t b c Done = let q : c .answer .visits + 1 ≡ 1 + c .answer .visits = omega arith in ap (λ (n : ℕ). keptAfter Done date t b n (c .second)) q
   kept-goes-on t b c (Refused why) = let q : c .answer .visits + 1 ≡ 1 + c .answer .visits = omega arith in ap (λ (n : ℕ). stopped n (Refused why) (c .second)) q
 
   one-stored : (n : ℕ) (s : Bytes) (e : End) → copied (walked n e) s ≡ thenBy e n s (λ m x. copied (walked n Done) x)
@@ -126,8 +126,8 @@ module _ (date : Bytes) where
   unfolding kept storeVisits
   stores-behind role score b p s =
       kept-goes-on (typeOf role) b (run p s) (run p s .answer .end)
-      ∙ stores-followed p 1 (λ n x. storedIn n (store (alone x) date (typeOf role) b)) _ s
-      (λ n x. one-stored n (store (alone x) date (typeOf role) b .lent .log) (storeEnd (store (alone x) date (typeOf role) b .receipt .stored)))
+      ∙ stores-followed p 1 (λ n x. keptAfter Done date (typeOf role) b n x) _ s
+      (λ n x. let a = stored date (record { role = role; score = score; bytes = b; spent = n }) x in one-stored n (a .lent .log) (storeEnd (a .receipt .stored)))
 
   -- ---- the parts of a copy
 
