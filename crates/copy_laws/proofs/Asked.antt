@@ -24,7 +24,7 @@ use Rattle.request.specs.declared.Session.the-variants.{Fresh, Greeted}
 use Rattle.visit.specs.declared.Walked.{Walked}
 use Rattle.visit.specs.Visit as walks
 use Rattle.ledger.specs.Trace.{trace}
-use Rattle.ledger.specs.History.{AllOfBytes, Standing, answer}
+use Rattle.ledger.specs.History.{AllOfBytes, answer}
 use Rattle.demands.specs.Instance.{archive}
 use Rattle.writer.specs.Blocks.{Typed}
 use Rattle.writer.specs.WriteFile.{endOf, endNumber, AfterAll, onward, storeAll}
@@ -37,7 +37,7 @@ use Rattle.copying.specs.PostOrder.{typeOf, Visit, stored, storeVisits}
 use Rattle.copying.proofs.Stored.{Stored, new, there, refused, stored-alone}
 use Rattle.copying.proofs.Promised.{allowed-fits}
 use Rattle.copy_laws.specs.Requests.{typed}
-use Rattle.copy_laws.proofs.Messages.{small-message, OneWrite, one-write}
+use Rattle.copy_laws.proofs.Messages.{small-message, one-write}
 
 -- ---- a store in a log alone leaves a log alone, as long as it was
 

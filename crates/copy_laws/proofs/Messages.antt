@@ -1,7 +1,7 @@
 -- One write message, and a hello, to any log that is lent.
 use mathlib.Core.Path.{_≡_, refl, sym, ap, ap₂, _∙_}
 use mathlib.Core.Bool.{Bool, true, false, _&&_, _||_, true≢false}
-use mathlib.Core.List.{List, [], _∷_, _++_}
+use mathlib.Core.List.{_∷_}
 use mathlib.Core.Option.{some}
 use Prim.Native.Nat.{ℕ, _+_, _-_, _≤_, _<_}
 use native.Mathlib.Omega.{arith}
@@ -13,7 +13,7 @@ use Rattle.buffer.specs.Bytes.{Bytes}
 use Rattle.buffer.proofs.Bytes.{small-append}
 use Rattle.word.specs.Number.{small, digits, valueFrom, beNumber}
 use Rattle.word.proofs.NumberLaws.{length-digits, value-digits, below-digits}
-use Rattle.kind.specs.Kind.{lawful, longest}
+use Rattle.kind.specs.Kind.{lawful}
 use Rattle.sector.specs.Sector.{isDate}
 use Rattle.log.specs.Parts.{Lent}
 use Rattle.log.specs.Store.{AfterStore, store}
@@ -27,7 +27,7 @@ use Rattle.message.specs.declared.Request.the-variants.{Write}
 use Rattle.request.specs.Step as steps
 use Rattle.request.specs.declared.Session.{Session}
 use Rattle.request.specs.declared.Session.the-variants.{Fresh, Greeted}
-use Rattle.promises.specs.Requests.{Asks, Writes}
+use Rattle.promises.specs.Requests.{Writes}
 use Rattle.demands.proofs.Seen.{kept}
 use Rattle.promises.proofs.Greeted.{write-step}
 use Rattle.writer.specs.Blocks.{Typed}

@@ -1,14 +1,11 @@
 -- A copy and the write messages of its blocks leave the same log; so it is a list of events.
 use mathlib.Core.Path.{_≡_, refl, sym, ap, ap₂, subst, _∙_}
-use mathlib.Core.Bool.{true}
 use mathlib.Core.List.{List, [], _∷_, _++_, map}
-use mathlib.Core.Logic.{_⊎_, inl, inr}
 use mathlib.Core.Option.{Option, none, some}
-use Prim.Native.Nat.{ℕ, _+_, _≤_}
+use Prim.Native.Nat.{ℕ}
 use native.Mathlib.Omega.{arith}
-use lib.ListN.{length, getD, replicate, length-append}
+use lib.ListN.{length, getD, length-append}
 use Rattle.buffer.specs.Bytes.{Bytes}
-use Rattle.sector.specs.Sector.{isDate}
 use Rattle.log.specs.LookUp.{lentAllowed}
 use Rattle.log.specs.Parts.{Lent, alone, tape}
 use Rattle.request.specs.Step as steps
@@ -16,7 +13,6 @@ use Rattle.request.specs.declared.Session.{Session}
 use Rattle.request.specs.declared.Session.the-variants.{Fresh, Greeted}
 use Rattle.visit.specs.declared.Walked.{Walked}
 use Rattle.visit.specs.Visit as walks
-use Rattle.walk.specs.Walk.{walkOf}
 use Rattle.ledger.specs.Trace.{trace, Along}
 use Rattle.ledger.specs.History.{Item, AllOfBytes, Standing, Books}
 use Rattle.ledger.specs.Events.{ask, stop, happen, recountEvent, Possible, log-then, books-then}
@@ -27,15 +23,15 @@ use Rattle.promises.specs.Histories.{afterwards}
 use Rattle.writer.specs.WriteFile.{storeAll}
 use Rattle.writer_laws.specs.Held.{AllWritable}
 use Rattle.writer_laws.specs.Asking.{asked, numbers, helloMessage}
-use Rattle.copying.specs.Copy.{Copied, copyAllowed, copyOf}
-use Rattle.copying.specs.PostOrder.{typeOf, Visit, postOrderOf, storeVisits}
+use Rattle.copying.specs.Copy.{Copied, copyOf}
+use Rattle.copying.specs.PostOrder.{typeOf, Visit, postOrderOf}
 use Rattle.copying.specs.Promises.{HoldsAll}
 use Rattle.copying.proofs.InPostOrder.{copy-is-stores}
 use Rattle.copying.proofs.Promised.{second-allowed}
 use Rattle.copying.proofs.Tour.{tests-tour, post-order-is-walk}
 use Rattle.copying.proofs.Writes.{shown-writable}
 use Rattle.copy_laws.specs.Requests.{WritesAreRequests, typed, copyBlocks, copyRequests, CopyIsRequests, NumbersAreItsOwn, copyEvents, CopyIsEvents}
-use Rattle.copy_laws.proofs.Messages.{OneWrite, greets, any-write}
+use Rattle.copy_laws.proofs.Messages.{greets, any-write}
 use Rattle.copy_laws.proofs.Asked.{still-alone, Same, run, asked-writable, of-bytes, stores-are-visits, Numbered, numbered}
 
 -- what a log holds may be written
@@ -67,10 +63,11 @@ copy-is-requests log waiting date score second n buffer past l d room =
     let past′ = past ++ (o .session ∷ []) in
     let greeted : getD past′ i Fresh ≡ Greeted = end-getD past (o .session) ∙ ap (λ (y : steps.Outcome). y .session) is in
     let r = run date buffer d room i xs second past′ al A (omega (arith, length-append past (o .session ∷ []))) greeted in
-    let s = subst (λ (M : Lent). Same date buffer d room i M past′ (asked L date xs) (storeAll L date xs .lent) (numbers L date xs)) (sym (ap (λ (y : steps.Outcome). y .lent) is)) r in
-    ((refl, of-bytes date buffer i (asked L date xs) (asked-writable L date xs A)),
+    let s = subst (λ (M : Lent). Same date buffer d room i M past′ (asked L date xs) (storeAll L date xs .lent) (numbers L date xs)) (sym (ap (λ (y : steps.Outcome). y .lent) is)) r in (
+      (refl, of-bytes date buffer i (asked L date xs) (asked-writable L date xs A)),
       s .0 ∙ stores-are-visits date (p .visits) (p .answer) second ∙ ap (λ (c : Copied). alone (c .second)) (sym (copy-is-stores log waiting date score second n l d)),
-      ap₂ _∷_ (ap (λ (y : steps.Outcome). y .number) is) (s .1))
+      ap₂ _∷_ (ap (λ (y : steps.Outcome). y .number) is) (s .1),
+    )
 
 pub numbers-are-its-own : NumbersAreItsOwn
 unfolding Numbered
@@ -100,11 +97,12 @@ copy-is-events h log waiting date score n buffer lent l d room =
     let S = log-then archive h in
     let second = S .log .log in
     let qs = copyRequests log waiting date score second n buffer (S .past) in
-    let R = copy-is-requests log waiting date score second n buffer (S .past) l d room in
-    (record {
-      size = h .size;
-      events = h .events ++ copyEvents qs lent;
-      possible = along-append (recountEvent archive) (Possible archive) _ (h .events) (copyEvents qs lent) (h .possible) (possible-events (books-then archive h) qs lent (R .0));
-    },
+    let R = copy-is-requests log waiting date score second n buffer (S .past) l d room in (
+      record {
+        size = h .size;
+        events = h .events ++ copyEvents qs lent;
+        possible = along-append (recountEvent archive) (Possible archive) _ (h .events) (copyEvents qs lent) (h .possible) (possible-events (books-then archive h) qs lent (R .0));
+      },
       refl,
-      ap (λ (x : Standing archive). x .log) (left-append (happen archive) _ (h .events) (copyEvents qs lent)) ∙ events-leave S qs lent ∙ ap (relent lent) (R .1))
+      ap (λ (x : Standing archive). x .log) (left-append (happen archive) _ (h .events) (copyEvents qs lent)) ∙ events-leave S qs lent ∙ ap (relent lent) (R .1),
+    )

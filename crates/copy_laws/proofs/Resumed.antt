@@ -1,15 +1,13 @@
 -- Blocks stored in a log that is lent with more blank sectors: the same blocks at the same places.
 use mathlib.Core.Path.{_≡_, refl, sym, ap, ap₂, subst, _∙_}
-use mathlib.Core.Bool.{Bool, true, false, cond, true≢false}
+use mathlib.Core.Bool.{Bool, true, false, cond}
 use mathlib.Core.List.{List, [], _∷_, _++_, append-assoc, append-nil}
-use mathlib.Core.Option.{Option, none as nothing, some}
 use Prim.Native.Nat.{ℕ, _+_, _*_, _/_, _%_, _≤_, _^_}
 use native.Mathlib.Omega.{arith}
 use lib.Dec.{eqb, leb}
 use borrow.Author.Tests.{le-leb, eqb-true}
 use lib.ListN.{length, take, drop, replicate}
 use lib.Seq.{take-append-le, drop-append-le}
-use Rattle.ground.specs.Choice.{on}
 use Rattle.buffer.specs.Bytes.{Bytes}
 use Rattle.sha1.specs.Sha1.{sha1Of}
 use Rattle.sector.specs.Sector.{isDate}
@@ -20,15 +18,13 @@ use Rattle.log.specs.Parts.{alone, tape, roomFor, appendRow}
 use Rattle.log.specs.Store.{AfterStore, store, newRow, partsFor}
 use Rattle.log.proofs.Alike.{held-alike}
 use Rattle.visit.specs.declared.Walked.{Walked}
-use Rattle.visit.specs.declared.End.{End}
-use Rattle.visit.specs.declared.End.the-variants.{Done, Refused}
+use Rattle.visit.specs.declared.End.the-variants.{Done}
 use Rattle.visit.specs.Visit.{walked}
-use Rattle.walk_laws.proofs.Found.{not-done}
 use Rattle.demands.specs.Instance.{grown}
 use Rattle.demands.proofs.LogLaws.{length-grown, at-grown, used-grown}
-use Rattle.copying.specs.Copy.{Copied, copied, storeEnd, thenBy, copyAllowed, copyOf}
+use Rattle.copying.specs.Copy.{Copied, copied, storeEnd, copyAllowed, copyOf}
 use Rattle.copying.specs.PostOrder.{typeOf, Visit, PostOrder, postOrderOf, stored, storeVisits}
-use Rattle.copying.specs.Promises.{Holds, Shown, HoldsAll, wrote, wroteAll, Writes, none, next, StopsAt, ended}
+use Rattle.copying.specs.Promises.{Holds, Shown, HoldsAll, wroteAll, Writes, none, next, StopsAt, ended}
 use Rattle.copying.specs.Promises.{refused as refusedAt}
 use Rattle.copying.proofs.Stored.{Stored, new, there, refused, Fits}
 use Rattle.copying.proofs.Writes.{not-of-second, refuses-second, there-stored, stored-visit, writes-held, then-done, all-there}

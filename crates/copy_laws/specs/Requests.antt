@@ -9,7 +9,7 @@ use lib.ListN.{length, replicate}
 use Rattle.buffer.specs.Bytes.{Bytes}
 use Rattle.sector.specs.Sector.{isDate}
 use Rattle.log.specs.LookUp.{logAllowed}
-use Rattle.log.specs.Parts.{Lent, alone}
+use Rattle.log.specs.Parts.{alone}
 use Rattle.message.specs.Message.{framed, dataOf, requestOf}
 use Rattle.message.specs.declared.Request.the-variants.{Write}
 use Rattle.request.specs.declared.Session.{Session}
@@ -26,7 +26,7 @@ use Rattle.events.specs.Events.{Past, logThen}
 use Rattle.writer.specs.Blocks.{Typed}
 use Rattle.writer_laws.specs.Asking.{asked, numbers, requests}
 use Rattle.copying.specs.Copy.{copyAllowed, copyOf}
-use Rattle.copying.specs.PostOrder.{typeOf, Visit, postOrderOf, stored}
+use Rattle.copying.specs.PostOrder.{typeOf, Visit, postOrderOf}
 use Rattle.copying.specs.Promises.{HeldIn, wrote}
 
 -- a message that asks for a block to be written, with the call's date and to a log "for which nothing waits", leaves of that log what the copy's write does

@@ -10,21 +10,17 @@ use lib.Dec.{leb, ltb}
 use borrow.Author.Tests.{lt-leb}
 use lib.ListN.{length}
 use Rattle.buffer.specs.Bytes.{Bytes, zeros}
-use Rattle.sha1.specs.Sha1.{sha1Of}
-use Rattle.sector.specs.Sector.{isDate}
 use Rattle.block.specs.Block.{Row, parts, written, valid, image}
 use Rattle.block.specs.Log.{sectors, at, used}
 use Rattle.block.proofs.Used.{lt-used, at-used}
 use Rattle.block.proofs.Written.{length-written, at-written}
 use Rattle.log.specs.LookUp.{blocks, held}
-use Rattle.log.specs.Parts.{alone}
-use Rattle.log.specs.Store.{AfterStore, store}
 use Rattle.log.proofs.Appended.{blocks-appended}
 use Rattle.log.proofs.Written.{held-written, held-appended}
 use Rattle.entry.specs.declared.Entry.{Entry}
 use Rattle.walk_laws.specs.Found.{Found, leaf, FoundEntries, FoundRoot}
 use Rattle.walk_laws.specs.Found.{directory as directoryFound, pointers as pointersFound}
-use Rattle.copying.specs.PostOrder.{Role, typeOf, Visit}
+use Rattle.copying.specs.PostOrder.{Role, Visit}
 use Rattle.copying.specs.Promises.{Holds, Shown, Linked, below-root, below-top, no-link, entries, scores, Stays, LinkedAs}
 
 -- ---- what a log finds, one finds that holds as much

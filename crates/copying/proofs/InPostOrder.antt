@@ -1,5 +1,5 @@
 -- A copy stores the walk's blocks in post-order, up to the first one that the second log refuses.
-use mathlib.Core.Path.{_≡_, refl, sym, ap, ap₂, subst, _∙_}
+use mathlib.Core.Path.{_≡_, refl, sym, ap, _∙_}
 use mathlib.Core.Bool.{Bool, true, false, cond}
 use mathlib.Core.List.{List, [], _∷_, _++_, map}
 use mathlib.Core.Option.{Option, none, some}
@@ -10,18 +10,16 @@ use lib.ListN.{length}
 use Rattle.ground.specs.Choice.{on}
 use Rattle.ground.proofs.Cases.{and-true}
 use Rattle.buffer.specs.Bytes.{Bytes}
-use Rattle.refusal.specs.declared.Refusal.{Refusal}
 use Rattle.refusal.specs.declared.Refusal.the-variants.{OverCount}
 use Rattle.kind.specs.Kind.{longest}
 use Rattle.sector.specs.Sector.{isDate}
 use Rattle.block.specs.Block.{Row}
 use Rattle.log.specs.LookUp.{held, absence, logAllowed, lentAllowed}
-use Rattle.log.specs.Parts.{tape, alone}
-use Rattle.log.specs.Store.{AfterStore, store}
+use Rattle.log.specs.Parts.{tape}
 use Rattle.entry.specs.declared.Entry.{Entry}
 use Rattle.entry.specs.Entry.{entryOf, entryAllowed, scoreOf}
 use Rattle.entry.specs.Root.{rootWellFormed, rootScore}
-use Rattle.tree.specs.Tree.{piece, typeAt, countAt}
+use Rattle.tree.specs.Tree.{piece, countAt}
 use Rattle.visit.specs.declared.End.{End}
 use Rattle.visit.specs.declared.End.the-variants.{Done, Refused}
 use Rattle.visit.specs.declared.Walked.{Walked}
@@ -29,8 +27,10 @@ use Rattle.visit.specs.Visit.{walked}
 use Rattle.descent.specs.Descent.{paddedTo, nestOf, entriesOf}
 use Rattle.walk.specs.Walk.{mostAllowance}
 use Rattle.walk_laws.proofs.Found.{not-done}
-use Rattle.copying.specs.Copy.{Copied, copied, stopped, storeEnd, storedIn, kept, keptAfter, copyVisit, thenBy, andThen, copyInOrder, judgedCopy, copyDirectory, copyEntry, copyTop, copyRoot, copyIn, copyAllowed}
-use Rattle.copying.specs.PostOrder.{Role, root, top, ofEntry, typeOf, Visit, PostOrder, postOrder, later, goOn, followedBy, behind, visitLast, eachInOrder, judgedLast, directoryLast, entryLast, topLast, rootLast, postOrderIn, stored, storeVisits}
+use Rattle.copying.specs.Copy.{Copied, copied, stopped, storeEnd, kept, keptAfter, copyVisit, thenBy, andThen, copyInOrder, judgedCopy, copyDirectory, copyEntry, copyTop}
+use Rattle.copying.specs.Copy.{copyRoot, copyIn, copyAllowed}
+use Rattle.copying.specs.PostOrder.{Role, root, top, ofEntry, typeOf, Visit, PostOrder, postOrder, later, goOn, followedBy, behind, visitLast, eachInOrder, judgedLast}
+use Rattle.copying.specs.PostOrder.{directoryLast, entryLast, topLast, rootLast, postOrderIn, stored, storeVisits}
 use Rattle.copying.specs.Promises.{CopyIsStores}
 
 -- ---- storing a list

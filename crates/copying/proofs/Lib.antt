@@ -1,7 +1,9 @@
 -- The laws of a copy.
 pub mod Below
+pub mod CopiedAgain
 pub mod Grown
 pub mod InPostOrder
+pub mod OneVisit
 pub mod Promised
 pub mod SameSectors
 pub mod Stored

@@ -1,9 +1,8 @@
 -- The promises of a copy: by its tests, then by the blocks that it stores.
-use mathlib.Core.Path.{_≡_, refl, sym, ap, ap₂, subst, _∙_}
-use mathlib.Core.Bool.{Bool, true, false, cond, _&&_, true≢false}
+use mathlib.Core.Path.{_≡_, refl, sym, ap, subst, _∙_}
+use mathlib.Core.Bool.{Bool, true, false, cond, true≢false}
 use mathlib.Core.List.{List, [], _∷_, _++_, List·Memᴰ, Memᴰ·append-left}
-use mathlib.Core.Logic.{_⊎_, inl, inr}
-use mathlib.Core.Option.{some}
+use mathlib.Core.Logic.{inl, inr}
 use Prim.Native.Nat.{ℕ, _/_, _%_, _≤_, _^_}
 use native.Mathlib.Omega.{arith}
 use lib.Dec.{eqb, ltb, leb}
@@ -17,7 +16,7 @@ use Rattle.refusal.specs.declared.Refusal.the-variants.{LogLength, Allowance, D
 use Rattle.sector.specs.Sector.{isDate}
 use Rattle.block.specs.Block.{Row}
 use Rattle.block.specs.Log.{sectors}
-use Rattle.log.specs.LookUp.{blocks, held, mostSectors, logAllowed, lentAllowed}
+use Rattle.log.specs.LookUp.{blocks, mostSectors, logAllowed, lentAllowed}
 use Rattle.log.specs.Parts.{tape}
 use Rattle.log.proofs.Parts.{held-alone, lent-alone}
 use Rattle.visit.specs.declared.Walked.{Walked}
@@ -25,14 +24,14 @@ use Rattle.visit.specs.declared.End.the-variants.{Done, Refused}
 use Rattle.visit.specs.Visit.{walked}
 use Rattle.walk.specs.Walk.{walkOf, mostAllowance}
 use Rattle.walk_laws.proofs.Found.{not-done, walk-found}
-use Rattle.copying.specs.Copy.{Copied, copied, stopped, copyRoot, copyIn, copyAllowed, copyOf}
-use Rattle.copying.specs.PostOrder.{typeOf, Visit, PostOrder, postOrderIn, postOrderOf, storeVisits}
+use Rattle.copying.specs.Copy.{Copied, stopped, copyRoot, copyIn, copyAllowed, copyOf}
+use Rattle.copying.specs.PostOrder.{typeOf, Visit, PostOrder, postOrderIn, postOrderOf}
 use Rattle.copying.specs.Promises.{Holds, HeldIn, HoldsAll, wroteAll, Writes, none, OnlyWrites, CopyIsWrites, Refuses, StopsAt, ended, refused, CopyStopsAt, RoomAndNoClash}
-use Rattle.copying.specs.Promises.{CopiedStays, NoDangling, EndsWhole, AsWalk, CopyIsWalk, CopyAgain, CopyAgainAddsNothing}
+use Rattle.copying.specs.Promises.{CopiedStays, NoDangling, EndsWhole, AsWalk, CopyIsWalk}
 use Rattle.copying.proofs.Stored.{Fits}
 use Rattle.copying.proofs.Grown.{shown-holds, Grown, grown-same, root-holds}
-use Rattle.copying.proofs.Writes.{refuses-second, not-of-second, writes-grown, writes-held, stops-at, all-there, refused-again}
-use Rattle.copying.proofs.InPostOrder.{onward, store-append, parts-allowed, copy-is-stores}
+use Rattle.copying.proofs.Writes.{refuses-second, not-of-second, writes-grown, writes-held, stops-at}
+use Rattle.copying.proofs.InPostOrder.{parts-allowed, copy-is-stores}
 use Rattle.copying.proofs.Tour.{tests-tour, post-order-is-walk}
 
 -- ---- the tests
@@ -134,10 +133,10 @@ module _ (log waiting date score second : Bytes) (n : ℕ) where
   -- ---- where it is done
 
   -- it passed the tests, and all blocks of the walk are in the second log
-  pub Whole : ℕ → Type 0
+  unfoldable pub Whole : ℕ → Type 0
   Whole v = (lent ≡ true) × (reached .answer ≡ walked v Done) × HoldsAll (outcome .second) (reached .visits)
 
-  whole : (v : ℕ) → outcome .answer ≡ walked v Done → Whole v
+  pub whole : (v : ℕ) → outcome .answer ≡ walked v Done → Whole v
   unfolding Whole
   whole v q = go (tested (tape log waiting) date score n second lent)
     where
@@ -150,7 +149,7 @@ module _ (log waiting date score second : Bytes) (n : ℕ) where
       go (failed why _ e) = not-done why (ap (λ (c : Copied). c .answer .end) (sym e) ∙ ap (λ (w : Walked). w .end) q)
       go (passed l d a e) = by l d (stops l d)
 
-  still-lent : lent ≡ true → copyAllowed (length log) (length waiting) (length (outcome .second)) ≡ true
+  pub still-lent : lent ≡ true → copyAllowed (length log) (length waiting) (length (outcome .second)) ≡ true
   still-lent l = ap (copyAllowed (length log) (length waiting)) (grown .stays .as-long) ∙ l
 
   same-walk : (v : ℕ) → outcome .answer ≡ walked v Done → postOrderOf (outcome .second) [] score n ≡ reached
@@ -204,48 +203,3 @@ copy-is-walk log waiting date score second n l d = go (stops log waiting date sc
         → AsWalk (copyOf log waiting date score second n) (walkOf log waiting score n)
     go (ended W e a) = inl (a ∙ post-order-is-walk log waiting score n)
     go (refused _ _ v _ _ _ _ _ R s i) = inr (refuses-second R, rw (← post-order-is-walk log waiting score n, s) i)
-
--- ---- copying again
-
-module _ (log waiting date score second : Bytes) (n : ℕ) where
-  abbrev result : Copied
-  result = copyOf log waiting date score second n
-
-  abbrev order : PostOrder
-  order = postOrderOf log waiting score n
-
-  -- the blocks stored again in what they left
-  stored-again : copyAllowed (length log) (length waiting) (length second) ≡ true → isDate date ≡ true
-      → StopsAt (tape log waiting) date order second result → storeVisits date (order .visits) (order .answer) (result .second) ≡ result
-  stored-again l d (ended W e a) =
-      let h = subst (λ (s : Bytes). HoldsAll s (order .visits)) (sym e) (writes-held (tape log waiting) date d W (fits log waiting date score second n l)) in
-      all-there date (order .visits) (order .answer) (result .second) h ∙ ap (λ (w : Walked). copied w (result .second)) (sym a)
-  stored-again l d (refused before after v q W e _ _ R s _) =
-      let h = subst (λ (x : Bytes). HoldsAll x before) (sym e) (writes-held (tape log waiting) date d W (fits log waiting date score second n l)) in
-      ap (λ (vs : List Visit). storeVisits date vs (order .answer) (result .second)) q
-      ∙ store-append date before (v ∷ after) 0 (order .answer) (result .second)
-      ∙ ap (λ (c : Copied). onward c (λ x. storeVisits date (v ∷ after) (order .answer) x)) (all-there date before (walked 0 Done) (result .second) h)
-      ∙ refused-again date v after (order .answer) (result .second) (result .answer .end) R
-      ∙ ap (λ (m : ℕ). copied (walked m (result .answer .end)) (result .second)) (sym s)
-
-  again : copyOf log waiting date score (result .second) n ≡ result
-  again = go (tested (tape log waiting) date score n second (copyAllowed (length log) (length waiting) (length second)))
-    where
-      go : Tested (copyAllowed (length log) (length waiting) (length second)) (tape log waiting) date score n second result → copyOf log waiting date score (result .second) n ≡ result
-      go (failed why _ e) = ap (λ (c : Copied). copyOf log waiting date score (c .second) n) e
-      go (passed l d a e) =
-          copy-is-stores log waiting date score (result .second) n (still-lent log waiting date score second n l) d
-          ∙ stored-again l d (stops log waiting date score second n l d)
-
-pub copy-again : CopyAgain
-copy-again = again
-
-pub copy-again-adds-nothing : CopyAgainAddsNothing
-unfolding Whole
-copy-again-adds-nothing log waiting date date′ score second n v d q =
-    let c = copyOf log waiting date score second n in
-    let W = whole log waiting date score second n v q in
-    let p = postOrderOf log waiting score n in
-    copy-is-stores log waiting date′ score (c .second) n (still-lent log waiting date score second n (W .0)) d
-    ∙ all-there date′ (p .visits) (p .answer) (c .second) (W .2)
-    ∙ ap (λ (w : Walked). copied w (c .second)) (W .1 ∙ sym q)

@@ -5,7 +5,6 @@ use mathlib.Core.List.{[], _∷_}
 use mathlib.Core.Option.{Option, none, some}
 use Prim.Native.Nat.{ℕ, _+_, _≤_, _^_}
 use native.Mathlib.Omega.{arith}
-use lib.Dec.{leb}
 use borrow.Author.Tests.{leb-true}
 use lib.ListN.{length}
 use Rattle.ground.specs.Choice.{on}
@@ -19,14 +18,14 @@ use Rattle.kind.specs.Kind.{lawful, longest, zeroScore}
 use Rattle.sector.specs.Sector.{isDate, isDateOrNone}
 use Rattle.block.specs.Block.{Row, parts, valid, written}
 use Rattle.block.specs.Log.{sectors, used, sound}
-use Rattle.block.proofs.Facts.{Facts, valid-facts, facts-valid}
+use Rattle.block.proofs.Facts.{valid-facts, facts-valid}
 use Rattle.block.proofs.Sound.{sound-reads}
 use Rattle.log.specs.LookUp.{held, emptyRow}
 use Rattle.log.specs.Parts.{alone, roomFor, appendRow}
 use Rattle.log.specs.Store.{AfterStore, afterStore, receipt, newRow, partsFor, appended, compared, store}
 use Rattle.log.specs.declared.Stored.the-variants.{New, Duplicate, Refused as NotStored}
 use Rattle.log.proofs.First.{first-sound}
-use Rattle.visit.specs.declared.End.the-variants.{Done, Refused}
+use Rattle.visit.specs.declared.End.the-variants.{Done}
 use Rattle.copying.specs.Copy.{storeEnd}
 use Rattle.copying.specs.Promises.{Refuses, no-room, clash}
 

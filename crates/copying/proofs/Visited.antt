@@ -1,8 +1,9 @@
 -- Lists of visits: held in a log, within a count, and each behind what it links to.
 use mathlib.Core.Path.{_≡_, refl, ap, _∙_}
 use mathlib.Core.List.{List, [], _∷_, _++_, map}
-use Prim.Native.Nat.{ℕ, _+_, _≤_}
+use Prim.Native.Nat.{ℕ, suc, _+_, _≤_}
 use native.Mathlib.Omega.{arith}
+use lib.ListN.{length, length-append}
 use Rattle.buffer.specs.Bytes.{Bytes}
 use Rattle.visit.specs.declared.End.{End}
 use Rattle.visit.specs.declared.End.the-variants.{Done, Refused}
@@ -59,6 +60,36 @@ pub within-on : (e : End) (vs : List Visit) (m : ℕ) (k : ℕ → PostOrder) �
 within-on Done vs m k f l g = within-join (k m .answer .visits) vs (k m .visits) (within-more m (k m .answer .visits) l vs f) g
 within-on (Refused why) vs m k f l g = f
 
+-- ---- one visit each
+
+length-later : (n : ℕ) (xs : List Visit) → length (map (later n) xs) ≡ length xs
+length-later n [] = refl
+length-later n (x ∷ xs) = ap suc (length-later n xs)
+
+-- a list that is done, behind n visits: as many blocks as were visited
+abbrev pub Counted : ℕ → PostOrder → Type 0
+Counted n p = p .answer .end ≡ Done → length (p .visits) + n ≡ p .answer .visits
+
+pub counted-followed : (p : PostOrder) (n : ℕ) (k : ℕ → PostOrder) → Counted 0 p → ((m : ℕ) → Counted m (k m)) → Counted n (followedBy p n k)
+counted-followed p n k f g = go (p .answer .end) refl
+  where
+    go : (e : End) → p .answer .end ≡ e → Counted n (goOn e (map (later n) (p .visits)) (n + p .answer .visits) k)
+    go Done q d =
+        let m = n + p .answer .visits in
+        let xs = map (later n) (p .visits) in
+        omega (arith, f q, g m d, length-later n (p .visits), length-append xs (k m .visits))
+    go (Refused why) q d = not-done why d
+
+pub counted-behind : (role : Role) (score b : Bytes) (p : PostOrder) → Counted 0 p → Counted 0 (behind role score b p)
+counted-behind role score b p f = go (p .answer .end) refl
+  where
+    go : (e : End) → p .answer .end ≡ e
+        → Counted 0 (goOn e (map (later 1) (p .visits)) (1 + p .answer .visits) (λ n. postOrder (record { role = role; score = score; bytes = b; spent = n } ∷ []) (walked n Done)))
+    go Done q d =
+        let ys : List Visit = record { role = role; score = score; bytes = b; spent = 1 + p .answer .visits } ∷ [] in
+        omega (arith, f q, length-later 1 (p .visits), length-append (map (later 1) (p .visits)) ys)
+    go (Refused why) q d = not-done why d
+
 -- ---- each behind what it links to
 
 -- in a log of which Q is known and that holds those before it, all that a block links to is found
@@ -72,9 +103,11 @@ links-known Q R f (x ∷ xs) h = ((λ L r. h .0 L (f L r)), links-known (λ L. Q
 
 pub links-join : (Q : Bytes → Type 0) (xs ys : List Visit) → LinksFirst Q xs → LinksFirst (λ L. Q L × HoldsAll L xs) ys → LinksFirst Q (xs ++ ys)
 links-join Q [] ys h k = links-known (λ L. Q L × Unit {0}) Q (λ L q. (q, tt)) ys k
-links-join Q (x ∷ xs) ys h k =
-    (h .0, links-join (λ L. Q L × HeldIn L x) xs ys (h .1)
-    (links-known (λ L. Q L × (HeldIn L x × HoldsAll L xs)) (λ L. (Q L × HeldIn L x) × HoldsAll L xs) (λ L q. (q .0 .0, (q .0 .1, q .1))) ys k))
+links-join Q (x ∷ xs) ys h k = (
+  h .0,
+  links-join (λ L. Q L × HeldIn L x) xs ys (h .1)
+      (links-known (λ L. Q L × (HeldIn L x × HoldsAll L xs)) (λ L. (Q L × HeldIn L x) × HoldsAll L xs) (λ L q. (q .0 .0, (q .0 .1, q .1))) ys k),
+)
 
 pub links-later : (Q : Bytes → Type 0) (n : ℕ) (xs : List Visit) → LinksFirst Q xs → LinksFirst Q (map (later n) xs)
 links-later Q n [] h = tt

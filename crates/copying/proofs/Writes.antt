@@ -1,10 +1,10 @@
 -- A list of writes: what it leaves of the second log, and how storing a list ends.
 use mathlib.Core.Path.{_≡_, refl, sym, ap, ap₂, subst, _∙_}
-use mathlib.Core.Bool.{Bool, true, false, cond, true≢false}
+use mathlib.Core.Bool.{Bool, true, false}
 use mathlib.Core.List.{List, [], _∷_, _++_, List·Memᴰ, List·Memᴰ·head, List·Memᴰ·tail}
-use mathlib.Core.Logic.{_⊎_, inl, inr}
+use mathlib.Core.Logic.{inl, inr}
 use mathlib.Core.Option.{none as nothing, some}
-use Prim.Native.Nat.{ℕ, _+_, _≤_, _^_}
+use Prim.Native.Nat.{ℕ, _≤_, _^_}
 use lib.ListN.{length}
 use Rattle.buffer.specs.Bytes.{Bytes, same}
 use Rattle.buffer.proofs.Bytes.{same-refl, same-true}
@@ -12,7 +12,7 @@ use Rattle.word.specs.Number.{small}
 use Rattle.sha1.specs.Sha1.{sha1Of}
 use Rattle.kind.specs.Kind.{lawful, longest}
 use Rattle.sector.specs.Sector.{isDate}
-use Rattle.block.specs.Block.{Row, written}
+use Rattle.block.specs.Block.{written}
 use Rattle.block.specs.Log.{sectors}
 use Rattle.log.specs.LookUp.{held}
 use Rattle.log.specs.Parts.{alone}
@@ -27,8 +27,8 @@ use Rattle.copying.specs.Copy.{Copied, copied, storeEnd, thenBy}
 use Rattle.copying.specs.PostOrder.{typeOf, Visit, postOrder, stored, storeVisits}
 use Rattle.copying.specs.Promises.{Holds, Shown, HeldIn, HoldsAll, Linked, wrote, wroteAll, Writes, none, next, Refuses, no-room, clash, StopsAt, ended, OfSecond}
 use Rattle.copying.specs.Promises.{refused as refusedAt}
-use Rattle.copying.proofs.Stored.{Named, held-named, Stored, new, there, refused, Fits, stored-alone}
-use Rattle.copying.proofs.Grown.{linked-holds, shown-holds, Grown, grown-same, grown-again, grown-written}
+use Rattle.copying.proofs.Stored.{held-named, Stored, new, there, refused, Fits, stored-alone}
+use Rattle.copying.proofs.Grown.{shown-holds, Grown, grown-same, grown-again, grown-written}
 use Rattle.copying.proofs.Visited.{SpentWithin, LinksFirst}
 
 pub not-of-second {ℓ} : {A : Type ℓ} {e : End} → OfSecond e → e ≡ Done → A

@@ -25,7 +25,7 @@ use Rattle.visit.specs.Visit.{walked}
 use Rattle.descent.specs.Descent.{paddedTo}
 use Rattle.walk.specs.Walk.{walkOf}
 use Rattle.walk_laws.specs.Found.{Found, FoundEntries, FoundRoot}
-use Rattle.copying.specs.Copy.{Copied, copied, storeEnd, copyAllowed, copyOf}
+use Rattle.copying.specs.Copy.{Copied, storeEnd, copyAllowed, copyOf}
 use Rattle.copying.specs.PostOrder.{Role, root, top, ofEntry, typeOf, Visit, PostOrder, postOrderOf, stored, storeVisits}
 
 -- ---- what it stores
@@ -33,6 +33,10 @@ use Rattle.copying.specs.PostOrder.{Role, root, top, ofEntry, typeOf, Vi
 -- the walk in post-order answers as the walk does
 abbrev pub PostOrderIsWalk : Type 0
 PostOrderIsWalk = (log waiting score : Bytes) (n : ℕ) → postOrderOf log waiting score n .answer ≡ walkOf log waiting score n
+
+-- and where the walk ends, it has a block for each visit
+abbrev pub EachVisitOnce : Type 0
+EachVisitOnce = (log waiting score : Bytes) (n v : ℕ) → walkOf log waiting score n ≡ walked v Done → length (postOrderOf log waiting score n .visits) ≡ v
 
 -- "Children go before parents, the root last": a copy is the blocks of the walk over the first log, stored in post-order up to the first refused one; behind
 -- the last one its answer is the walk's
