@@ -1,4 +1,5 @@
 -- The laws of a copy.
+pub mod Allowance
 pub mod Below
 pub mod CopiedAgain
 pub mod Grown

@@ -8,7 +8,7 @@ use Prim.Native.Nat.{ℕ, zero, suc, _/_, _%_, _≤_, _<_}
 use lib.ListN.{length}
 use Rattle.buffer.specs.Bytes.{Bytes}
 use Rattle.sha1.specs.Sha1.{sha1Of}
-use Rattle.refusal.specs.declared.Refusal.the-variants.{NoRoom, Clash}
+use Rattle.refusal.specs.declared.Refusal.the-variants.{NoRoom, Clash, Spent}
 use Rattle.sector.specs.Sector.{isDate}
 use Rattle.block.specs.Block.{Row}
 use Rattle.block.specs.Log.{at, used}
@@ -23,7 +23,7 @@ use Rattle.visit.specs.declared.End.the-variants.{Done, Refused}
 use Rattle.visit.specs.declared.Walked.{Walked}
 use Rattle.visit.specs.Visit.{walked}
 use Rattle.descent.specs.Descent.{paddedTo}
-use Rattle.walk.specs.Walk.{walkOf}
+use Rattle.walk.specs.Walk.{mostAllowance, walkOf}
 use Rattle.walk_laws.specs.Found.{Found, FoundEntries, FoundRoot}
 use Rattle.copying.specs.Copy.{Copied, storeEnd, copyAllowed, copyOf}
 use Rattle.copying.specs.PostOrder.{Role, root, top, ofEntry, typeOf, Visit, PostOrder, postOrderOf, stored, storeVisits}
@@ -37,6 +37,11 @@ PostOrderIsWalk = (log waiting score : Bytes) (n : ℕ) → postOrderOf log wait
 -- and where the walk ends, it has a block for each visit
 abbrev pub EachVisitOnce : Type 0
 EachVisitOnce = (log waiting score : Bytes) (n v : ℕ) → walkOf log waiting score n ≡ walked v Done → length (postOrderOf log waiting score n .visits) ≡ v
+
+-- a larger allowance: the same, or the smaller one ran out (21) and the larger goes on from there
+abbrev pub MoreAllowance : Type 0
+MoreAllowance = (log waiting score : Bytes) (m n : ℕ) → m ≤ n → n ≤ mostAllowance → let p = postOrderOf log waiting score m in let q = postOrderOf log waiting score n in
+    (q ≡ p) ⊎ ((rest : List Visit) × (p .answer .end ≡ Refused Spent) × (q .visits ≡ p .visits ++ rest))
 
 -- "Children go before parents, the root last": a copy is the blocks of the walk over the first log, stored in post-order up to the first refused one; behind
 -- the last one its answer is the walk's
