@@ -2,6 +2,7 @@
 use mathlib.Core.Path.{_≡_, refl, sym, ap, ap₂, subst, _∙_}
 use mathlib.Core.Bool.{Bool, true, false, cond}
 use mathlib.Core.List.{List, [], _∷_, _++_, append-assoc, append-nil}
+use mathlib.Core.Logic.{_⊎_, inl, inr}
 use Prim.Native.Nat.{ℕ, _+_, _*_, _/_, _%_, _≤_, _^_}
 use native.Mathlib.Omega.{arith}
 use lib.Dec.{eqb, leb}
@@ -18,7 +19,8 @@ use Rattle.log.specs.Parts.{alone, tape, roomFor, appendRow}
 use Rattle.log.specs.Store.{AfterStore, store, newRow, partsFor}
 use Rattle.log.proofs.Alike.{held-alike}
 use Rattle.visit.specs.declared.Walked.{Walked}
-use Rattle.visit.specs.declared.End.the-variants.{Done}
+use Rattle.refusal.specs.declared.Refusal.the-variants.{Spent}
+use Rattle.visit.specs.declared.End.the-variants.{Done, Refused}
 use Rattle.visit.specs.Visit.{walked}
 use Rattle.demands.specs.Instance.{grown}
 use Rattle.demands.proofs.LogLaws.{length-grown, at-grown, used-grown}
@@ -30,7 +32,8 @@ use Rattle.copying.proofs.Stored.{Stored, new, there, refused, Fits}
 use Rattle.copying.proofs.Writes.{not-of-second, refuses-second, there-stored, stored-visit, writes-held, then-done, all-there}
 use Rattle.copying.proofs.InPostOrder.{onward, store-append, copy-is-stores}
 use Rattle.copying.proofs.Promised.{Tested, failed, passed, tested, fits, stops, holds-along, second-allowed, copied-stays}
-use Rattle.copy_laws.specs.Resumed.{CopyResumes}
+use Rattle.copying.proofs.Allowance.{more-allowance}
+use Rattle.copy_laws.specs.Resumed.{CopyResumes, CopyInRounds}
 use Rattle.copy_laws.proofs.Asked.{as-long}
 
 abbrev Whole : Bytes → Type 0
@@ -114,41 +117,59 @@ allowed-whole m e = go (eqb (m % 512) 0) e
     go true q = refl
     go false q = q
 
-module _ (log waiting date score second : Bytes) (n k : ℕ) (l′ : copyAllowed (length log) (length waiting) (length (grown k second)) ≡ true) where
+-- a copy with allowance m, and one with allowance n behind it, whose blocks begin with those that the first one wrote
+module _ (log waiting date score second : Bytes) (m n k : ℕ) (l′ : copyAllowed (length log) (length waiting) (length (grown k second)) ≡ true) where
   abbrev c : Copied
-  c = copyOf log waiting date score second n
+  c = copyOf log waiting date score second m
 
   abbrev p : PostOrder
-  p = postOrderOf log waiting score n
+  p = postOrderOf log waiting score m
+
+  abbrev q : PostOrder
+  q = postOrderOf log waiting score n
 
   long : length (c .second) ≡ length second
-  long = copied-stays log waiting date score second n .as-long
+  long = copied-stays log waiting date score second m .as-long
 
-  resumes : copyOf log waiting date score (grown k (c .second)) n ≡ copyOf log waiting date score (grown k second) n
-  resumes = go (tested (tape log waiting) date score n second (copyAllowed (length log) (length waiting) (length second)))
-    where
-      by : copyAllowed (length log) (length waiting) (length second) ≡ true → isDate date ≡ true → StopsAt (tape log waiting) date p second c
-          → storeVisits date (p .visits) (p .answer) (grown k (c .second)) ≡ storeVisits date (p .visits) (p .answer) (grown k second)
-      by l d (ended W e _) =
-          let whole = allowed-whole (length second) (second-allowed (length log) (length waiting) (length second) l) in
-          let whole′ = ap (λ (m : ℕ). eqb (m % 512) 0) long ∙ whole in
-          subst (λ (vs : List Visit). storeVisits date vs (p .answer) (grown k (c .second)) ≡ storeVisits date vs (p .answer) (grown k second)) (append-nil (p .visits))
-          (resumed k (tape log waiting) date d second (c .second) (p .visits) [] (p .answer) W (fits log waiting date score second n l) whole whole′ e)
-      by l d (refusedAt before after v q W e _ _ _ _ _) =
-          let whole = allowed-whole (length second) (second-allowed (length log) (length waiting) (length second) l) in
-          let whole′ = ap (λ (m : ℕ). eqb (m % 512) 0) long ∙ whole in
-          subst (λ (vs : List Visit). storeVisits date vs (p .answer) (grown k (c .second)) ≡ storeVisits date vs (p .answer) (grown k second)) (sym q)
-          (resumed k (tape log waiting) date d second (c .second) before (v ∷ after) (p .answer) W (fits log waiting date score second n l) whole whole′ e)
+  module _ (rest : List Visit) (front : q .visits ≡ p .visits ++ rest) where
+    behind : (l : copyAllowed (length log) (length waiting) (length second) ≡ true) → isDate date ≡ true → (before after : List Visit) → q .visits ≡ before ++ after
+        → Writes (tape log waiting) date before second → c .second ≡ wroteAll date before second
+        → storeVisits date (q .visits) (q .answer) (grown k (c .second)) ≡ storeVisits date (q .visits) (q .answer) (grown k second)
+    behind l d before after z W e =
+        let whole = allowed-whole (length second) (second-allowed (length log) (length waiting) (length second) l) in
+        let whole′ = ap (λ (j : ℕ). eqb (j % 512) 0) long ∙ whole in
+        subst (λ (vs : List Visit). storeVisits date vs (q .answer) (grown k (c .second)) ≡ storeVisits date vs (q .answer) (grown k second)) (sym z)
+        (resumed k (tape log waiting) date d second (c .second) before after (q .answer) W (fits log waiting date score second m l) whole whole′ e)
 
-      go : Tested (copyAllowed (length log) (length waiting) (length second)) (tape log waiting) date score n second c
-          → copyOf log waiting date score (grown k (c .second)) n ≡ copyOf log waiting date score (grown k second) n
-      go (failed why _ e) = ap (λ (x : Copied). copyOf log waiting date score (grown k (x .second)) n) e
-      go (passed l d a e) =
-          let m : length (grown k (c .second)) ≡ length (grown k second) =
-          length-grown k (c .second) ∙ ap (λ (x : ℕ). x + 512 * k) long ∙ sym (length-grown k second) in
-          copy-is-stores log waiting date score (grown k (c .second)) n (ap (copyAllowed (length log) (length waiting)) m ∙ l′) d
-          ∙ by l d (stops log waiting date score second n l d)
-          ∙ sym (copy-is-stores log waiting date score (grown k second) n l′ d)
+    by : copyAllowed (length log) (length waiting) (length second) ≡ true → isDate date ≡ true → StopsAt (tape log waiting) date p second c
+        → storeVisits date (q .visits) (q .answer) (grown k (c .second)) ≡ storeVisits date (q .visits) (q .answer) (grown k second)
+    by l d (ended W e _) = behind l d (p .visits) rest front W e
+    by l d (refusedAt before after v z W e _ _ _ _ _) =
+        behind l d before ((v ∷ after) ++ rest) (front ∙ ap (λ (x : List Visit). x ++ rest) z ∙ append-assoc before (v ∷ after) rest) W e
+
+    resumes : copyOf log waiting date score (grown k (c .second)) n ≡ copyOf log waiting date score (grown k second) n
+    resumes = go (tested (tape log waiting) date score m second (copyAllowed (length log) (length waiting) (length second)))
+      where
+        go : Tested (copyAllowed (length log) (length waiting) (length second)) (tape log waiting) date score m second c
+            → copyOf log waiting date score (grown k (c .second)) n ≡ copyOf log waiting date score (grown k second) n
+        go (failed why _ e) = ap (λ (x : Copied). copyOf log waiting date score (grown k (x .second)) n) e
+        go (passed l d a e) =
+            let z : length (grown k (c .second)) ≡ length (grown k second) =
+            length-grown k (c .second) ∙ ap (λ (x : ℕ). x + 512 * k) long ∙ sym (length-grown k second) in
+            copy-is-stores log waiting date score (grown k (c .second)) n (ap (copyAllowed (length log) (length waiting)) z ∙ l′) d
+            ∙ by l d (stops log waiting date score second m l d)
+            ∙ sym (copy-is-stores log waiting date score (grown k second) n l′ d)
 
 pub copy-resumes : CopyResumes
-copy-resumes = resumes
+copy-resumes log waiting date score second n k l =
+    resumes log waiting date score second n n k l [] (sym (append-nil (postOrderOf log waiting score n .visits)))
+
+pub copy-in-rounds : CopyInRounds
+copy-in-rounds log waiting date score second m n k h i l = go (more-allowance log waiting score m n h i)
+  where
+    go : (postOrderOf log waiting score n ≡ postOrderOf log waiting score m)
+        ⊎ ((rest : List Visit) × (postOrderOf log waiting score m .answer .end ≡ Refused Spent)
+        × (postOrderOf log waiting score n .visits ≡ postOrderOf log waiting score m .visits ++ rest))
+        → copyOf log waiting date score (grown k (copyOf log waiting date score second m .second)) n ≡ copyOf log waiting date score (grown k second) n
+    go (inl e) = resumes log waiting date score second m n k l [] (ap (λ (x : PostOrder). x .visits) e ∙ sym (append-nil (postOrderOf log waiting score m .visits)))
+    go (inr r) = resumes log waiting date score second m n k l (r .0) (r .2)
