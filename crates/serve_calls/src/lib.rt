@@ -7,7 +7,7 @@ ghost use Rattle.indexed.specs.Indexed.{stepBy};
 ghost use Rattle.results.specs.Serve.{sessionOf, sessionNumber, served, servedOf};
 
 // A session as a number: 0 is fresh, 1 greeted, and anything else closed.
-fn session_of(n: u8) -> Session
+pub fn session_of(n: u8) -> Session
     ensures { λ r. ⌜ r ≡ sessionOf n ⌝ }
 {
     if n == 0 {
@@ -19,7 +19,7 @@ fn session_of(n: u8) -> Session
     Session::Closed
 }
 
-fn session_number(s: Session) -> u32
+pub fn session_number(s: Session) -> u32
     ensures { λ r. ⌜ r ≡ sessionNumber s ⌝ }
 {
     match s {

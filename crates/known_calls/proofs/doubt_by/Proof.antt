@@ -1,0 +1,24 @@
+-- `known_calls::doubt_by` meets its contract.
+use Rattle.known_calls.proofs.Numbers.{clear-by, at-by}
+use borrow.Author.Needs.{needs}
+use Rattle.known_calls.proofs.doubt_by.Statement.{statement}
+use Rattle.known_calls.proofs.doubt_by.Tie as tie
+
+returns : tie.Need-returns
+returns c =
+    clear-by _ (c .if1 .taken)
+
+sub-t3 : tie.Need-sub-t3
+sub-t3 c = search needs
+
+returns-2 : tie.Need-returns-2
+returns-2 c =
+    at-by _ (c .if1 .left)
+
+pub doubt-by-spec : {M : Type 1} → statement M
+doubt-by-spec =
+    tie.close
+    (tie.spec
+    returns
+    sub-t3
+    returns-2)

@@ -1,0 +1,38 @@
+-- `known_calls::doubt_number` meets its contract.
+use native.Mathlib.Omega.{arith}
+use Rattle.known_calls.proofs.Numbers.{clear-number, greatest-number, at-number}
+use borrow.Author.Needs.{needs}
+use Rattle.known_calls.proofs.doubt_number.Statement.{statement}
+use Rattle.known_calls.proofs.doubt_number.Tie as tie
+
+enum-known-doubt : tie.Need-enum-known-doubt
+enum-known-doubt c = search needs
+
+enum-told : tie.Need-enum-told
+enum-told c = search needs
+
+returns : tie.Need-returns
+returns c =
+    clear-number _ (c .enum-told .given .1)
+
+returns-2 : tie.Need-returns-2
+returns-2 c =
+    greatest-number _ _ (c .before .before .before .doubt .given .1) (c .if1 .taken)
+
+add-result : tie.Need-add-result
+add-result c = search needs
+
+returns-3 : tie.Need-returns-3
+returns-3 c =
+    at-number _ _ (c .before .before .before .before .doubt .given .1)
+
+pub doubt-number-spec : {M : Type 1} → statement M
+doubt-number-spec =
+    tie.close
+    (tie.spec
+    enum-known-doubt
+    enum-told
+    returns
+    returns-2
+    add-result
+    returns-3)

@@ -1,0 +1,35 @@
+-- `known_calls::packed` meets its contract.
+use mathlib.Core.Path.{ap}
+use Prim.Native.Nat.{_+_, _*_}
+use native.Mathlib.Omega.{arith}
+use Rattle.results.proofs.ServeLaws.{session-most}
+use borrow.Author.Needs.{needs}
+use Rattle.known_calls.proofs.packed.Statement.{statement}
+use Rattle.known_calls.proofs.packed.Tie as tie
+
+cast-result : tie.Need-cast-result
+cast-result c = search needs
+
+session-number-requires : tie.Need-session-number-requires
+session-number-requires c κs = search needs
+
+mul-result : tie.Need-mul-result
+mul-result c =
+    omega (arith, session-most ((c .before .before .args .answer .session)) (c .session-number .result) (c .session-number .ensures))
+
+add-result : tie.Need-add-result
+add-result c =
+    omega (arith, session-most ((c .before .before .args .answer .session)) (c .session-number .result) (c .session-number .ensures), (c .before .struct-known .given .0))
+
+returns : tie.Need-returns
+returns c = search needs
+
+pub packed-spec : {M : Type 1} → statement M
+packed-spec =
+    tie.close
+    (tie.spec
+    cast-result
+    session-number-requires
+    mul-result
+    add-result
+    returns)

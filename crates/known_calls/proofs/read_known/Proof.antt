@@ -1,0 +1,36 @@
+-- `known_calls::read_known` meets its contract.
+use Rattle.known_calls.proofs.Numbers.{known-read}
+use borrow.Author.Needs.{needs}
+use Rattle.known_calls.proofs.read_known.Statement.{statement}
+use Rattle.known_calls.proofs.read_known.Tie as tie
+
+read-number-requires : tie.Need-read-number-requires
+read-number-requires c κs = search needs
+
+read-number-requires-2 : tie.Need-read-number-requires-2
+read-number-requires-2 c κs = search needs
+
+read-number-requires-3 : tie.Need-read-number-requires-3
+read-number-requires-3 c κs = search needs
+
+doubt-by-requires : tie.Need-doubt-by-requires
+doubt-by-requires c κs = search needs
+
+shared-slice-read-exact : tie.Need-shared-slice-read-exact
+shared-slice-read-exact c = search needs
+
+returns : tie.Need-returns
+returns c =
+    let a = (c .before .before .before .before .before .before .args) in
+    known-read (a .bytes .now) _ _ _ _ (c .before .before .before .before .read-number .ensures) (c .before .before .before .read-number2 .ensures) (c .before .before .read-number3 .ensures) (c .before .doubt-by .ensures)
+
+pub read-known-spec : {M : Type 1} → statement M
+read-known-spec =
+    tie.close
+    (tie.spec
+    read-number-requires
+    read-number-requires-2
+    read-number-requires-3
+    doubt-by-requires
+    shared-slice-read-exact
+    returns)

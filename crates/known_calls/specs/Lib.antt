@@ -1,0 +1,3 @@
+pub mod KnownBytes
+pub mod Calls
+pub mod Promises
