@@ -6,6 +6,7 @@ pub mod changes;
 pub mod copies;
 pub mod files;
 pub mod hints;
+pub mod learning;
 pub mod survey;
 pub mod tree;
 
