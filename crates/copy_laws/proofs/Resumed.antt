@@ -152,7 +152,7 @@ module _ (log waiting date score second : Bytes) (m n k : ℕ) (l′ : copyAllow
       where
         go : Tested (copyAllowed (length log) (length waiting) (length second)) (tape log waiting) date score m second c
             → copyOf log waiting date score (grown k (c .second)) n ≡ copyOf log waiting date score (grown k second) n
-        go (failed why _ e) = ap (λ (x : Copied). copyOf log waiting date score (grown k (x .second)) n) e
+        go (failed why _ _ e) = ap (λ (x : Copied). copyOf log waiting date score (grown k (x .second)) n) e
         go (passed l d a e) =
             let z : length (grown k (c .second)) ≡ length (grown k second) =
             length-grown k (c .second) ∙ ap (λ (x : ℕ). x + 512 * k) long ∙ sym (length-grown k second) in

@@ -43,7 +43,7 @@ module _ (log waiting date score second : Bytes) (n : ℕ) where
   again = go (tested (tape log waiting) date score n second (copyAllowed (length log) (length waiting) (length second)))
     where
       go : Tested (copyAllowed (length log) (length waiting) (length second)) (tape log waiting) date score n second result → copyOf log waiting date score (result .second) n ≡ result
-      go (failed why _ e) = ap (λ (c : Copied). copyOf log waiting date score (c .second) n) e
+      go (failed why _ _ e) = ap (λ (c : Copied). copyOf log waiting date score (c .second) n) e
       go (passed l d a e) =
           copy-is-stores log waiting date score (result .second) n (still-lent log waiting date score second n l) d
           ∙ stored-again l d (stops log waiting date score second n l d)

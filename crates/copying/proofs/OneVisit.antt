@@ -1,28 +1,44 @@
 -- One visit of the walk in post-order, by its tests: its answer, its count, what it holds and links to, and the same visit over another log.
-use mathlib.Core.Path.{_≡_, refl, sym, _∙_}
+use mathlib.Core.Path.{_≡_, refl, sym, ap, _∙_}
 use mathlib.Core.Bool.{Bool, true, false, cond}
 use mathlib.Core.List.{[], _∷_, map}
 use mathlib.Core.Option.{Option, none, some}
 use Prim.Native.Nat.{ℕ, _+_}
 use native.Mathlib.Omega.{arith}
-use lib.Dec.{ltb}
+use mathlib.Core.Logic.{inl, inr}
+use lib.Dec.{eqb, ltb}
+use borrow.Author.Tests.{eqb-false}
 use lib.ListN.{length}
 use Rattle.ground.specs.Choice.{on}
 use Rattle.buffer.specs.Bytes.{Bytes}
 use Rattle.refusal.specs.declared.Refusal.{Refusal}
-use Rattle.refusal.specs.declared.Refusal.the-variants.{OverCount, Nest, Spent}
+use Rattle.refusal.specs.declared.Refusal.the-variants.{NotHeld, NotKnown, OverCount, Nest, Spent}
+use Rattle.refusal.specs.Number.{numberOf}
 use Rattle.block.specs.Block.{Row}
-use Rattle.log.specs.LookUp.{held}
+use Rattle.log.specs.LookUp.{doubtful, firstDoubtful, held, absence}
 use Rattle.visit.specs.declared.Walked.{Walked}
 use Rattle.visit.specs.declared.End.{End}
 use Rattle.visit.specs.declared.End.the-variants.{Done, Refused}
-use Rattle.visit.specs.Visit.{walked}
+use Rattle.visit.specs.Visit.{walked, endNumber}
 use Rattle.visit.proofs.Visits.{visitBy}
 use Rattle.walk_laws.proofs.Found.{not-done}
 use Rattle.copying.specs.PostOrder.{Role, typeOf, PostOrder, postOrder, later, goOn, behind}
 use Rattle.copying.specs.Promises.{Shown, HoldsAll, Linked}
-use Rattle.copying.proofs.Visited.{holds-parts, holds-later, holds-earlier, holds-on, SpentWithin, within-later, within-on, LinksFirst, links-join, links-later, Any}
+use Rattle.copying.proofs.Visited.{OfFirst, done-first, first-on, holds-parts, holds-later, holds-earlier, holds-on, SpentWithin, within-later, within-on, LinksFirst, links-join, links-later, Any}
 use Rattle.copying.proofs.Visited.{followed-again, behind-answer, Counted, counted-behind}
+
+-- a refusal of another number
+pub of-first : (w : Refusal) → eqb (numberOf w) 14 ≡ false → eqb (numberOf w) 15 ≡ false → OfFirst (Refused w)
+of-first w f g (inl q) = eqb-false (numberOf w) 14 f (ap endNumber q)
+of-first w f g (inr q) = eqb-false (numberOf w) 15 g (ap endNumber q)
+
+pub absence-first : (log : Bytes) → OfFirst (Refused (absence log))
+unfolding absence
+absence-first log = go (eqb (doubtful log) 0)
+  where
+    go : (b : Bool) → OfFirst (Refused (cond b NotHeld (NotKnown (record { 0 = firstDoubtful log }))))
+    go true = of-first NotHeld refl refl
+    go false = of-first (NotKnown (record { 0 = firstDoubtful log })) refl refl
 
 abbrev pub Within : PostOrder → Type 0
 Within p = SpentWithin (p .answer .visits) (p .visits)
@@ -133,3 +149,15 @@ module _ (role : Role) (count : ℕ) (score : Bytes) where
       go : (t : Bool) → Counted 0 (cond t (postOrder [] (walked 1 (Refused OverCount))) (behind role score (r .bytes) (B (r .bytes))))
       go true e = not-done _ e
       go false e = counted-behind role score (r .bytes) (B (r .bytes)) (f refl (r .bytes)) e
+
+  pub first-by : (a b : Bool) (o : Option Row) (why : Refusal) (B : Bytes → PostOrder) → OfFirst (Refused why) → (b ≡ false → (x : Bytes) → OfFirst (B x .answer .end))
+      → OfFirst (lastBy role count score a b o why B .answer .end)
+  first-by true b o why B w f = of-first Nest refl refl
+  first-by false true o why B w f = of-first Spent refl refl
+  first-by false false none why B w f = w
+  first-by false false (some r) why B w f = go (ltb count (length (r .bytes)))
+    where
+      go : (t : Bool) → OfFirst (cond t (postOrder [] (walked 1 (Refused OverCount))) (behind role score (r .bytes) (B (r .bytes))) .answer .end)
+      go true = of-first OverCount refl refl
+      go false =
+          let p = B (r .bytes) in first-on (p .answer .end) (map (later 1) (p .visits)) (1 + p .answer .visits) (itself (r .bytes)) (f refl (r .bytes)) done-first

@@ -26,27 +26,29 @@ use Rattle.walk.specs.Walk.{walkOf, mostAllowance}
 use Rattle.walk_laws.proofs.Found.{not-done, walk-found}
 use Rattle.copying.specs.Copy.{Copied, stopped, copyRoot, copyIn, copyAllowed, copyOf}
 use Rattle.copying.specs.PostOrder.{typeOf, Visit, PostOrder, postOrderIn, postOrderOf}
-use Rattle.copying.specs.Promises.{Holds, HeldIn, HoldsAll, wroteAll, Writes, none, OnlyWrites, CopyIsWrites, Refuses, StopsAt, ended, refused, CopyStopsAt, RoomAndNoClash}
+use Rattle.copying.specs.Promises.{Holds, HeldIn, HoldsAll, wroteAll, Writes, none, OnlyWrites, CopyIsWrites, Refuses, StopsAt, ended, refused, CopyStopsAt, OfSecond, RefusedBlock, OnlyWhereRefused, RoomAndNoClash}
 use Rattle.copying.specs.Promises.{CopiedStays, NoDangling, EndsWhole, AsWalk, CopyIsWalk}
 use Rattle.copying.proofs.Stored.{Fits}
 use Rattle.copying.proofs.Grown.{shown-holds, Grown, grown-same, root-holds}
 use Rattle.copying.proofs.Writes.{refuses-second, not-of-second, writes-grown, writes-held, stops-at}
 use Rattle.copying.proofs.InPostOrder.{parts-allowed, copy-is-stores}
+use Rattle.copying.proofs.OneVisit.{of-first}
+use Rattle.copying.proofs.Visited.{OfFirst}
 use Rattle.copying.proofs.Tour.{tests-tour, post-order-is-walk}
 
 -- ---- the tests
 
 pub data Tested (lent : Bool) (first date score : Bytes) (n : ℕ) (s : Bytes) (c : Copied) : Type 0 where
-  failed : (why : Refusal) → toldSector why ≡ 0 → c ≡ stopped 0 (Refused why) s → Tested lent first date score n s c
+  failed : (why : Refusal) → toldSector why ≡ 0 → OfFirst (Refused why) → c ≡ stopped 0 (Refused why) s → Tested lent first date score n s c
   passed : lent ≡ true → isDate date ≡ true → ltb mostAllowance n ≡ false → c ≡ copyRoot first date score n s → Tested lent first date score n s c
 
 module _ (first date score : Bytes) (n : ℕ) (s : Bytes) where
   by-tests : (lent d a : Bool) → isDate date ≡ d → ltb mostAllowance n ≡ a
       → Tested lent first date score n s
       (cond lent (cond d (cond a (stopped 0 (Refused Allowance) s) (copyRoot first date score n s)) (stopped 0 (Refused Date) s)) (stopped 0 (Refused LogLength) s))
-  by-tests false d a p q = failed LogLength refl refl
-  by-tests true false a p q = failed Date refl refl
-  by-tests true true true p q = failed Allowance refl refl
+  by-tests false d a p q = failed LogLength refl (of-first LogLength refl refl) refl
+  by-tests true false a p q = failed Date refl (of-first Date refl refl) refl
+  by-tests true true true p q = failed Allowance refl (of-first Allowance refl refl) refl
   by-tests true true false p q = passed refl p q refl
 
   pub tested : (lent : Bool) → Tested lent first date score n s (copyIn lent first date score n s)
@@ -117,7 +119,7 @@ module _ (log waiting date score second : Bytes) (n : ℕ) where
   only-writes = go (tested (tape log waiting) date score n second lent)
     where
       go : Tested lent (tape log waiting) date score n second outcome → OnlyWrites (tape log waiting) date second (outcome .second)
-      go (failed why _ e) = record { visits = []; writes = none; behind = ap (λ (c : Copied). c .second) e }
+      go (failed why _ _ e) = record { visits = []; writes = none; behind = ap (λ (c : Copied). c .second) e }
       go (passed l d a e) = let f = written l d in record { visits = f .0; writes = f .1; behind = f .2 }
 
   grown : Grown (reached .visits) date second (outcome .second)
@@ -125,7 +127,7 @@ module _ (log waiting date score second : Bytes) (n : ℕ) where
   grown = go (tested (tape log waiting) date score n second lent)
     where
       go : Tested lent (tape log waiting) date score n second outcome → Grown (reached .visits) date second (outcome .second)
-      go (failed why _ e) = subst (λ (c : Copied). Grown (reached .visits) date second (c .second)) (sym e) (grown-same (reached .visits) date second)
+      go (failed why _ _ e) = subst (λ (c : Copied). Grown (reached .visits) date second (c .second)) (sym e) (grown-same (reached .visits) date second)
       go (passed l d a e) =
           let f = written l d in
           subst (Grown (reached .visits) date second) (sym (f .2)) (writes-grown (tape log waiting) date d (reached .visits) (f .1) (f .3) (fits l))
@@ -146,7 +148,7 @@ module _ (log waiting date score second : Bytes) (n : ℕ) where
       by l d (refused _ _ _ _ _ _ _ _ R _ _) = not-of-second (refuses-second R) (ap (λ (w : Walked). w .end) q)
 
       go : Tested lent (tape log waiting) date score n second outcome → (lent ≡ true) × (reached .answer ≡ walked v Done) × HoldsAll (outcome .second) (reached .visits)
-      go (failed why _ e) = not-done why (ap (λ (c : Copied). c .answer .end) (sym e) ∙ ap (λ (w : Walked). w .end) q)
+      go (failed why _ _ e) = not-done why (ap (λ (c : Copied). c .answer .end) (sym e) ∙ ap (λ (w : Walked). w .end) q)
       go (passed l d a e) = by l d (stops l d)
 
   pub still-lent : lent ≡ true → copyAllowed (length log) (length waiting) (length (outcome .second)) ≡ true
@@ -171,10 +173,20 @@ pub room-and-no-clash : RoomAndNoClash
 room-and-no-clash log waiting date score second n l d f = go (stops log waiting date score second n l d)
   where
     go : StopsAt (tape log waiting) date (postOrderOf log waiting score n) second (copyOf log waiting date score second n)
-        → (v : Visit) × HeldIn (tape log waiting) v
-        × Refuses (copyOf log waiting date score second n .second) date (typeOf (v .role)) (v .bytes) (copyOf log waiting date score second n .answer .end)
+        → RefusedBlock (tape log waiting) date (copyOf log waiting date score second n)
     go (ended W e a) = absurd (f (a ∙ post-order-is-walk log waiting score n))
     go (refused _ _ v _ _ _ h _ R _ _) = (v, h, R)
+
+pub only-where-refused : OnlyWhereRefused
+only-where-refused log waiting date score second n o = go (tested (tape log waiting) date score n second (copyAllowed (length log) (length waiting) (length second)))
+  where
+    go : Tested (copyAllowed (length log) (length waiting) (length second)) (tape log waiting) date score n second (copyOf log waiting date score second n)
+        → RefusedBlock (tape log waiting) date (copyOf log waiting date score second n)
+    go (failed why _ f e) = absurd (f (subst (λ (c : Copied). OfSecond (c .answer .end)) e o))
+    go (passed l d a e) =
+        room-and-no-clash log waiting date score second n l d
+        (λ q. tests-tour (lentAllowed (length log) (length waiting)) score n .first (tape log waiting)
+        (subst (λ (w : Walked). OfSecond (w .end)) (q ∙ sym (post-order-is-walk log waiting score n)) o))
 
 pub copy-is-writes : CopyIsWrites
 copy-is-writes = only-writes

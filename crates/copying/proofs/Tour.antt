@@ -28,8 +28,8 @@ use Rattle.copying.specs.PostOrder.{Role, root, top, ofEntry, typeOf, Vi
 use Rattle.copying.specs.PostOrder.{entryLast, topLast, rootLast, postOrderIn, postOrderOf}
 use Rattle.copying.specs.Promises.{HoldsAll, Linked, PostOrderIsWalk, EachVisitOnce}
 use Rattle.copying.proofs.Below.{below-entry, below-a-root, below-a-top}
-use Rattle.copying.proofs.OneVisit.{walks-by, within-by, shown-by, again-by, links-by, counted-by}
-use Rattle.copying.proofs.Visited.{holds-later, holds-on, SpentWithin, within-later, within-on, LinksFirst, links-later, links-on, Any, followed-again, followed-answer}
+use Rattle.copying.proofs.OneVisit.{of-first, absence-first, walks-by, within-by, shown-by, again-by, links-by, counted-by, first-by}
+use Rattle.copying.proofs.Visited.{OfFirst, done-first, first-on, holds-later, holds-on, SpentWithin, within-later, within-on, LinksFirst, links-later, links-on, Any, followed-again, followed-answer}
 use Rattle.copying.proofs.Visited.{Counted, counted-followed}
 
 -- behind n visits
@@ -40,21 +40,23 @@ pub record Tour (n : ℕ) (P : Bytes → PostOrder) (W : Bytes → Walked) : Typ
   pub again : (L L′ : Bytes) → P L .answer .end ≡ Done → HoldsAll L′ (P L .visits) → P L′ ≡ P L
   pub links : (L : Bytes) → LinksFirst Any (P L .visits)
   pub counted : (L : Bytes) → Counted n (P L)
+  pub first : (L : Bytes) → OfFirst (P L .answer .end)
 
 -- ---- no visit, a choice, one behind the other
 
-stops-there : (n k : ℕ) (why : Refusal) → Tour n (λ L. postOrder [] (walked k (Refused why))) (λ L. walked k (Refused why))
-stops-there n k why = record {
+stops-there : (n k : ℕ) (why : Refusal) → OfFirst (Refused why) → Tour n (λ L. postOrder [] (walked k (Refused why))) (λ L. walked k (Refused why))
+stops-there n k why f = record {
   walks = λ L. refl;
   within = λ L. tt;
   shown = λ L. tt;
   again = λ L L′ d h. refl;
   links = λ L. tt;
   counted = λ L d. not-done why d;
+  first = λ L. f;
 }
 
 no-more : (n : ℕ) → Tour n (λ L. postOrder [] (walked n Done)) (λ L. walked n Done)
-no-more n = record { walks = λ L. refl; within = λ L. tt; shown = λ L. tt; again = λ L L′ d h. refl; links = λ L. tt; counted = λ L d. omega arith }
+no-more n = record { walks = λ L. refl; within = λ L. tt; shown = λ L. tt; again = λ L L′ d h. refl; links = λ L. tt; counted = λ L d. omega arith; first = λ L. done-first }
 
 cond-tour : {n : ℕ} (b : Bool) (P Q : Bytes → PostOrder) (W X : Bytes → Walked) → Tour n P W → Tour n Q X → Tour n (λ L. cond b (P L) (Q L)) (λ L. cond b (W L) (X L))
 cond-tour true P Q W X f g = f
@@ -73,6 +75,7 @@ followed-tour P W n K X f g l = record {
   links = λ L. let m = n + P L .answer .visits in
       links-on (P L .answer .end) (map (later n) (P L .visits)) m (λ j. K j L) (links-later Any n (P L .visits) (f .links L)) (g m .links L);
   counted = λ L. counted-followed (P L) n (λ m. K m L) (f .counted L) (λ m. g m .counted L);
+  first = λ L. first-on (P L .answer .end) (map (later n) (P L .visits)) (n + P L .answer .visits) (λ j. K j L) (f .first L) (g (n + P L .answer .visits) .first L);
 }
 
 -- what goes on spends no less
@@ -100,7 +103,7 @@ order-tour go G w b left f (suc k) i n =
 judged-tour : (x : Bytes) (P : Bytes → PostOrder) (W : Bytes → Walked) → Tour 0 P W → Tour 0 (λ L. judgedLast x (P L)) (λ L. judged x (W L))
 unfolding judgedLast judged
 judged-tour x P W f =
-    cond-tour (entryOf x .active) _ _ _ _ (cond-tour (entryAllowed x) _ _ _ _ f (stops-there 0 0 IllFormed)) (no-more 0)
+    cond-tour (entryOf x .active) _ _ _ _ (cond-tour (entryAllowed x) _ _ _ _ f (stops-there 0 0 IllFormed (of-first IllFormed refl refl))) (no-more 0)
 
 -- ---- a visit
 
@@ -123,6 +126,7 @@ module _ (nest left : ℕ) (role : Role) (count : ℕ) (score : Bytes) (B : Byte
         (λ q b d L′ h. let T = f (something-left q) b in
         linked (something-left q) b L′ (ap (λ (w : Walked). w .end) (sym (T .walks L′)) ∙ ap (λ (p : PostOrder). p .answer .end) (T .again L L′ d h) ∙ d));
     counted = λ L. counted-by role count score (ltb 16 nest) (eqb left 0) (held L (typeOf role) score) (absence L) (λ b. B b L) (λ q b. f (something-left q) b .counted L);
+    first = λ L. first-by role count score (ltb 16 nest) (eqb left 0) (held L (typeOf role) score) (absence L) (λ b. B b L) (absence-first L) (λ q b. f (something-left q) b .first L);
   }
 
 -- ---- entries and directories
@@ -140,7 +144,7 @@ mutual
       (cond-tour (eqb (length b % 20) 0) _ _ _ _
       (order-tour (λ x a L. entryLast f L e (level - 1) nest x a) (λ x a L. visitEntry f L e (level - 1) nest x a) 20 b (left - 1)
       (λ x a k. entry-tour f e (level - 1) nest x a (omega arith)) (length b / 20) 0 0)
-      (stops-there 0 0 Pointers)))
+      (stops-there 0 0 Pointers (of-first Pointers refl refl))))
       (λ p b L d. below-entry f L e level nest (left - 1) b (omega arith) d)
 
   directory-tour : (f nest : ℕ) (b : Bytes) (left : ℕ) → left + left + 2 ≤ f → Tour 0 (λ L. directoryLast f L nest b left) (λ L. visitDirectory f L nest b left)
@@ -166,12 +170,12 @@ root-tour : (score : Bytes) (left : ℕ) → Tour 0 (λ L. rootLast L score left
 unfolding rootLast walkRoot
 root-tour score left =
     visit-tour 0 left root 300 score _ (λ b L. cond (rootWellFormed (paddedTo 300 b)) (walkTop L (rootScore (paddedTo 300 b)) (left - 1)) (walked 0 (Refused IllFormed)))
-    (λ p b. cond-tour (rootWellFormed (paddedTo 300 b)) _ _ _ _ (top-tour (rootScore (paddedTo 300 b)) (left - 1)) (stops-there 0 0 IllFormed))
+    (λ p b. cond-tour (rootWellFormed (paddedTo 300 b)) _ _ _ _ (top-tour (rootScore (paddedTo 300 b)) (left - 1)) (stops-there 0 0 IllFormed (of-first IllFormed refl refl)))
     (λ p b L d. below-a-root L b (left - 1) (rootWellFormed (paddedTo 300 b)) refl d)
 
 pub tests-tour : (lent : Bool) (score : Bytes) (n : ℕ) → Tour 0 (λ L. postOrderIn lent L score n) (λ L. walkIn lent L score n)
 unfolding postOrderIn walkIn
-tests-tour lent score n = cond-tour lent _ _ _ _ (cond-tour (ltb mostAllowance n) _ _ _ _ (stops-there 0 0 Allowance) (root-tour score n)) (stops-there 0 0 LogLength)
+tests-tour lent score n = cond-tour lent _ _ _ _ (cond-tour (ltb mostAllowance n) _ _ _ _ (stops-there 0 0 Allowance (of-first Allowance refl refl)) (root-tour score n)) (stops-there 0 0 LogLength (of-first LogLength refl refl))
 
 pub post-order-is-walk : PostOrderIsWalk
 post-order-is-walk log waiting score n = tests-tour (lentAllowed (length log) (length waiting)) score n .walks (tape log waiting)

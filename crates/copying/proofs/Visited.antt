@@ -1,10 +1,11 @@
 -- Lists of visits: held in a log, within a count, and each behind what it links to.
-use mathlib.Core.Path.{_≡_, refl, ap, _∙_}
+use mathlib.Core.Path.{_≡_, refl, sym, ap, _∙_}
 use mathlib.Core.List.{List, [], _∷_, _++_, map}
 use Prim.Native.Nat.{ℕ, suc, _+_, _≤_}
 use native.Mathlib.Omega.{arith}
 use lib.ListN.{length, length-append}
 use Rattle.buffer.specs.Bytes.{Bytes}
+use mathlib.Core.Logic.{inl, inr}
 use Rattle.visit.specs.declared.End.{End}
 use Rattle.visit.specs.declared.End.the-variants.{Done, Refused}
 use Rattle.visit.specs.declared.Walked.{Walked}
@@ -12,7 +13,7 @@ use Rattle.visit.specs.Visit.{walked, more}
 use Rattle.descent.specs.Descent.{andThen}
 use Rattle.walk_laws.proofs.Found.{not-done}
 use Rattle.copying.specs.PostOrder.{Role, Visit, PostOrder, postOrder, later, goOn, followedBy, behind}
-use Rattle.copying.specs.Promises.{HeldIn, HoldsAll, Linked}
+use Rattle.copying.specs.Promises.{HeldIn, HoldsAll, Linked, OfSecond}
 
 -- ---- held in a log
 
@@ -59,6 +60,20 @@ pub within-on : (e : End) (vs : List Visit) (m : ℕ) (k : ℕ → PostOrder) �
     → SpentWithin (goOn e vs m k .answer .visits) (goOn e vs m k .visits)
 within-on Done vs m k f l g = within-join (k m .answer .visits) vs (k m .visits) (within-more m (k m .answer .visits) l vs f) g
 within-on (Refused why) vs m k f l g = f
+
+-- ---- refusals of the first log
+
+-- no 14 and no 15
+abbrev pub OfFirst : End → Type 0
+OfFirst e = OfSecond e → ⊥
+
+pub done-first : OfFirst Done
+done-first (inl q) = not-done _ (sym q)
+done-first (inr q) = not-done _ (sym q)
+
+pub first-on : (e : End) (vs : List Visit) (m : ℕ) (k : ℕ → PostOrder) → OfFirst e → OfFirst (k m .answer .end) → OfFirst (goOn e vs m k .answer .end)
+first-on Done vs m k f g = g
+first-on (Refused why) vs m k f g = f
 
 -- ---- one visit each
 

@@ -117,17 +117,26 @@ pub data StopsAt (first date : Bytes) (p : PostOrder) (second : Bytes) (c : Copi
       → HeldIn first v → Linked (c .second) (v .role) (v .bytes) → Refuses (c .second) date (typeOf (v .role)) (v .bytes) (c .answer .end)
       → c .answer .visits ≡ v .spent → v .spent ≤ p .answer .visits → StopsAt first date p second c
 
--- "14 and 15 now speak of the second log": they come only where it refuses a block
 abbrev pub CopyStopsAt : Type 0
 CopyStopsAt = (log waiting date score second : Bytes) (n : ℕ) → copyAllowed (length log) (length waiting) (length second) ≡ true → isDate date ≡ true
     → StopsAt (tape log waiting) date (postOrderOf log waiting score n) second (copyOf log waiting date score second n)
 
+-- refusals that speak of the second log
+abbrev pub OfSecond : End → Type 0
+OfSecond e = (e ≡ Refused NoRoom) ⊎ (e ≡ Refused Clash)
+
+-- a block that the first log holds and the second one refuses, as a copy left it, with its answer
+abbrev pub RefusedBlock : Bytes → Bytes → Copied → Type 0
+RefusedBlock first date c = (v : Visit) × HeldIn first v × Refuses (c .second) date (typeOf (v .role)) (v .bytes) (c .answer .end)
+
+-- "14 and 15 now speak of the second log": they come only where it refuses a block
+abbrev pub OnlyWhereRefused : Type 0
+OnlyWhereRefused = (log waiting date score second : Bytes) (n : ℕ) → let c = copyOf log waiting date score second n in OfSecond (c .answer .end) → RefusedBlock (tape log waiting) date c
+
 -- and so where a copy does not answer as the walk does, there is such a block
 abbrev pub RoomAndNoClash : Type 0
 RoomAndNoClash = (log waiting date score second : Bytes) (n : ℕ) → copyAllowed (length log) (length waiting) (length second) ≡ true → isDate date ≡ true
-    → let c = copyOf log waiting date score second n in
-    c .answer ≢ walkOf log waiting score n
-    → (v : Visit) × HeldIn (tape log waiting) v × Refuses (c .second) date (typeOf (v .role)) (v .bytes) (c .answer .end)
+    → let c = copyOf log waiting date score second n in c .answer ≢ walkOf log waiting score n → RefusedBlock (tape log waiting) date c
 
 -- ---- what stays
 
@@ -166,10 +175,6 @@ EndsWhole = (log waiting date score second : Bytes) (n v : ℕ) → let c = copy
     × HoldsAll (c .second) (postOrderOf log waiting score n .visits)
     × (walkOf (c .second) [] score n ≡ walked v Done)
     × FoundRoot (c .second) score
-
--- refusals that speak of the second log
-abbrev pub OfSecond : End → Type 0
-OfSecond e = (e ≡ Refused NoRoom) ⊎ (e ≡ Refused Clash)
 
 -- the walk's answer; or 14 or 15, after no more visits than the walk's
 abbrev pub AsWalk : Copied → Walked → Type 0

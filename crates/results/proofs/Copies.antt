@@ -33,7 +33,7 @@ module _ (log waiting date score second : Bytes) (n : ℕ) where
     where
       go : Tested (copyAllowed (length log) (length waiting) (length second)) (tape log waiting) date score n second (copyOf log waiting date score second n)
           → Within mostAllowance (copyOf log waiting date score second n .answer)
-      go (failed why t e) =
+      go (failed why t _ e) =
           subst (λ (c : Copied). Within mostAllowance (c .answer)) (sym e) (record { few = omega arith; told = rw t (omega arith) })
       go (passed l d a e) =
           as-walk-within (copyOf log waiting date score second n) (walkOf log waiting score n) (walk-within log waiting score n .1)
