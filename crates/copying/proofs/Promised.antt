@@ -25,8 +25,8 @@ use Rattle.visit.specs.Visit.{walked}
 use Rattle.walk.specs.Walk.{walkOf, mostAllowance}
 use Rattle.walk_laws.proofs.Found.{not-done, walk-found}
 use Rattle.copying.specs.Copy.{Copied, stopped, copyRoot, copyIn, copyAllowed, copyOf}
-use Rattle.copying.specs.PostOrder.{typeOf, Visit, PostOrder, postOrderIn, postOrderOf}
-use Rattle.copying.specs.Promises.{Holds, HeldIn, HoldsAll, wroteAll, Writes, none, OnlyWrites, CopyIsWrites, Refuses, StopsAt, ended, refused, CopyStopsAt, OfSecond, RefusedBlock, OnlyWhereRefused, RoomAndNoClash}
+use Rattle.copying.specs.PostOrder.{Visit, PostOrder, postOrderIn, postOrderOf}
+use Rattle.copying.specs.Promises.{Holds, HoldsAll, wroteAll, Writes, none, OnlyWrites, CopyIsWrites, StopsAt, ended, refused, CopyStopsAt, OfSecond, RefusedBlock, OnlyWhereRefused, RoomAndNoClash}
 use Rattle.copying.specs.Promises.{CopiedStays, NoDangling, EndsWhole, AsWalk, CopyIsWalk}
 use Rattle.copying.proofs.Stored.{Fits}
 use Rattle.copying.proofs.Grown.{shown-holds, Grown, grown-same, root-holds}
