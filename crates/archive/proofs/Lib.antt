@@ -1,2 +1,2 @@
 -- The returns of the code.
-pub mod Laws
+pub mod Returns

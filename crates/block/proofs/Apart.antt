@@ -10,7 +10,7 @@ use Rattle.block.proofs.Facts.{parts-pos}
 use Rattle.block.proofs.Image.{image-used, label}
 use Rattle.block.proofs.Used.{lt-used}
 use Rattle.block.proofs.Sound.{sound-reads}
-use Rattle.block.specs.Laws.{NoneInside}
+use Rattle.block.specs.Promises.{NoneInside}
 
 pub apart : (log : Bytes) (n j : ℕ) (r s : Row) → sound log n ≡ some r → 0 < j → j < parts r → sound log (n + j) ≡ some s → ⊥
 apart log n j r s e h g f =

@@ -1,5 +1,5 @@
 -- Laws of the log, of a row's image, and of a sound block. `Cases`: tests taken apart; `Facts`, `Payloads`, `Passed`: steps on the way.
-pub mod Cases
+pub mod Tests
 pub mod At
 pub mod Used
 pub mod Joined

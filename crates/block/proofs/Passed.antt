@@ -6,7 +6,7 @@ use Prim.Native.Nat.{ℕ, _+_, _^_, _≤_, _<_}
 use native.Mathlib.Omega.{arith}
 use borrow.Author.Tests.{leb-true, le-leb}
 use lib.ListN.{length, take, drop}
-use Rattle.ground.proofs.Cases.{and-true}
+use Rattle.ground.proofs.Choices.{and-true}
 use Rattle.buffer.specs.Bytes.{Bytes, same, zeros}
 use Rattle.buffer.proofs.Bytes.{same-true, same-refl}
 use Rattle.word.specs.Number.{small}
@@ -16,7 +16,7 @@ use Rattle.sector.specs.Sector.{isDateOrNone, datedLabel, labelLength, payloadO
 use Rattle.sector.proofs.Dates.{field-date}
 use Rattle.block.specs.Block.{Row, partsOf, labelAt}
 use Rattle.block.specs.Log.{sectors, at, payloads, checked, labelled, soundAs}
-use Rattle.block.proofs.Cases.{cond-some, range-facts, facts-range}
+use Rattle.block.proofs.Tests.{cond-some, range-facts, facts-range}
 
 -- the parts of a block with the date and size given
 abbrev pub partsBy : Bytes → ℕ → ℕ

@@ -8,7 +8,7 @@ use native.Mathlib.Omega.{arith}
 use lib.Dec.{eqb}
 use borrow.Author.Tests.{eqb-true}
 use lib.ListN.{length, take, drop}
-use Rattle.ground.proofs.Cases.{and-true}
+use Rattle.ground.proofs.Choices.{and-true}
 use Rattle.buffer.specs.Bytes.{Bytes, same}
 use Rattle.buffer.proofs.Bytes.{same-true, same-refl}
 use Rattle.word.specs.Hex.{hex, hexBytes}
@@ -19,7 +19,7 @@ use Rattle.block.proofs.Image.{image-kind, image-score}
 use Rattle.block.proofs.Payloads.{take-payloads}
 use Rattle.block.proofs.Passed.{as-passed}
 use Rattle.block.proofs.Stands.{Stands, passed-stands, first-sector, stands-as, stands-sound}
-use Rattle.block.specs.Laws.{SoundReads, SoundFinds}
+use Rattle.block.specs.Promises.{SoundReads, SoundFinds}
 
 pub as-stands : (log : Bytes) (n kind : ℕ) (score : Bytes) (r : Row) → soundAs log n kind score ≡ some r → Stands log n r × (r .kind ≡ kind) × (r .score ≡ score)
 as-stands log n kind score r e =

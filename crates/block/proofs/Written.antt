@@ -14,7 +14,7 @@ use Rattle.block.specs.Block.{Row, parts, image, images, written, valid}
 use Rattle.block.specs.Log.{sectors, at}
 use Rattle.block.proofs.At.{piece, piece-skip, at-middle, at-aside}
 use Rattle.block.proofs.Image.{length-image}
-use Rattle.block.specs.Laws.{WritesItsSectors}
+use Rattle.block.specs.Promises.{WritesItsSectors}
 
 -- images as sectors
 module _ (r : Row) (v : valid r ≡ true) where

@@ -1,4 +1,4 @@
 pub mod Block
 pub mod Log
 pub mod Counts
-pub mod Laws
+pub mod Promises

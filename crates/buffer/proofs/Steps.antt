@@ -11,7 +11,7 @@ use lib.Bits.{bitOr, bitAnd, or-add-and, and-le-l, and-le-r, or-zero-r}
 use borrow.Author.Tests.{eqb-true, eqb-false, eq-eqb, ne-eqb}
 use lib.ListN.{length, getD, take, drop, set, drop-of-length-le}
 use lib.Seq.{drop-cons, drop-length, paste, paste-suc, take-all}
-use Rattle.ground.proofs.Cases.{and-true}
+use Rattle.ground.proofs.Choices.{and-true}
 use Rattle.buffer.specs.Bytes.{Bytes, same, zeros, put}
 use Rattle.buffer.proofs.Bytes.{same-true, same-false, zeros-getD}
 

@@ -6,7 +6,7 @@ use mathlib.Core.Logic.{_⊎_, inl, inr, _≢_}
 use native.Mathlib.Omega.{arith}
 use lib.Dec.{ltb, eqb}
 use borrow.Author.Tests.{ltb-true, eqb-true, lt-ltb, le-ltb, eq-eqb}
-use Rattle.ground.proofs.Cases.{and-true, or-right}
+use Rattle.ground.proofs.Choices.{and-true, or-right}
 use Rattle.buffer.specs.Bytes.{Bytes}
 use Rattle.card.specs.Name.{isName, before}
 use Rattle.card.specs.Card.{Line, goodFrom}

@@ -5,7 +5,7 @@ use Prim.Native.Nat.{ℕ, _+_, _≤_, _<_}
 use lib.Dec.{ltb}
 use lib.ListN.{length, take, drop}
 use borrow.Author.Tests.{lt-ltb, le-ltb}
-use Rattle.ground.proofs.Cases.{and-true, and-false}
+use Rattle.ground.proofs.Choices.{and-true, and-false}
 use Rattle.buffer.specs.Bytes.{Bytes}
 use Rattle.refusal.specs.declared.Refusal.the-variants.{LogLength, Entry as EntryRefused, Allowance}
 use Rattle.entry.specs.declared.Entry.{Entry}

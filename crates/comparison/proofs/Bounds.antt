@@ -7,7 +7,7 @@ use native.Mathlib.Nat.{mul-suc, mul-zero, zero-mul}
 use lib.Dec.{eqb, ltb, leb}
 use lib.ListN.{length}
 use borrow.Author.Tests.{ltb-false, eqb-true, eqb-false, leb-true}
-use Rattle.ground.proofs.Cases.{cond-ind, on-ind, and-true}
+use Rattle.ground.proofs.Choices.{cond-ind, on-ind, and-true}
 use Rattle.buffer.specs.Bytes.{Bytes, same}
 use Rattle.refusal.specs.declared.Refusal.{Refusal}
 use Rattle.kind.specs.Kind.{longest}

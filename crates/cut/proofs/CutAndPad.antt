@@ -17,9 +17,9 @@ use Rattle.cut.specs.declared.Padded.the-variants.{Done}
 use Rattle.cut.proofs.Units.{length-repeat}
 use Rattle.cut.proofs.Multiples.{times, difference}
 use Rattle.cut.proofs.Turns.{whole-units}
-use Rattle.cut.proofs.Cases.{unit-positive, cut-unlawful, cut-ragged, cut-done, pad-unlawful, pad-refused, pad-done, pad-units, Allowed, allowed}
+use Rattle.cut.proofs.Tests.{unit-positive, cut-unlawful, cut-ragged, cut-done, pad-unlawful, pad-refused, pad-done, pad-units, Allowed, allowed}
 use Rattle.cut.proofs.Shortest.{cut-le, cut-units, cut-appended, cut-rest, cut-shortest}
-use Rattle.cut.specs.Laws.{CutRestIsUnits, CutKeepsShortest, CutThenPad, PadThenCut}
+use Rattle.cut.specs.Promises.{CutRestIsUnits, CutKeepsShortest, CutThenPad, PadThenCut}
 
 -- ---- what an answer that is no refusal tells
 

@@ -12,7 +12,7 @@ use Rattle.cut.specs.Cut.{zeroByte, unitOf, kept, cutLength, wholeUnits,
 use Rattle.cut.specs.Examples.{hello}
 use Rattle.cut.specs.declared.Kept.the-variants.{Length}
 use Rattle.cut.proofs.Units.{repeat-zeros}
-use Rattle.cut.proofs.Cases.{unit-other, whole-bytes, cut-done}
+use Rattle.cut.proofs.Tests.{unit-other, whole-bytes, cut-done}
 use Rattle.cut.proofs.Shortest.{cut-appended}
 
 -- a data block is cut to what a beginning is cut to, if zeros follow

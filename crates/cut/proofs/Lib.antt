@@ -2,7 +2,7 @@
 pub mod Units
 pub mod Multiples
 pub mod Turns
-pub mod Cases
+pub mod Tests
 pub mod Shortest
 pub mod CutAndPad
 pub mod Examples

@@ -2,4 +2,4 @@
 pub mod Cut
 pub mod Pad
 pub mod Examples
-pub mod Laws
+pub mod Promises

@@ -8,7 +8,7 @@ use Rattle.block.proofs.Facts.{parts-pos}
 use Rattle.block.proofs.Image.{image-fits, image-used, image-near, blank-near, label}
 use Rattle.block.proofs.Sound.{sound-reads}
 use Rattle.log.specs.Parts.{oneLog}
-use Rattle.ledger.specs.Laws.{Lawful}
+use Rattle.ledger.specs.Lawful.{Lawful}
 use Rattle.demands.specs.Instance.{archive}
 use Rattle.demands.proofs.LogLaws.{zeros-unfit, sound-finds, used-grown, used-void}
 use Rattle.demands.proofs.LentLaws as lent

@@ -11,7 +11,7 @@ use lib.Seq.{take-append-le}
 use borrow.Author.Tests.{leb-true, lt-leb, ltb-true, ltb-false}
 use Rattle.ground.specs.Choice.{on}
 use Rattle.ground.specs.Places.{within}
-use Rattle.ground.proofs.Cases.{and-true}
+use Rattle.ground.proofs.Choices.{and-true}
 use Rattle.buffer.specs.Bytes.{Bytes}
 use Rattle.buffer.proofs.Put.{length-put}
 use Rattle.sector.specs.Sector.{blank}

@@ -9,7 +9,7 @@ use lib.Dec.{leb, ltb, eqb}
 use lib.ListN.{length}
 use borrow.Author.Tests.{ltb-false, leb-true, le-leb, eqb-false}
 use Rattle.ground.specs.Choice.{on}
-use Rattle.ground.proofs.Cases.{on-ind, and-true}
+use Rattle.ground.proofs.Choices.{on-ind, and-true}
 use Rattle.buffer.specs.Bytes.{Bytes, same}
 use Rattle.buffer.proofs.Bytes.{small-drop}
 use Rattle.word.specs.Number.{small}

@@ -7,7 +7,7 @@ use native.Mathlib.Omega.{arith}
 use lib.Dec.{ltb, eqb}
 use lib.ListN.{length, length-take, length-drop}
 use borrow.Author.Tests.{ltb-true, ltb-false, eqb-true, eqb-false}
-use Rattle.ground.proofs.Cases.{cond-ind, and-true}
+use Rattle.ground.proofs.Choices.{cond-ind, and-true}
 use Rattle.buffer.specs.Bytes.{Bytes}
 use Rattle.refusal.specs.declared.Refusal.the-variants.{Entry as IllFormed}
 use Rattle.difference.specs.declared.Side.{Side}

@@ -8,7 +8,7 @@ use native.Mathlib.Omega.{arith}
 use lib.Dec.{leb, eqb}
 use lib.ListN.{length}
 use borrow.Author.Tests.{leb-true, eqb-true}
-use Rattle.ground.proofs.Cases.{and-true, and-false}
+use Rattle.ground.proofs.Choices.{and-true, and-false}
 use Rattle.buffer.specs.Bytes.{Bytes}
 use Rattle.kind.specs.Kind.{longest}
 use Rattle.refusal.specs.declared.Refusal.the-variants.{Entry as IllFormed}

@@ -1,2 +1,2 @@
-pub mod Cases
+pub mod Choices
 pub mod Places

@@ -10,7 +10,7 @@ use lib.Dec.{leb, ltb, eqb}
 use borrow.Author.Tests.{ltb-true, leb-true, eqb-true, eqb-false, lt-ltb, le-ltb, le-leb, lt-leb}
 use Rattle.ground.specs.Choice.{on}
 use Rattle.ground.specs.Places.{within, foundFrom}
-use Rattle.ground.proofs.Cases.{on-ind, and-true, and-false}
+use Rattle.ground.proofs.Choices.{on-ind, and-true, and-false}
 
 pub within-reads : (f k n : ℕ) → within f k n ≡ true → (f ≤ n) × (n < f + k)
 within-reads f k n e =

@@ -11,7 +11,7 @@ use borrow.Author.Tests.{eqb-true, eq-eqb}
 use lib.ListN.{length, getD, take, drop, List·getD-append}
 use lib.Seq.{take-at, drop-at, getD-take, getD-at}
 use Rattle.ground.specs.Choice.{on}
-use Rattle.ground.proofs.Cases.{and-true}
+use Rattle.ground.proofs.Choices.{and-true}
 use Rattle.word.specs.Number.{beBytes, beNumber}
 use Rattle.word.proofs.NumberLaws.{value-digits}
 use Rattle.buffer.specs.Bytes.{Bytes, same, zeros}
@@ -20,7 +20,7 @@ use Rattle.sha1.proofs.Digest.{digest-bytes}
 use Rattle.kind.specs.Kind.{lawful}
 use Rattle.block.specs.Block.{Row, parts, valid}
 use Rattle.block.specs.Log.{soundAs, sound}
-use Rattle.block.proofs.Cases.{cond-some}
+use Rattle.block.proofs.Tests.{cond-some}
 use Rattle.block.proofs.Facts.{valid-facts, parts-pos, score-length}
 use Rattle.block.proofs.Sound.{sound-reads, as-reads, as-other}
 use Rattle.index.specs.Index.{placeAt, named, entryBytes, sectorAt, free}

@@ -10,7 +10,7 @@ use lib.Dec.{ltb}
 use borrow.Author.Tests.{ltb-true}
 use lib.ListN.{length, getD, take, drop, replicate, length-append, length-drop, length-replicate, replicate-append-replicate}
 use lib.Seq.{take-at, drop-at, drop-append-le, take-append-le}
-use Rattle.ground.proofs.Cases.{cond-ind}
+use Rattle.ground.proofs.Choices.{cond-ind}
 use Rattle.buffer.specs.Bytes.{Bytes, put}
 use Rattle.buffer.proofs.Put.{length-put}
 use Rattle.index.specs.Index.{places, bucketOf, placeAt, entryBytes, free, firstFree, freePlace, hasFree, entered, leftOver, cleared}

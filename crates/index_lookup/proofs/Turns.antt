@@ -23,7 +23,7 @@ use Rattle.log.specs.Parts.{tape}
 use Rattle.log.specs.LookUp.{blocks, firstOf, emptyRow, held, absence, lentAllowed}
 use Rattle.reader.specs.declared.Place.{Place}
 use Rattle.reader.specs.declared.Place.the-variants.{At, Nowhere}
-use Rattle.lookup.proofs.Laws.{placed-some, placed-none, look-cases, look-found}
+use Rattle.lookup.proofs.Outcomes.{placed-some, placed-none, look-cases, look-found}
 use Rattle.index.specs.Index.{bucketOf, placeAt, named, sectorAt}
 use Rattle.index.specs.declared.Bucket.{Bucket}
 use Rattle.hint.specs.Hint.{soundWith, trueAt, firstFound, hint, heldBy, lookUpBy, lookUpByAsked}

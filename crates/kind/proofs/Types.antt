@@ -6,7 +6,7 @@ use Prim.Native.Nat.{ℕ, _≤_}
 use native.Mathlib.Omega.{arith}
 use lib.Dec.{leb}
 use borrow.Author.Tests.{leb-true, le-leb}
-use Rattle.ground.proofs.Cases.{and-true}
+use Rattle.ground.proofs.Choices.{and-true}
 use Rattle.refusal.specs.declared.Refusal.the-variants.{BlockType}
 use Rattle.kind.specs.Kind.{lawful, isPointer, wireType}
 use Rattle.kind.specs.declared.Wire.the-variants.{«Type», Refused}

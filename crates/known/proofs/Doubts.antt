@@ -9,7 +9,7 @@ use lib.Dec.{eqb, ltb}
 use borrow.Author.Tests.{ltb-true, ltb-false}
 use lib.ListN.{length}
 use Rattle.ground.specs.Places.{within}
-use Rattle.ground.proofs.Cases.{or-right}
+use Rattle.ground.proofs.Choices.{or-right}
 use Rattle.ground.proofs.Places.{within-in, within-before}
 use Rattle.buffer.specs.Bytes.{Bytes}
 use Rattle.sector_number.specs.declared.SectorNumber.{SectorNumber}

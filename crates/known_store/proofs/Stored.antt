@@ -8,7 +8,7 @@ use lib.Dec.{leb}
 use lib.ListN.{length, take, replicate}
 use borrow.Author.Tests.{le-leb, lt-leb}
 use Rattle.ground.specs.Choice.{on}
-use Rattle.ground.proofs.Cases.{and-false}
+use Rattle.ground.proofs.Choices.{and-false}
 use Rattle.buffer.specs.Bytes.{Bytes, put}
 use Rattle.sha1.specs.Sha1.{sha1Of}
 use Rattle.refusal.specs.declared.Refusal.the-variants.{NoRoom}
@@ -19,7 +19,7 @@ use Rattle.block.specs.Log.{sectors, bytesOf}
 use Rattle.reader.specs.Reader.{placed}
 use Rattle.reader.specs.declared.Place.{Place}
 use Rattle.reader.specs.declared.Place.the-variants.{At, Nowhere}
-use Rattle.lookup.proofs.Laws.{placed-some, placed-none}
+use Rattle.lookup.proofs.Outcomes.{placed-some, placed-none}
 use Rattle.log.specs.Parts.{Lent, beside, writtenFrom}
 use Rattle.log.specs.Store.{afterStore, receipt, partsFor, compared}
 use Rattle.log.specs.declared.Stored.{Stored}

@@ -30,7 +30,7 @@ use Rattle.reader.specs.declared.Place.the-variants.{At, Nowhere}
 use Rattle.log.specs.Parts.{tape}
 use Rattle.log.specs.LookUp.{blocks, doubtful, firstDoubtful, absence}
 use Rattle.log.proofs.Blocks.{step-none, one-some}
-use Rattle.lookup.proofs.Laws.{placed-some, placed-none}
+use Rattle.lookup.proofs.Outcomes.{placed-some, placed-none}
 use Rattle.hint.specs.Hint.{soundWith, hint}
 use Rattle.hint.proofs.Found.{some-not-none}
 use Rattle.hint.proofs.Sound.{with-finds}

@@ -4,7 +4,7 @@ use mathlib.Core.List.{List, []}
 use Prim.Native.Nat.{ℕ, max}
 use Rattle.ledger.specs.Archive.{Archive}
 use Rattle.ledger.specs.Ledger.{told, endRows, endChanged, NoneWaits}
-use Rattle.ledger.specs.Laws.{Lawful}
+use Rattle.ledger.specs.Lawful.{Lawful}
 use Rattle.ledger.specs.Trace.{trace}
 use Rattle.ledger.specs.History.{Item, AllOfBytes, answer, recount, blank-log, blank-books, harmed, harmed-books, first-log, first-books, Damage, Zeroing, Harm}
 use Rattle.ledger.specs.Reflects.{cell, Reflects}

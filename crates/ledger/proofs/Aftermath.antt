@@ -11,7 +11,7 @@ use borrow.Author.Tests.{lt-ltb, le-ltb}
 use Rattle.ground.proofs.Places.{found-in}
 use Rattle.ledger.specs.Archive.{Effect, stays, adds, settles, Archive}
 use Rattle.ledger.specs.Ledger.{has, hasAll, Ledger, told, enter, settle, covers, hit, end, keepRows, there, atSettling, crashed, note, blocks, Doubtful}
-use Rattle.ledger.specs.Laws.{Lawful}
+use Rattle.ledger.specs.Lawful.{Lawful}
 use Rattle.ledger.specs.History.{Item, given, ruling, Harm, Books}
 use Rattle.ledger.specs.Reflects.{cell, Reflects}
 use Rattle.ledger.specs.Events.{Event, ask, harm, stop, crash, grow, recountEvent, Possible, Crash, begun, beginning, EventHistory, log-then, books-then}

@@ -10,7 +10,7 @@ use lib.Dec.{ltb}
 use borrow.Author.Tests.{ltb-true, ltb-false}
 use Rattle.ledger.specs.Archive.{Archive}
 use Rattle.ledger.specs.Ledger.{has, hasAll, Ledger, enter, covers, covered, end, loose, there, thereRows, crashed, Doubtful}
-use Rattle.ledger.specs.Laws.{Lawful}
+use Rattle.ledger.specs.Lawful.{Lawful}
 use Rattle.ledger.specs.Reflects.{Apart, cell, Reflects, Waits}
 use Rattle.ledger.specs.Events.{Crash}
 use Rattle.ledger.proofs.Covers.{covers-reads, covers-before}

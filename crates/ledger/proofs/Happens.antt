@@ -5,7 +5,7 @@ use mathlib.Core.List.{List, []}
 use mathlib.Core.Option.{Option, none, some}
 use Rattle.ledger.specs.Archive.{Effect, stays, adds, settles, Archive}
 use Rattle.ledger.specs.Ledger.{Ledger, empty, told, end, atSettling, crashed}
-use Rattle.ledger.specs.Laws.{Lawful}
+use Rattle.ledger.specs.Lawful.{Lawful}
 use Rattle.ledger.specs.Trace.{trace, Along}
 use Rattle.ledger.specs.History.{Item, given, Standing, overlaid, Books, ruling, blank-log, blank-books}
 use Rattle.ledger.specs.Events.{Shown, Event, ask, harm, stop, crash, grow, answered, stands, happen, begun, beginning, recountEvent, Crash, SomeOfBytes, Possible, AllThatHappens}

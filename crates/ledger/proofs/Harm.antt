@@ -7,7 +7,7 @@ use Prim.Native.Nat.{ℕ, _-_}
 use native.Mathlib.Omega.{arith}
 use Rattle.ledger.specs.Archive.{Archive}
 use Rattle.ledger.specs.Ledger.{has}
-use Rattle.ledger.specs.Laws.{Lawful}
+use Rattle.ledger.specs.Lawful.{Lawful}
 use Rattle.ledger.specs.History.{Damage, Zeroing, Harm}
 use Rattle.ledger.specs.Reflects.{cell}
 use Rattle.ledger.proofs.Covers.{covers-reads}

@@ -10,7 +10,7 @@ use borrow.Author.Tests.{eqb-true, eqb-false, ltb-false, le-ltb}
 use Rattle.ledger.specs.Archive.{Archive}
 use Rattle.ledger.specs.Ledger.{has, hasAll, covers, keepRows, there, covered, loose}
 use Rattle.ledger.specs.Reflects.{Apart, cell}
-use Rattle.ground.proofs.Cases.{cond-ind, and-true, or-false, or-right}
+use Rattle.ground.proofs.Choices.{cond-ind, and-true, or-false, or-right}
 
 -- numbers of two lists, and numbers in a row
 pub has-either : (n : ℕ) (a b : List ℕ) → has n (a ++ b) ≡ true → (has n a ≡ true) ⊎ (has n b ≡ true)

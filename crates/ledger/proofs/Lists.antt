@@ -4,7 +4,7 @@ use mathlib.Core.Bool.{Bool, true, false, cond}
 use mathlib.Core.List.{List, [], _∷_, _++_}
 use Rattle.ledger.specs.Archive.{Effect, stays, adds, settles, Ruling, Seen, Archive}
 use Rattle.ledger.specs.Ledger.{Ledger, act, enter, settle, note, shown, next}
-use Rattle.ledger.specs.Laws.{Lawful}
+use Rattle.ledger.specs.Lawful.{Lawful}
 use Rattle.ledger.specs.Trace.{trace}
 use Rattle.ledger.specs.History.{Item, AllOfBytes, given, Standing, answer, overlaid, plus, Books, ruling, recount}
 use Rattle.ledger.specs.Reflects.{Reflects, Waits}

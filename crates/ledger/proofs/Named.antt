@@ -10,7 +10,7 @@ use native.Mathlib.Omega.{arith}
 use lib.Dec.{ltb}
 use Rattle.ledger.specs.Archive.{Effect, stays, adds, settles, Archive}
 use Rattle.ledger.specs.Ledger.{has, Ledger, empty, NoneWaits, told, enter, settle, covers, hit, intact, end, keepRows, there, crashed, note}
-use Rattle.ledger.specs.Laws.{Lawful}
+use Rattle.ledger.specs.Lawful.{Lawful}
 use Rattle.ledger.specs.History.{Item, given, ruling, Books, blank-books}
 use Rattle.ledger.specs.Events.{Event, ask, harm, stop, crash, grow, recountEvent, SomeOfBytes, Possible, begun, beginning, EventHistory, books-then}
 use Rattle.ledger.specs.Named.{AddsNewNames, WaitingAreOnly, WaitingIsOnly, TornIsGone}

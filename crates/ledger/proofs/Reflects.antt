@@ -11,7 +11,7 @@ use Rattle.ground.proofs.Places.{found-in, found-out}
 use Rattle.ledger.specs.Archive.{Archive}
 use Rattle.ledger.specs.Ledger.{has, Ledger, covers, hit, intact, end, blocks}
 use Rattle.ledger.specs.Reflects.{cell, Reflects}
-use Rattle.ledger.specs.Laws.{Lawful}
+use Rattle.ledger.specs.Lawful.{Lawful}
 use Rattle.ledger.proofs.Ascending.{ascending-ext}
 use Rattle.ledger.proofs.Covers.{covers-reads, covers-in, hit-none, hit-not}
 use Rattle.ledger.proofs.Ends.{end-row, end-rows-le, end-changed, end-changed-le}

@@ -7,7 +7,7 @@ use Prim.Native.Nat.{ℕ, _+_, _-_, _≤_, _<_}
 use native.Mathlib.Omega.{arith}
 use Rattle.ledger.specs.Archive.{Effect, stays, adds, settles, Archive}
 use Rattle.ledger.specs.Ledger.{Ledger, empty, told, enter, settle, covers, end, NoneWaits, act, note, shown, next}
-use Rattle.ledger.specs.Laws.{Lawful}
+use Rattle.ledger.specs.Lawful.{Lawful}
 use Rattle.ledger.specs.History.{Harm}
 use Rattle.ledger.specs.Reflects.{cell, Reflects, Waits}
 use Rattle.ledger.proofs.Covers.{covers-reads, covers-in, covers-before}

@@ -7,7 +7,7 @@ use native.Mathlib.Omega.{arith}
 use lib.Dec.{ltb}
 use Rattle.ledger.specs.Archive.{Archive}
 use Rattle.ledger.specs.Ledger.{hasAll, Ledger, told, atSettling, keepRows, there, thereRows, crashed}
-use Rattle.ledger.specs.Laws.{Lawful}
+use Rattle.ledger.specs.Lawful.{Lawful}
 use Rattle.ledger.specs.Reflects.{Reflects, Waits}
 use Rattle.ledger.specs.Events.{Crash}
 use Rattle.ledger.proofs.Doubt.{alone-early, alone-late}

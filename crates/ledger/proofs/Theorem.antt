@@ -5,7 +5,7 @@ use mathlib.Core.List.{List, [], _∷_, tail, List·Memᴰ, List·Memᴰ·not-ni
 use mathlib.Core.Logic.{_⊎_, inl, inr}
 use Rattle.ledger.specs.Archive.{Effect, stays, adds, settles, Archive}
 use Rattle.ledger.specs.Ledger.{Ledger, enter, settle, atSettling, note}
-use Rattle.ledger.specs.Laws.{Lawful}
+use Rattle.ledger.specs.Lawful.{Lawful}
 use Rattle.ledger.specs.Trace.{trace, Along}
 use Rattle.ledger.specs.History.{Item, AllOfBytes, given, Standing, answer, Books, ruling, recount, blank-log, blank-books, harmed, harmed-books, first-log, first-books}
 use Rattle.ledger.specs.History.{Zeroing, Damage, Demand2, Demand3, Demand3Zeroed}

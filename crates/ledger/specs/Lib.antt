@@ -1,6 +1,6 @@
 pub mod Archive
 pub mod Ledger
-pub mod Laws
+pub mod Lawful
 pub mod Trace
 pub mod History
 pub mod Reflects

@@ -6,7 +6,7 @@ use Rattle.buffer.specs.Bytes.{Bytes}
 use Rattle.block.specs.Log.{Alike, used, sound}
 use Rattle.block.proofs.Alike.{used-alike, sound-alike}
 use Rattle.log.specs.LookUp.{blocks, held, doubtful, firstDoubtful, absence, lookUp}
-use Rattle.log.specs.Laws.{AlikeAnswers}
+use Rattle.log.specs.Promises.{AlikeAnswers}
 use Rattle.log.proofs.Blocks.{blocks-used}
 use Rattle.log.proofs.Written.{same-blocks}
 

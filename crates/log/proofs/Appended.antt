@@ -15,7 +15,7 @@ use Rattle.block.proofs.Used.{used-le, blank-past}
 use Rattle.block.proofs.Written.{length-written, at-written}
 use Rattle.block.proofs.Sound.{sound-finds}
 use Rattle.log.specs.LookUp.{blocks}
-use Rattle.log.specs.Laws.{BlocksAppended}
+use Rattle.log.specs.Promises.{BlocksAppended}
 use Rattle.log.proofs.Blocks.{step-some, blocks-past}
 use Rattle.log.proofs.Written.{same-front}
 

@@ -10,7 +10,7 @@ use lib.Dec.{eqb, ltb}
 use borrow.Author.Tests.{eqb-true, eqb-false, ltb-true, ltb-false}
 use lib.ListN.{length}
 use Rattle.ground.specs.Places.{foundFrom}
-use Rattle.ground.proofs.Cases.{on-ind}
+use Rattle.ground.proofs.Choices.{on-ind}
 use Rattle.buffer.specs.Bytes.{Bytes}
 use Rattle.ground.proofs.Places.{found-in, found-out}
 use Rattle.block.specs.Block.{Row, parts}

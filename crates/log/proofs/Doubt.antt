@@ -16,7 +16,7 @@ use Rattle.block.proofs.Sound.{sound-reads}
 use Rattle.block.proofs.Apart.{none-inside}
 use Rattle.log.specs.LookUp.{blocks, inBlock, outside, doubtful}
 use Rattle.ground.proofs.Places.{within-in, within-before, within-after}
-use Rattle.log.specs.Laws.{PassedTo, DoubtNone, DoubtSome}
+use Rattle.log.specs.Promises.{PassedTo, DoubtNone, DoubtSome}
 use Rattle.log.proofs.Blocks.{blocks-in, blocks-out}
 use Rattle.log.proofs.InBlock.{covers, in-none, in-some, outside-in, outside-out, outside-mono}
 

@@ -12,7 +12,7 @@ use Rattle.block.specs.Block.{Row}
 use Rattle.block.specs.Log.{used}
 use Rattle.log.specs.LookUp.{blocks, inBlock, outside, doubtful, firstOutside, firstDoubtful, absence}
 use Rattle.log.proofs.InBlock.{outside-zero, zero-outside}
-use Rattle.log.specs.Laws.{FirstAt, FirstEnd}
+use Rattle.log.specs.Promises.{FirstAt, FirstEnd}
 
 -- past a run of sectors that are in blocks
 skip : (rows : List Row) (j k n : ℕ) → ((i : ℕ) → i < j → inBlock rows (n + i) ≡ true) → firstOutside rows (j + k) n ≡ firstOutside rows k (n + j)

@@ -12,7 +12,7 @@ use Rattle.refusal.specs.declared.Refusal.{Refusal}
 use Rattle.refusal.specs.declared.Refusal.the-variants.{NotKnown, NotHeld}
 use Rattle.block.specs.Log.{used}
 use Rattle.log.specs.LookUp.{blocks, inBlock, firstOutside, firstDoubtful, absence, lookUp, held}
-use Rattle.log.specs.Laws.{LookUpGives, TwelveIsFirst}
+use Rattle.log.specs.Promises.{LookUpGives, TwelveIsFirst}
 use Rattle.log.proofs.FirstDoubt.{outside-at, inside-before, absence-known, absence-held}
 
 pub look-up-gives : LookUpGives

@@ -8,7 +8,7 @@ use native.Mathlib.Omega.{arith}
 use lib.Dec.{leb, ltb, eqb}
 use borrow.Author.Tests.{eqb-true, eqb-false, le-leb, lt-leb, lt-ltb, le-ltb}
 use Rattle.ground.specs.Places.{within}
-use Rattle.ground.proofs.Cases.{cond-ind, or-right}
+use Rattle.ground.proofs.Choices.{cond-ind, or-right}
 use Rattle.block.specs.Block.{Row, parts}
 use Rattle.log.specs.LookUp.{inBlock, outside}
 

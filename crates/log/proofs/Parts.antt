@@ -22,7 +22,7 @@ use Rattle.refusal.specs.declared.Refusal.the-variants.{LogLength, BlockType}
 use Rattle.log.specs.declared.Look.the-variants.{Refused}
 use Rattle.log.specs.LookUp.{held, absence, lookUp, firstDoubtful, logAllowed, waitingAllowed, lentAllowed, lookUpAsked}
 use Rattle.log.specs.Parts.{tape, writtenFrom, moved}
-use Rattle.log.specs.Laws.{LookUpAlone}
+use Rattle.log.specs.Promises.{LookUpAlone}
 use Rattle.log.proofs.Alike.{held-alike, absence-alike, first-doubtful-alike, look-up-alike}
 
 module _ (log waiting : Bytes) where

@@ -5,7 +5,7 @@ use Prim.Native.Nat.{ℕ, _+_, _≤_, _<_}
 use lib.Dec.{leb}
 use borrow.Author.Tests.{leb-true, leb-false, le-leb, lt-leb}
 use lib.ListN.{length}
-use Rattle.ground.proofs.Cases.{and-true, and-false}
+use Rattle.ground.proofs.Choices.{and-true, and-false}
 use Rattle.buffer.specs.Bytes.{Bytes}
 use Rattle.block.specs.Log.{sectors, used}
 use Rattle.log.specs.Parts.{beside, roomFor, canSettle}

@@ -22,7 +22,7 @@ use Rattle.block.proofs.Sound.{sound-reads, sound-finds}
 use Rattle.block.proofs.Apart.{sound-used}
 use Rattle.log.specs.LookUp.{blocks, firstOf, emptyRow, held}
 use Rattle.log.proofs.Blocks.{blocks-append, blocks-used, one-some}
-use Rattle.log.specs.Laws.{HeldStays, AppendedIsHeld}
+use Rattle.log.specs.Promises.{HeldStays, AppendedIsHeld}
 
 -- rows behind do not hide the first of a type and score
 pub first-front : (t : ℕ) (s : Bytes) (xs ys : List Row) (r : Row) → firstOf t s xs ≡ some r → firstOf t s (xs ++ ys) ≡ some r

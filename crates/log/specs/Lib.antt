@@ -1,4 +1,4 @@
 pub mod LookUp
 pub mod Store
 pub mod Parts
-pub mod Laws
+pub mod Promises

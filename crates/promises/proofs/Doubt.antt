@@ -7,7 +7,7 @@ use Prim.Native.Nat.{ℕ, zero, suc, _+_, _≤_, _<_}
 use native.Mathlib.Omega.{arith}
 use lib.Dec.{eqb, ltb}
 use borrow.Author.Tests.{eqb-true, eqb-false, ltb-true, ltb-false}
-use Rattle.ground.proofs.Cases.{cond-ind, or-false, or-right}
+use Rattle.ground.proofs.Choices.{cond-ind, or-false, or-right}
 use Rattle.buffer.specs.Bytes.{zeros}
 use Rattle.sector.specs.Sector.{blank}
 use Rattle.block.specs.Block.{Row}

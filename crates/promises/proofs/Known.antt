@@ -9,7 +9,7 @@ use native.Mathlib.Omega.{arith}
 use lib.Dec.{eqb}
 use lib.ListN.{length}
 use borrow.Author.Tests.{eqb-true, eq-eqb, le-leb}
-use Rattle.ground.proofs.Cases.{cond-ind, on-ind}
+use Rattle.ground.proofs.Choices.{cond-ind, on-ind}
 use Rattle.buffer.specs.Bytes.{Bytes, same}
 use Rattle.buffer.proofs.Bytes.{same-refl, same-true}
 use Rattle.sha1.specs.Sha1.{sha1Of}

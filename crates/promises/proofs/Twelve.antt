@@ -6,7 +6,7 @@ use Prim.Native.Nat.{ℕ}
 use native.Mathlib.Omega.{arith}
 use lib.Dec.{ltb}
 use lib.ListN.{length}
-use Rattle.ground.proofs.Cases.{cond-ind, on-ind}
+use Rattle.ground.proofs.Choices.{cond-ind, on-ind}
 use Rattle.buffer.specs.Bytes.{Bytes, same}
 use Rattle.sha1.specs.Sha1.{sha1Of}
 use Rattle.message.specs.Message.{framed, tagOf, versionOf, scoreOf, dataOf, requestOf}

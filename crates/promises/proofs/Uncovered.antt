@@ -6,7 +6,7 @@ use Prim.Native.Nat.{ℕ, zero, suc, _<_}
 use native.Mathlib.Omega.{arith}
 use lib.Dec.{eqb}
 use borrow.Author.Tests.{eqb-true, eqb-false}
-use Rattle.ground.proofs.Cases.{cond-ind, or-right}
+use Rattle.ground.proofs.Choices.{cond-ind, or-right}
 use Rattle.block.specs.Block.{Row}
 use Rattle.ledger.specs.Ledger.{Ledger, has, covers, hit, intactOf, intact, end}
 use Rattle.ledger.proofs.Ends.{end-changed}

@@ -7,7 +7,7 @@ use Prim.Native.Nat.{ℕ, zero, suc, _≤_, max}
 use native.Mathlib.Nat.{max-le}
 use native.Mathlib.Omega.{arith}
 use Rattle.ground.specs.Choice.{on}
-use Rattle.ground.proofs.Cases.{on-ind, cond-ind}
+use Rattle.ground.proofs.Choices.{on-ind, cond-ind}
 use Rattle.buffer.specs.Bytes.{Bytes}
 use Rattle.card.specs.Name.{isName}
 use Rattle.query.specs.Reading.{Reading, choice, orElse, Choice, term, andAlso, Term, name, negated, group, orWord, andWord, notWord, openWord, closeWord, tokens, choiceTokens, termTokens, named, choiceNamed, termNamed, depth, choiceDepth, termDepth}

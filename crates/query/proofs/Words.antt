@@ -7,7 +7,7 @@ use native.Mathlib.Omega.{arith}
 use lib.Dec.{eqb}
 use borrow.Author.Tests.{eqb-true, not-true}
 use lib.ListN.{length, length-append}
-use Rattle.ground.proofs.Cases.{cond-ind, and-true}
+use Rattle.ground.proofs.Choices.{cond-ind, and-true}
 use Rattle.buffer.specs.Bytes.{Bytes}
 use Rattle.query.specs.Reading.{spaced, joined}
 use Rattle.query.specs.Grammar.{onto, words}

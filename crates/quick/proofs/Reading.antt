@@ -17,7 +17,7 @@ use Rattle.block.specs.Log.{bytesOf}
 use Rattle.reader.specs.Reader.{placed}
 use Rattle.reader.specs.declared.Place.{Place}
 use Rattle.reader.specs.declared.Place.the-variants.{At, Nowhere}
-use Rattle.lookup.proofs.Laws.{placed-none}
+use Rattle.lookup.proofs.Outcomes.{placed-none}
 use Rattle.log.specs.Parts.{Lent, beside}
 use Rattle.known.specs.declared.Known.{Known}
 use Rattle.known.specs.Known.{missing, knownLog, heldKnown}

@@ -30,7 +30,7 @@ use Rattle.reader.specs.declared.Place.{Place}
 use Rattle.reader.specs.declared.Place.the-variants.{At, Nowhere}
 use Rattle.log.specs.LookUp.{blocks, logAllowed}
 use Rattle.log.proofs.Blocks.{step-none, one-some}
-use Rattle.lookup.proofs.Laws.{placed-some, placed-none}
+use Rattle.lookup.proofs.Outcomes.{placed-some, placed-none}
 use Rattle.refusal.specs.declared.Refusal.the-variants.{LogLength}
 use Rattle.index.specs.Index.{entered, cleared}
 use Rattle.hint.specs.declared.Rebuilding.the-variants.{Done, Refused}

@@ -1,4 +1,4 @@
 pub mod Decimal
-pub mod Laws
+pub mod Printed
 pub mod Answer
 pub mod Examples

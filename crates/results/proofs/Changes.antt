@@ -6,7 +6,7 @@ use native.Mathlib.Omega.{arith}
 use lib.Dec.{ltb}
 use lib.ListN.{length}
 use borrow.Author.Tests.{ltb-false}
-use Rattle.ground.proofs.Cases.{cond-ind, and-true}
+use Rattle.ground.proofs.Choices.{cond-ind, and-true}
 use Rattle.buffer.specs.Bytes.{Bytes}
 use Rattle.kind.specs.Kind.{longest}
 use Rattle.refusal.specs.declared.Refusal.the-variants.{Entry as EntryRefused}

@@ -6,7 +6,7 @@ use Prim.Native.Nat.{ℕ, zero, suc, _+_, _≤_}
 use native.Mathlib.Omega.{arith}
 use lib.Dec.{eqb}
 use lib.ListN.{length}
-use Rattle.ground.proofs.Cases.{cond-ind}
+use Rattle.ground.proofs.Choices.{cond-ind}
 use Rattle.buffer.specs.Bytes.{Bytes}
 use Rattle.refusal.specs.Number.{toldSector}
 use Rattle.refusal.specs.declared.Refusal.{Refusal}
@@ -15,7 +15,7 @@ use Rattle.block.specs.Log.{sectors, used}
 use Rattle.block.proofs.Used.{used-le-sectors}
 use Rattle.block.proofs.Joined.{sectors-joined}
 use Rattle.log.specs.Parts.{tape}
-use Rattle.lookup.proofs.Laws.{lent-sectors}
+use Rattle.lookup.proofs.Outcomes.{lent-sectors}
 use Rattle.log.specs.LookUp.{blocks, inBlock, firstOutside, firstDoubtful, doubtful, absence, lentAllowed}
 use Rattle.results.specs.Tree.{mostBoth}
 

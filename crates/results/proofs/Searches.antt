@@ -8,7 +8,7 @@ use native.Mathlib.Omega.{arith}
 use lib.Dec.{leb}
 use borrow.Author.Tests.{le-leb, lt-leb}
 use lib.ListN.{length}
-use Rattle.ground.proofs.Cases.{cond-ind, on-ind}
+use Rattle.ground.proofs.Choices.{cond-ind, on-ind}
 use Rattle.buffer.specs.Bytes.{Bytes}
 use Rattle.refusal.specs.Number.{numberOf, toldSector}
 use Rattle.refusal.specs.declared.Refusal.{Refusal}

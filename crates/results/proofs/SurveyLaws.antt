@@ -6,7 +6,7 @@ use Prim.Native.Nat.{ℕ, _+_, _*_, _/_, _≤_}
 use native.Mathlib.Omega.{arith}
 use lib.Dec.{ltb}
 use lib.ListN.{length, replicate, length-append}
-use Rattle.ground.proofs.Cases.{cond-ind}
+use Rattle.ground.proofs.Choices.{cond-ind}
 use Rattle.buffer.specs.Bytes.{Bytes}
 use Rattle.refusal.specs.Number.{numberOf}
 use Rattle.refusal.specs.declared.Refusal.the-variants.{LogLength}
@@ -15,14 +15,14 @@ use Rattle.block.specs.declared.Block.{Block}
 use Rattle.reader.specs.Reader.{placed}
 use Rattle.reader.specs.declared.Place.{Place}
 use Rattle.reader.specs.declared.Place.the-variants.{At, Nowhere}
-use Rattle.lookup.proofs.Laws.{placed-some, placed-none}
+use Rattle.lookup.proofs.Outcomes.{placed-some, placed-none}
 use Rattle.block.specs.Log.{used, sound}
 use Rattle.block.proofs.Apart.{none-past}
 use Rattle.block.proofs.Used.{used-le-sectors}
 use Rattle.log.specs.LookUp.{logAllowed}
 use Rattle.report.specs.declared.Reported.{Reported}
 use Rattle.report.specs.Report.{sectorsName, usedName, recordsName, doubtfulName, verdictName, decimal, verdict, surveyOf, textOf, reportText, ReportOutcome, reportOutcome, reportOf}
-use Rattle.report.proofs.Laws.{verdict-length, line-short, report-room}
+use Rattle.report.proofs.Printed.{verdict-length, line-short, report-room}
 use Rattle.results.specs.Survey.{reportNumber, textLength, reported, reportResult, soundResult, sizeOf}
 
 -- ---- the report

@@ -16,7 +16,7 @@ use Rattle.entry.specs.Entry.{entryOf, entryAllowed, scoreOf}
 use Rattle.entry.specs.Root.{rootWellFormed, rootScore}
 use Rattle.results.specs.Tree.{mostBoth, endSector, walkResult}
 use Rattle.results.proofs.Doubts.{absence-told, both-few}
-use Rattle.ground.proofs.Cases.{cond-ind, on-ind}
+use Rattle.ground.proofs.Choices.{cond-ind, on-ind}
 use Rattle.visit.specs.declared.Walked.{Walked}
 use Rattle.visit.specs.declared.End.{End}
 use Rattle.visit.specs.declared.End.the-variants.{Done, Refused}

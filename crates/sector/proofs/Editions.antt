@@ -9,7 +9,7 @@ use lib.ListN.{length, getD, take, drop, length-append}
 use lib.Dec.{leb, ltb}
 use borrow.Author.Tests.{leb-true, lt-ltb}
 use lib.Seq.{take-at, drop-at, take-all, take-take}
-use Rattle.ground.proofs.Cases.{and-true}
+use Rattle.ground.proofs.Choices.{and-true}
 use Rattle.buffer.specs.Bytes.{Bytes, same, zeros}
 use Rattle.buffer.proofs.Bytes.{same-refl, small-append}
 use Rattle.buffer.proofs.Parts.{part-within}

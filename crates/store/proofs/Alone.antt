@@ -20,7 +20,7 @@ use Rattle.reader.specs.Reader.{placed}
 use Rattle.reader.specs.declared.Place.{Place}
 use Rattle.reader.specs.declared.Place.the-variants.{At, Nowhere}
 use Rattle.lookup.proofs.Held.{held-stands}
-use Rattle.lookup.proofs.Laws.{placed-some, placed-none}
+use Rattle.lookup.proofs.Outcomes.{placed-some, placed-none}
 use Rattle.log.specs.LookUp.{held}
 use Rattle.log.specs.Parts.{tape, writtenFrom, Lent, alone, beside, oneLog, roomFor, appendRow}
 use Rattle.log.specs.Store.{AfterStore, afterStore, receipt, newRow, partsFor, appended, compared, store}

@@ -6,7 +6,7 @@ use native.Mathlib.Omega.{arith}
 use lib.Dec.{leb}
 use borrow.Author.Tests.{le-leb, lt-leb, leb-false}
 use lib.ListN.{length, drop, length-take, length-drop}
-use Rattle.ground.proofs.Cases.{cond-ind}
+use Rattle.ground.proofs.Choices.{cond-ind}
 use Rattle.buffer.specs.Bytes.{Bytes}
 use Rattle.sha1.proofs.Digest.{digest-length}
 use Rattle.kind.specs.Kind.{zeroScore}

@@ -7,7 +7,7 @@ use native.Mathlib.Omega.{arith}
 use lib.Dec.{leb, ltb, eqb}
 use borrow.Author.Tests.{ltb-true, ltb-false, leb-true, leb-false, eqb-false, le-leb, lt-leb, ne-eqb, not-true}
 use lib.ListN.{length, take, drop}
-use Rattle.ground.proofs.Cases.{and-true}
+use Rattle.ground.proofs.Choices.{and-true}
 use Rattle.buffer.specs.Bytes.{Bytes}
 use Rattle.utf8.specs.Grammar.{Range, range, tail, inRange, Form, some, utf8-char, follows}
 use Rattle.utf8.specs.Encoding.{scalar, six, character, decodeFrom}

@@ -1,6 +1,6 @@
 -- Laws of no one function. `Rows`, `Cases`: for the returns of the code; `Characters`, `Pinned`: the encoding; `Examples`: the table.
 pub mod Rows
-pub mod Cases
+pub mod Returns
 pub mod Characters
 pub mod Pinned
 pub mod Examples

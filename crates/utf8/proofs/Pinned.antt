@@ -6,7 +6,7 @@ use Prim.Native.Nat.{ℕ, zero, suc, _+_, _<_}
 use native.Mathlib.Omega.{arith}
 use lib.Dec.{eqb}
 use lib.ListN.{length}
-use Rattle.ground.proofs.Cases.{and-true}
+use Rattle.ground.proofs.Choices.{and-true}
 use Rattle.buffer.specs.Bytes.{Bytes}
 use Rattle.utf8.specs.Grammar.{follows, wellFormedText}
 use Rattle.utf8.specs.Encoding.{scalar, scalars, character, encode, decodeFrom, decode}

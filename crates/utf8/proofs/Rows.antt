@@ -7,7 +7,7 @@ use native.Mathlib.Omega.{arith}
 use lib.Dec.{leb, ltb}
 use lib.ListN.{getD, take, drop}
 use borrow.Author.Tests.{ltb-true, le-leb, lt-leb}
-use Rattle.ground.proofs.Cases.{and-true}
+use Rattle.ground.proofs.Choices.{and-true}
 use Rattle.buffer.specs.Bytes.{Bytes}
 use Rattle.utf8.specs.Grammar.{Range, octet, inRange, Form, form, some, utf8-char, follows}
 

@@ -9,7 +9,7 @@ use native.Mathlib.Omega.{arith}
 use lib.Dec.{eqb, ltb}
 use lib.ListN.{length, take, drop, length-append, length-take, length-drop, take-append-drop}
 use borrow.Author.Tests.{eqb-true, eqb-false, eq-eqb, ltb-true, ltb-false}
-use Rattle.ground.proofs.Cases.{or-right}
+use Rattle.ground.proofs.Choices.{or-right}
 use Rattle.buffer.specs.Bytes.{Bytes}
 use Rattle.block.specs.Log.{sectors, at, Alike}
 use Rattle.block.proofs.At.{piece, at-middle, at-aside}

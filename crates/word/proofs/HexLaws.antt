@@ -7,12 +7,12 @@ use native.Mathlib.Omega.{arith}
 use lib.Dec.{ltb}
 use borrow.Author.Tests.{ltb-true, ltb-false, lt-ltb, le-ltb}
 use lib.ListN.{length, length-append, length-map}
-use Rattle.ground.proofs.Cases.{and-true}
+use Rattle.ground.proofs.Choices.{and-true}
 use Rattle.word.specs.Number.{digits, valueFrom, Below, below, small}
 use Rattle.word.specs.declared.hex.Hex.the-variants.{Value, Bad}
 use Rattle.word.specs.Hex.{digitChar, charDigit, hex, isHex, hexValue, readFrom, readHex, hexBytes, readBytes, reading, readHexBytes}
 use Rattle.word.proofs.NumberLaws.{below-fact, below-append, below-take, below-drop, below-map, length-digits, below-digits, value-digits, digits-value, value-lt}
-use Rattle.word.specs.Laws.{ValueOfHex, HexOfValue}
+use Rattle.word.specs.Promises.{ValueOfHex, HexOfValue}
 
 -- ---- one digit
 

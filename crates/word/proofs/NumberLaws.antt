@@ -9,9 +9,9 @@ use lib.Dec.{ltb}
 use lib.Arith.{digits-div, digits-mod, digits-lt as digit-lt}
 use borrow.Author.Tests.{ltb-true, lt-ltb}
 use lib.ListN.{length, take, drop, replicate, length-append}
-use Rattle.ground.proofs.Cases.{and-true}
+use Rattle.ground.proofs.Choices.{and-true}
 use Rattle.word.specs.Number.{digits, valueFrom, Below, below}
-use Rattle.word.specs.Laws.{ValueOfDigits, DigitsOfValue}
+use Rattle.word.specs.Promises.{ValueOfDigits, DigitsOfValue}
 
 -- ---- every element below b: the fact and the test
 

@@ -10,7 +10,7 @@ use lib.Dec.{ltb}
 use borrow.Author.Tests.{ltb-true, lt-ltb, le-ltb}
 use lib.ListN.{length, getD, take, drop, set, length-set, drop-of-length-le}
 use lib.Seq.{drop-cons, drop-set-lt, getD-set-same, take-suc-set, take-all, append-snoc}
-use Rattle.ground.proofs.Cases.{and-true}
+use Rattle.ground.proofs.Choices.{and-true}
 use Rattle.word.specs.Number.{valueFrom}
 use Rattle.word.specs.declared.hex.Hex.the-variants.{Value, Bad}
 use Rattle.word.specs.Hex.{digitChar, charDigit, hex, isHex, hexValue, readFrom, hexBytes, readBytes, reading, readHexBytes}

@@ -2,4 +2,4 @@
 pub mod Word
 pub mod Number
 pub mod Hex
-pub mod Laws
+pub mod Promises

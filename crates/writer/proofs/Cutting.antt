@@ -12,7 +12,7 @@ use Rattle.kind.specs.Kind.{lawful, isPointer}
 use Rattle.cut.specs.Cut.{unitOf, cutLength, wholeUnits, cutOf}
 use Rattle.cut.specs.declared.Kept.{Kept}
 use Rattle.cut.specs.declared.Kept.the-variants.{Length, Refused}
-use Rattle.cut.proofs.Cases.{cut-done, whole-scores, whole-bytes}
+use Rattle.cut.proofs.Tests.{cut-done, whole-scores, whole-bytes}
 use Rattle.cut.proofs.Shortest.{cut-le}
 use Rattle.cut.proofs.CutAndPad.{is-cut}
 use Rattle.writer.specs.Blocks.{cutBlock}

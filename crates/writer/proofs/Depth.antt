@@ -8,7 +8,7 @@ use native.Mathlib.Nat.{mul-le-mul-right}
 use lib.Dec.{leb, ltb}
 use borrow.Author.Tests.{le-leb, lt-leb, leb-true, leb-false, ltb-true, ltb-false}
 use Rattle.ground.specs.Choice.{on}
-use Rattle.ground.proofs.Cases.{and-true}
+use Rattle.ground.proofs.Choices.{and-true}
 use Rattle.kind.specs.Kind.{longest}
 use Rattle.entry.proofs.Room.{room-start, room-next}
 use Rattle.writer.specs.Depth.{depthFrom, leastDepth, sizesAllowed, depthOf, LeastDepth}

@@ -10,7 +10,7 @@ use lib.Dec.{leb, ltb, eqb}
 use lib.ListN.{length, take, drop, getD, length-take, length-drop}
 use lib.Seq.{getD-take, getD-drop}
 use borrow.Author.Tests.{le-leb, eq-eqb}
-use Rattle.ground.proofs.Cases.{cond-ind}
+use Rattle.ground.proofs.Choices.{cond-ind}
 use Rattle.buffer.specs.Bytes.{Bytes, same}
 use Rattle.buffer.proofs.Bytes.{same-refl}
 use Rattle.sha1.specs.Sha1.{sha1Of}

@@ -19,7 +19,7 @@ use Rattle.kind.proofs.ZeroScore.{length-zero-score}
 use Rattle.block.specs.Block.{partsOf}
 use Rattle.block.proofs.Facts.{parts-bounds}
 use Rattle.cut.specs.Cut.{unitOf, repeat, cutLength}
-use Rattle.cut.proofs.Cases.{unit-pointer, unit-other}
+use Rattle.cut.proofs.Tests.{unit-pointer, unit-other}
 use Rattle.cut.proofs.Units.{repeat-zeros}
 use Rattle.cut.proofs.Shortest.{cut-le, cut-units, cut-rest}
 use Rattle.cut.proofs.Multiples.{times}

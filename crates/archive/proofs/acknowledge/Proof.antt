@@ -1,6 +1,6 @@
 -- `archive::acknowledge` meets its contract: a head and nothing after it.
 use mathlib.Core.Path.{refl}
-use Rattle.archive.proofs.Laws.{outcome, bodiless}
+use Rattle.archive.proofs.Returns.{outcome, bodiless}
 use borrow.Author.Needs.{needs}
 use Rattle.archive.proofs.acknowledge.Statement.{statement}
 use Rattle.archive.proofs.acknowledge.Tie as tie

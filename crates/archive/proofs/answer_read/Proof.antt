@@ -1,7 +1,7 @@
 -- `archive::answer_read` meets its contract: the head, and the block's bytes after it.
 use mathlib.Core.Path.{refl}
 use Rattle.block.specs.Log.{joined}
-use Rattle.archive.proofs.Laws.{outcome, head-block}
+use Rattle.archive.proofs.Returns.{outcome, head-block}
 use borrow.Author.Needs.{needs}
 use Rattle.archive.proofs.answer_read.Statement.{statement}
 use Rattle.archive.proofs.answer_read.Tie as tie

@@ -5,7 +5,7 @@ use lib.ListN.{length}
 use Rattle.log.specs.declared.Stored.{Stored}
 use Rattle.log.specs.Parts.{beside}
 use Rattle.request.specs.Step.{written}
-use Rattle.archive.proofs.Laws.{outcome, kept}
+use Rattle.archive.proofs.Returns.{outcome, kept}
 use borrow.Author.Needs.{needs}
 use Rattle.archive.proofs.answer_store.Statement.{statement}
 use Rattle.archive.proofs.answer_store.Tie as tie

@@ -1,5 +1,5 @@
 -- `archive::enter_stored` meets its contract: by what the store did.
-use Rattle.archive.proofs.Laws.{entered-new, entered-none}
+use Rattle.archive.proofs.Returns.{entered-new, entered-none}
 use mathlib.Core.Path.{_∙_}
 use borrow.Author.Needs.{needs}
 use Rattle.archive.proofs.enter_stored.Statement.{statement}

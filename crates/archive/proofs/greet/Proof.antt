@@ -2,7 +2,7 @@
 use mathlib.Core.Path.{refl, _∙_}
 use borrow.Author.Tests.{not-true, not-false}
 use Rattle.log.specs.Parts.{beside}
-use Rattle.archive.proofs.Laws.{outcome, hello-other, hello-right, hello-as}
+use Rattle.archive.proofs.Returns.{outcome, hello-other, hello-right, hello-as}
 use borrow.Author.Needs.{needs}
 use Rattle.archive.proofs.greet.Statement.{statement}
 use Rattle.archive.proofs.greet.Tie as tie

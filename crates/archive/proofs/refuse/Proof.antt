@@ -1,5 +1,5 @@
 -- `archive::refuse` meets its contract.
-use Rattle.archive.proofs.Laws.{outcome}
+use Rattle.archive.proofs.Returns.{outcome}
 use borrow.Author.Needs.{needs}
 use Rattle.archive.proofs.refuse.Statement.{statement}
 use Rattle.archive.proofs.refuse.Tie as tie

@@ -1,6 +1,6 @@
 -- `archive::refuse_silently` meets its contract.
 use mathlib.Core.Path.{refl}
-use Rattle.archive.proofs.Laws.{outcome}
+use Rattle.archive.proofs.Returns.{outcome}
 use borrow.Author.Needs.{needs}
 use Rattle.archive.proofs.refuse_silently.Statement.{statement}
 use Rattle.archive.proofs.refuse_silently.Tie as tie

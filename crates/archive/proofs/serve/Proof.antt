@@ -5,7 +5,7 @@ use borrow.Author.Tests.{not-true, not-false}
 use Rattle.message.proofs.Requests.{framed-head}
 use Rattle.sector.proofs.Dates.{date-length}
 use Rattle.log.specs.Parts.{beside}
-use Rattle.archive.proofs.Laws.{step-frame, step-buffer, step-log, step-in, in-closed, fresh-undated, in-fresh, greeted-undated, in-greeted}
+use Rattle.archive.proofs.Returns.{step-frame, step-buffer, step-log, step-in, in-closed, fresh-undated, in-fresh, greeted-undated, in-greeted}
 use borrow.Author.Needs.{needs}
 use Rattle.archive.proofs.serve.Statement.{statement}
 use Rattle.archive.proofs.serve.Tie as tie

@@ -2,7 +2,7 @@
 use mathlib.Core.Path.{refl}
 use Rattle.log.specs.Parts.{beside}
 use Rattle.request.specs.Step.{fresh}
-use Rattle.archive.proofs.Laws.{fresh-as}
+use Rattle.archive.proofs.Returns.{fresh-as}
 use borrow.Author.Needs.{needs}
 use Rattle.archive.proofs.serve_fresh.Statement.{statement}
 use Rattle.archive.proofs.serve_fresh.Tie as tie

@@ -3,7 +3,7 @@ use mathlib.Core.Path.{refl, sym, ap, _∙_}
 use Rattle.log.specs.Parts.{beside}
 use Rattle.request.specs.Step.{greeted}
 use Rattle.indexed.specs.Indexed.{keeping, greetedBy}
-use Rattle.archive.proofs.Laws.{greeted-as}
+use Rattle.archive.proofs.Returns.{greeted-as}
 use borrow.Author.Needs.{needs}
 use Rattle.archive.proofs.serve_greeted.Statement.{statement}
 use Rattle.archive.proofs.serve_greeted.Tie as tie

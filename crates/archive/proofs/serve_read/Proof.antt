@@ -10,7 +10,7 @@ use Rattle.log.specs.Parts.{beside}
 use Rattle.log.proofs.Counted.{counted-found}
 use Rattle.hint.specs.Hint.{lookUpBy}
 use Rattle.index_lookup.proofs.Held.{found-by-within, found-by-most}
-use Rattle.archive.proofs.Laws.{read-kind, read-refused, read-found, read-as}
+use Rattle.archive.proofs.Returns.{read-kind, read-refused, read-found, read-as}
 use borrow.Author.Needs.{needs}
 use Rattle.archive.proofs.serve_read.Statement.{statement}
 use Rattle.archive.proofs.serve_read.Tie as tie

@@ -2,7 +2,7 @@
 use mathlib.Core.Path.{_∙_}
 use borrow.Author.Tests.{not-true, not-false}
 use Rattle.log.specs.Parts.{beside}
-use Rattle.archive.proofs.Laws.{sync-refused, sync-moved}
+use Rattle.archive.proofs.Returns.{sync-refused, sync-moved}
 use borrow.Author.Needs.{needs}
 use Rattle.archive.proofs.serve_sync.Statement.{statement}
 use Rattle.archive.proofs.serve_sync.Tie as tie

@@ -4,7 +4,7 @@ use native.Mathlib.Omega.{arith}
 use borrow.Author.Tests.{not-true, not-false}
 use Rattle.message.proofs.Requests.{write-length}
 use Rattle.log.specs.Parts.{beside}
-use Rattle.archive.proofs.Laws.{write-kind, write-long, write-stored, write-as}
+use Rattle.archive.proofs.Returns.{write-kind, write-long, write-stored, write-as}
 use borrow.Author.Needs.{needs}
 use Rattle.archive.proofs.serve_write.Statement.{statement}
 use Rattle.archive.proofs.serve_write.Tie as tie

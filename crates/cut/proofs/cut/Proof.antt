@@ -4,7 +4,7 @@ use borrow.Author.Tests.{not-true, not-false}
 use lib.ListN.{length}
 use Rattle.buffer.specs.Bytes.{Bytes}
 use Rattle.cut.specs.Cut.{cutLength, wholeUnits}
-use Rattle.cut.proofs.Cases.{unit-pointer, unit-other, cut-unlawful, cut-ragged, cut-done}
+use Rattle.cut.proofs.Tests.{unit-pointer, unit-other, cut-unlawful, cut-ragged, cut-done}
 use borrow.Author.Needs.{needs}
 use Rattle.cut.proofs.cut.Statement.{statement}
 use Rattle.cut.proofs.cut.Tie as tie

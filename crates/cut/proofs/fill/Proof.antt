@@ -4,7 +4,7 @@ use borrow.Author.Tests.{not-true, not-false}
 use lib.ListN.{length}
 use Rattle.buffer.specs.Bytes.{Bytes}
 use Rattle.cut.specs.Cut.{wholeUnits}
-use Rattle.cut.proofs.Cases.{unit-pointer, filled-scores, filled-bytes}
+use Rattle.cut.proofs.Tests.{unit-pointer, filled-scores, filled-bytes}
 use borrow.Author.Needs.{needs}
 use Rattle.cut.proofs.fill.Statement.{statement}
 use Rattle.cut.proofs.fill.Tie as tie

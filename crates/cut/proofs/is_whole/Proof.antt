@@ -1,7 +1,7 @@
 -- `cut::is_whole` meets its contract, for pointer types and for others.
 use mathlib.Core.Path.{sym, _∙_}
 use borrow.Author.Tests.{not-true, not-false}
-use Rattle.cut.proofs.Cases.{whole-scores, whole-bytes}
+use Rattle.cut.proofs.Tests.{whole-scores, whole-bytes}
 use borrow.Author.Needs.{needs}
 use Rattle.cut.proofs.is_whole.Statement.{statement}
 use Rattle.cut.proofs.is_whole.Tie as tie

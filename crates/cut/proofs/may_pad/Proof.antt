@@ -2,7 +2,7 @@
 use mathlib.Core.Path.{sym, _∙_}
 use borrow.Author.Tests.{not-true, not-false}
 use Rattle.cut.specs.Cut.{unitOf}
-use Rattle.cut.proofs.Cases.{pad-short, pad-past, pad-ragged, pad-units}
+use Rattle.cut.proofs.Tests.{pad-short, pad-past, pad-ragged, pad-units}
 use borrow.Author.Needs.{needs}
 use Rattle.cut.proofs.may_pad.Statement.{statement}
 use Rattle.cut.proofs.may_pad.Tie as tie

@@ -6,7 +6,7 @@ use lib.ListN.{length}
 use Rattle.cut.specs.Cut.{unitOf}
 use Rattle.cut.specs.Pad.{afterPad}
 use Rattle.cut.specs.declared.Padded.the-variants.{Done}
-use Rattle.cut.proofs.Cases.{allowed, part-whole, part-filled, pad-unlawful, pad-refused, pad-done}
+use Rattle.cut.proofs.Tests.{allowed, part-whole, part-filled, pad-unlawful, pad-refused, pad-done}
 use borrow.Author.Needs.{needs}
 use Rattle.cut.proofs.pad.Statement.{statement}
 use Rattle.cut.proofs.pad.Tie as tie

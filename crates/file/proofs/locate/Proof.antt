@@ -5,7 +5,7 @@ use native.Mathlib.Omega.{arith}
 use borrow.Author.Tests.{not-true, not-false}
 use lib.ListN.{length, length-take, length-drop}
 use Rattle.log.specs.Parts.{tape}
-use Rattle.lookup.proofs.Laws.{lent-sectors}
+use Rattle.lookup.proofs.Outcomes.{lent-sectors}
 use Rattle.entry.specs.Entry.{scoreOf}
 use Rattle.file.specs.File.{split}
 use Rattle.file.proofs.Tests.{entry-whole, readable-length, opened, stops-log, stops-page, stops-entry, stops-offset, goes-down, shown}

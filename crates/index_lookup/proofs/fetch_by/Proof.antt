@@ -1,5 +1,5 @@
 -- `index_lookup::fetch_by` meets its contract: look-up's answer, by its cases and the count.
-use Rattle.lookup.proofs.Laws.{count-refused, count-over, count-found}
+use Rattle.lookup.proofs.Outcomes.{count-refused, count-over, count-found}
 use borrow.Author.Needs.{needs}
 use Rattle.index_lookup.proofs.fetch_by.Statement.{statement}
 use Rattle.index_lookup.proofs.fetch_by.Tie as tie

@@ -1,7 +1,7 @@
 -- `index_lookup::find_held_by` meets its contract.
 use mathlib.Core.Logic.{⊎-elim}
 use Rattle.block.specs.Log.{joined}
-use Rattle.lookup.proofs.Laws.{not-lawful, not-zero}
+use Rattle.lookup.proofs.Outcomes.{not-lawful, not-zero}
 use Rattle.index_lookup.proofs.Turns.{by-zero, by-hint, by-scan}
 use borrow.Author.Needs.{needs}
 use Rattle.index_lookup.proofs.find_held_by.Statement.{statement}

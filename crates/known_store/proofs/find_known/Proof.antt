@@ -1,6 +1,6 @@
 -- `known_store::find_known` meets its contract.
 use mathlib.Core.Logic.{⊎-elim}
-use Rattle.lookup.proofs.Laws.{not-lawful, not-zero}
+use Rattle.lookup.proofs.Outcomes.{not-lawful, not-zero}
 use Rattle.known_store.proofs.Found.{by-zero, by-hint, by-nothing, by-scan}
 use borrow.Author.Needs.{needs}
 use Rattle.known_store.proofs.find_known.Statement.{statement}

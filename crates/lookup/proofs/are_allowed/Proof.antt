@@ -1,6 +1,6 @@
 -- `lookup::are_allowed` meets its contract.
 use borrow.Author.Tests.{not-true, not-false}
-use Rattle.lookup.proofs.Laws.{lent-log, lent-ragged, lent-whole}
+use Rattle.lookup.proofs.Outcomes.{lent-log, lent-ragged, lent-whole}
 use borrow.Author.Needs.{needs}
 use Rattle.lookup.proofs.are_allowed.Statement.{statement}
 use Rattle.lookup.proofs.are_allowed.Tie as tie

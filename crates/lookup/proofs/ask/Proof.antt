@@ -1,6 +1,6 @@
 -- `lookup::ask` meets its contract: tests 3 and 9, then the look-up.
 use borrow.Author.Tests.{not-true, not-false}
-use Rattle.lookup.proofs.Laws.{ask-log, ask-kind, ask-look}
+use Rattle.lookup.proofs.Outcomes.{ask-log, ask-kind, ask-look}
 use borrow.Author.Needs.{needs}
 use Rattle.lookup.proofs.ask.Statement.{statement}
 use Rattle.lookup.proofs.ask.Tie as tie

@@ -1,6 +1,6 @@
 -- `lookup::border` meets its contract.
 use native.Mathlib.Omega.{arith}
-use Rattle.lookup.proofs.Laws.{border-used, border-whole}
+use Rattle.lookup.proofs.Outcomes.{border-used, border-whole}
 use borrow.Author.Needs.{needs}
 use Rattle.lookup.proofs.border.Statement.{statement}
 use Rattle.lookup.proofs.border.Tie as tie

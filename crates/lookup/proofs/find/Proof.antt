@@ -11,7 +11,7 @@ use Rattle.block.specs.Log.{sectors, joined, sound}
 use Rattle.block.proofs.At.{length-at}
 use Rattle.block.proofs.Joined.{sectors-joined}
 use Rattle.log.specs.LookUp.{blocks, firstOf}
-use Rattle.lookup.proofs.Laws.{other-digits, placed-none, find-more, find-found, find-nowhere}
+use Rattle.lookup.proofs.Outcomes.{other-digits, placed-none, find-more, find-found, find-nowhere}
 use borrow.Author.Needs.{needs}
 use Rattle.lookup.proofs.find.Statement.{statement}
 use Rattle.lookup.proofs.find.Tie as tie

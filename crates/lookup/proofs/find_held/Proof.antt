@@ -1,6 +1,6 @@
 -- `lookup::find_held` meets its contract.
 use mathlib.Core.Logic.{⊎-elim}
-use Rattle.lookup.proofs.Laws.{held-zero, held-scan, not-lawful, not-zero}
+use Rattle.lookup.proofs.Outcomes.{held-zero, held-scan, not-lawful, not-zero}
 use Rattle.block.specs.Log.{joined}
 use borrow.Author.Needs.{needs}
 use Rattle.lookup.proofs.find_held.Statement.{statement}

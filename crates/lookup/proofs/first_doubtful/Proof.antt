@@ -8,7 +8,7 @@ use Rattle.block.proofs.Used.{used-le-sectors}
 use Rattle.block.proofs.Joined.{sectors-joined}
 use Rattle.log.specs.LookUp.{outside}
 use Rattle.log.proofs.Doubt.{walked-zero}
-use Rattle.lookup.proofs.Laws.{Passed, walk-stops, walk-on, walk-ends, block-bounds}
+use Rattle.lookup.proofs.Outcomes.{Passed, walk-stops, walk-on, walk-ends, block-bounds}
 use borrow.Author.Needs.{needs}
 use Rattle.lookup.proofs.first_doubtful.Statement.{statement}
 use Rattle.lookup.proofs.first_doubtful.Tie as tie

@@ -8,7 +8,7 @@ use Rattle.block.specs.Log.{sectors, used}
 use Rattle.block.proofs.Used.{used-le-sectors}
 use Rattle.log.specs.LookUp.{blocks, firstOf, outside}
 use Rattle.log.proofs.Doubt.{walked-zero}
-use Rattle.lookup.proofs.Laws.{ragged, whole}
+use Rattle.lookup.proofs.Outcomes.{ragged, whole}
 use borrow.Author.Needs.{needs}
 use Rattle.lookup.proofs.is_allowed.Statement.{statement}
 use Rattle.lookup.proofs.is_allowed.Tie as tie

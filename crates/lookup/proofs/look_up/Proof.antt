@@ -1,7 +1,7 @@
 -- `lookup::look_up` meets its contract.
 use mathlib.Core.Path.{_≡_}
 use Rattle.block.specs.Log.{joined}
-use Rattle.lookup.proofs.Laws.{look-none, look-some}
+use Rattle.lookup.proofs.Outcomes.{look-none, look-some}
 use borrow.Author.Needs.{needs}
 use Rattle.lookup.proofs.look_up.Statement.{statement}
 use Rattle.lookup.proofs.look_up.Tie as tie

@@ -4,7 +4,7 @@ use mathlib.Core.Bool.{Bool, true, false, _||_}
 use lib.ListN.{length, take, drop}
 use Rattle.buffer.specs.Bytes.{Bytes, same}
 use Rattle.lookup.specs.Digits.{mayHold}
-use Rattle.lookup.proofs.Laws.{holds-dated, holds-plain}
+use Rattle.lookup.proofs.Outcomes.{holds-dated, holds-plain}
 use borrow.Author.Needs.{needs}
 use Rattle.lookup.proofs.may_hold.Statement.{statement}
 use Rattle.lookup.proofs.may_hold.Tie as tie

@@ -1,6 +1,6 @@
 -- `lookup::why_absent` meets its contract.
 use Rattle.block.specs.Log.{joined}
-use Rattle.lookup.proofs.Laws.{absent-known, absent-held}
+use Rattle.lookup.proofs.Outcomes.{absent-known, absent-held}
 use borrow.Author.Needs.{needs}
 use Rattle.lookup.proofs.why_absent.Statement.{statement}
 use Rattle.lookup.proofs.why_absent.Tie as tie

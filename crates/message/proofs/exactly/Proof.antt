@@ -1,5 +1,5 @@
 -- `message::exactly` meets its contract: a case for each return.
-use Rattle.message.proofs.Cases.{exactly-bad, exactly-good, exactly-left}
+use Rattle.message.proofs.Returns.{exactly-bad, exactly-good, exactly-left}
 use borrow.Author.Needs.{needs}
 use Rattle.message.proofs.exactly.Statement.{statement}
 use Rattle.message.proofs.exactly.Tie as tie

@@ -1,6 +1,6 @@
 -- `message::is_framed` meets its contract.
 use lib.ListN.{length-take}
-use Rattle.message.proofs.Cases.{framed-short, framed-test}
+use Rattle.message.proofs.Returns.{framed-short, framed-test}
 use native.Mathlib.Omega.{arith}
 use borrow.Author.Needs.{needs}
 use Rattle.message.proofs.is_framed.Statement.{statement}

@@ -5,7 +5,7 @@ use mathlib.Core.List.{[], _∷_}
 use Prim.Native.Nat.{_-_, min}
 use lib.ListN.{length}
 use Rattle.buffer.specs.Bytes.{Bytes, same}
-use Rattle.message.proofs.Cases.{version-none, version-shown}
+use Rattle.message.proofs.Returns.{version-none, version-shown}
 use native.Mathlib.Omega.{arith}
 use borrow.Author.Needs.{needs}
 use Rattle.message.proofs.is_version.Statement.{statement}

@@ -1,6 +1,6 @@
 -- `message::parse` meets its contract: each arm knows the type.
 use Rattle.message.specs.Message.{requestOf}
-use Rattle.message.proofs.Cases.{unknown}
+use Rattle.message.proofs.Returns.{unknown}
 use borrow.Author.Needs.{needs}
 use Rattle.message.proofs.parse.Statement.{statement}
 use Rattle.message.proofs.parse.Tie as tie

@@ -1,6 +1,6 @@
 -- `message::read_of` meets its contract.
 use borrow.Author.Tests.{not-true, not-false}
-use Rattle.message.proofs.Cases.{read-ill, read-padded, read-good}
+use Rattle.message.proofs.Returns.{read-ill, read-padded, read-good}
 use borrow.Author.Needs.{needs}
 use Rattle.message.proofs.read_of.Statement.{statement}
 use Rattle.message.proofs.read_of.Tie as tie

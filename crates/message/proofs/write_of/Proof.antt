@@ -1,6 +1,6 @@
 -- `message::write_of` meets its contract.
 use borrow.Author.Tests.{not-true, not-false}
-use Rattle.message.proofs.Cases.{write-ill, write-padded, write-good}
+use Rattle.message.proofs.Returns.{write-ill, write-padded, write-good}
 use borrow.Author.Needs.{needs}
 use Rattle.message.proofs.write_of.Statement.{statement}
 use Rattle.message.proofs.write_of.Tie as tie

@@ -2,7 +2,7 @@
 use borrow.Author.Needs.{needs}
 use Prim.Native.Nat.{ℕ, _≤_, _<_}
 use native.Mathlib.Omega.{arith}
-use Rattle.report.proofs.Laws.{one-room, tenth-room, number-one, number-more}
+use Rattle.report.proofs.Printed.{one-room, tenth-room, number-one, number-more}
 use borrow.Fn.Kinds.{In}
 use borrow.Fn.PlainCycle.{Measures, is, falls, and}
 use Rattle.report.proofs.write_number.Reads as write-number

@@ -2,7 +2,7 @@
 use borrow.Author.Needs.{needs}
 use native.Mathlib.Omega.{arith}
 use borrow.Author.Tests.{not-true, not-false}
-use Rattle.report.proofs.Laws.{report-buffer, report-log, report-room, report-written}
+use Rattle.report.proofs.Printed.{report-buffer, report-log, report-room, report-written}
 use Rattle.report.proofs.report.Statement.{statement}
 use Rattle.report.proofs.report.Tie as tie
 

@@ -5,8 +5,8 @@ use native.Mathlib.Omega.{arith}
 use Rattle.block.specs.Log.{used}
 use Rattle.block.proofs.Used.{used-le-sectors}
 use Rattle.reader.proofs.Alone.{placed-alone}
-use Rattle.lookup.proofs.Laws.{block-bounds}
-use Rattle.report.proofs.Laws.{Counted, counted-zero, counted-none, counted-some, counted-end, parts-some}
+use Rattle.lookup.proofs.Outcomes.{block-bounds}
+use Rattle.report.proofs.Printed.{Counted, counted-zero, counted-none, counted-some, counted-end, parts-some}
 use borrow.Author.Needs.{needs}
 use Rattle.report.proofs.scan.Statement.{statement}
 use Rattle.report.proofs.scan.Tie as tie

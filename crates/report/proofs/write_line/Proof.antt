@@ -3,7 +3,7 @@ use borrow.Author.Needs.{needs}
 use mathlib.Core.Path.{_∙_}
 use lib.ListN.{length-set}
 use Rattle.report.specs.Report.{decimal}
-use Rattle.report.proofs.Laws.{line-written}
+use Rattle.report.proofs.Printed.{line-written}
 use Rattle.report.proofs.write_line.Statement.{statement}
 use Rattle.report.proofs.write_line.Tie as tie
 

@@ -2,7 +2,7 @@
 use borrow.Author.Needs.{needs}
 use native.Mathlib.Omega.{arith}
 use Rattle.report.specs.Report.{sectorsName, usedName, recordsName, doubtfulName}
-use Rattle.report.proofs.Laws.{line-room, place, text-written}
+use Rattle.report.proofs.Printed.{line-room, place, text-written}
 use Rattle.report.proofs.write_text.Statement.{statement}
 use Rattle.report.proofs.write_text.Tie as tie
 

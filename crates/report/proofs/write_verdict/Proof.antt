@@ -1,7 +1,7 @@
 -- `report::write_verdict` meets its contract: the line of either verdict.
 use borrow.Author.Needs.{needs}
 use Rattle.report.specs.Report.{verdict}
-use Rattle.report.proofs.Laws.{verdict-sound, verdict-notknown}
+use Rattle.report.proofs.Printed.{verdict-sound, verdict-notknown}
 use Rattle.report.proofs.write_verdict.Statement.{statement}
 use Rattle.report.proofs.write_verdict.Tie as tie
 

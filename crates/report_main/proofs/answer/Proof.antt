@@ -1,7 +1,7 @@
 -- `report_main::answer` meets its contract: too long, refused by the report, or reported.
 use borrow.Author.Needs.{needs}
 use native.Mathlib.Omega.{arith}
-use Rattle.report_main.proofs.Laws.{print-long, print-refused, print-report}
+use Rattle.report_main.proofs.Printed.{print-long, print-refused, print-report}
 use Rattle.report_main.proofs.answer.Statement.{statement}
 use Rattle.report_main.proofs.answer.Tie as tie
 

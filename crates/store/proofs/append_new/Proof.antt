@@ -8,7 +8,7 @@ use Rattle.block.proofs.Facts.{parts-bounds}
 use Rattle.sha1.proofs.Digest.{digest-length}
 use Rattle.log.specs.Parts.{writtenFrom}
 use Rattle.log.proofs.Room.{lacks-in-log, lacks-in-waiting}
-use Rattle.store.proofs.Laws.{no-room, room, parts-dated}
+use Rattle.store.proofs.Outcomes.{no-room, room, parts-dated}
 use borrow.Author.Needs.{needs}
 use Rattle.store.proofs.append_new.Statement.{statement}
 use Rattle.store.proofs.append_new.Tie as tie

@@ -1,5 +1,5 @@
 -- `store::compare` meets its contract.
-use Rattle.store.proofs.Laws.{other-length, same-block, other-block}
+use Rattle.store.proofs.Outcomes.{other-length, same-block, other-block}
 use borrow.Author.Needs.{needs}
 use Rattle.store.proofs.compare.Statement.{statement}
 use Rattle.store.proofs.compare.Tie as tie

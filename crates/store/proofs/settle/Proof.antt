@@ -5,7 +5,7 @@ use native.Mathlib.Omega.{arith}
 use lib.ListN.{length-take}
 use Rattle.block.proofs.Used.{used-le-sectors}
 use Rattle.log.proofs.Room.{can-settle, cannot-settle}
-use Rattle.store.proofs.Laws.{nothing-moved, all-moved}
+use Rattle.store.proofs.Outcomes.{nothing-moved, all-moved}
 use borrow.Author.Needs.{needs}
 use Rattle.store.proofs.settle.Statement.{statement}
 use Rattle.store.proofs.settle.Tie as tie

@@ -7,7 +7,7 @@ use Rattle.block.proofs.Used.{used-le-sectors}
 use Rattle.block.proofs.Joined.{sectors-joined}
 use Rattle.lookup.proofs.Both.{used-before}
 use Rattle.log.specs.Parts.{beside}
-use Rattle.store.proofs.Laws.{found-within, store-found, store-new}
+use Rattle.store.proofs.Outcomes.{found-within, store-found, store-new}
 use borrow.Author.Needs.{needs}
 use Rattle.store.proofs.store.Statement.{statement}
 use Rattle.store.proofs.store.Tie as tie

@@ -5,7 +5,7 @@ use Rattle.block.specs.Log.{joined}
 use Rattle.block.proofs.Joined.{sectors-joined}
 use Rattle.log.specs.Parts.{alone}
 use Rattle.store.proofs.Alone.{alone-found, alone-new}
-use Rattle.store.proofs.Laws.{found-within}
+use Rattle.store.proofs.Outcomes.{found-within}
 use Rattle.store.proofs.store_alone.Statement.{statement}
 use Rattle.store.proofs.store_alone.Tie as tie
 

@@ -3,7 +3,7 @@ use mathlib.Core.Path.{_∙_}
 use native.Mathlib.Omega.{arith}
 use borrow.Author.Tests.{not-true, not-false}
 use Rattle.reader.proofs.Alone.{placed-alone}
-use Rattle.lookup.proofs.Laws.{block-bounds}
+use Rattle.lookup.proofs.Outcomes.{block-bounds}
 use Rattle.results.proofs.SurveyLaws.{sound-barred, sound-past, sound-sized, sound-none}
 use borrow.Author.Needs.{needs}
 use Rattle.survey_calls.proofs.sound_at.Statement.{statement}

@@ -1,5 +1,5 @@
 -- `utf8::after_byte` meets its contract.
-use Rattle.utf8.proofs.Cases.{due-none, due-under, due-over, due-next}
+use Rattle.utf8.proofs.Returns.{due-none, due-under, due-over, due-next}
 use borrow.Author.Needs.{needs}
 use Rattle.utf8.proofs.after_byte.Statement.{statement}
 use Rattle.utf8.proofs.after_byte.Tie as tie

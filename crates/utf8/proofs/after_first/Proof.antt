@@ -1,5 +1,5 @@
 -- `utf8::after_first` meets its contract: a case for each range of the first byte.
-use Rattle.utf8.proofs.Cases.{first-nul, first-one, first-tail, first-two, first-three, first-four, first-past}
+use Rattle.utf8.proofs.Returns.{first-nul, first-one, first-tail, first-two, first-three, first-four, first-past}
 use borrow.Author.Needs.{needs}
 use Rattle.utf8.proofs.after_first.Statement.{statement}
 use Rattle.utf8.proofs.after_first.Tie as tie

@@ -1,5 +1,5 @@
 -- `utf8::high_after` meets its contract.
-use Rattle.utf8.proofs.Cases.{high-ed, high-f4, high-tail}
+use Rattle.utf8.proofs.Returns.{high-ed, high-f4, high-tail}
 use Rattle.utf8.proofs.high_after.Statement.{statement}
 use Rattle.utf8.proofs.high_after.Tie as tie
 

@@ -4,7 +4,7 @@ use Prim.Native.Nat.{_≤_, _-_}
 use lib.ListN.{length, drop}
 use Rattle.utf8.specs.Grammar.{follows, wellFormedText}
 use Rattle.utf8.specs.Scan.{due}
-use Rattle.utf8.proofs.Cases.{ends, goes-on, goes-ill}
+use Rattle.utf8.proofs.Returns.{ends, goes-on, goes-ill}
 use native.Mathlib.Omega.{arith}
 use borrow.Author.Needs.{needs}
 use Rattle.utf8.proofs.is_well_formed.Statement.{statement}

@@ -1,5 +1,5 @@
 -- `utf8::low_after` meets its contract.
-use Rattle.utf8.proofs.Cases.{low-e0, low-f0, low-tail}
+use Rattle.utf8.proofs.Returns.{low-e0, low-f0, low-tail}
 use Rattle.utf8.proofs.low_after.Statement.{statement}
 use Rattle.utf8.proofs.low_after.Tie as tie
 

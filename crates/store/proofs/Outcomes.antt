@@ -20,7 +20,7 @@ use Rattle.block.proofs.Joined.{used-joined}
 use Rattle.reader.specs.Reader.{placed}
 use Rattle.reader.proofs.Pieces.{length-bytes}
 use Rattle.lookup.proofs.Held.{held-stands}
-use Rattle.lookup.proofs.Laws.{placed-some, placed-none}
+use Rattle.lookup.proofs.Outcomes.{placed-some, placed-none}
 use Rattle.reader.specs.declared.Place.{Place}
 use Rattle.reader.specs.declared.Place.the-variants.{At, Nowhere}
 use Rattle.log.specs.LookUp.{held}

@@ -9,7 +9,7 @@ use lib.Dec.{eqb, leb}
 use borrow.Author.Tests.{le-leb, lt-leb, leb-true, eq-eqb}
 use borrow.Rule.Slice.PartMut.{putMid, post-is}
 use lib.ListN.{length, take, drop, replicate, length-take, length-drop}
-use Rattle.ground.proofs.Cases.{and-true}
+use Rattle.ground.proofs.Choices.{and-true}
 use Rattle.buffer.specs.Bytes.{Bytes}
 use Rattle.kind.specs.Kind.{lawful, isPointer, zeroScore}
 use Rattle.kind.proofs.ZeroScore.{length-zero-score}

@@ -11,7 +11,7 @@ use lib.ListN.{length, take, drop, length-drop}
 use lib.Seq.{drop-drop, drop-at, take-add, take-all, length-take-le}
 use Rattle.ground.specs.Places.{foundFrom}
 use Rattle.ground.specs.Choice.{on}
-use Rattle.ground.proofs.Cases.{and-true}
+use Rattle.ground.proofs.Choices.{and-true}
 use Rattle.buffer.specs.Bytes.{Bytes, same}
 use Rattle.word.specs.Hex.{hexBytes}
 use Rattle.buffer.proofs.Bytes.{same-true, same-refl}
@@ -38,7 +38,7 @@ use Rattle.log.specs.declared.Look.the-variants.{Found, Refused}
 use Rattle.log.specs.LookUp.{blocks, firstOf, outside, firstDoubtful, mostSectors, logAllowed, mostWaiting, waitingAllowed, lentAllowed, held, absence, lookUp, counted, lookUpAsked}
 use Rattle.log.specs.Parts.{tape}
 use Rattle.log.proofs.First.{first-none, first-some}
-use Rattle.log.specs.Laws.{PassedTo}
+use Rattle.log.specs.Promises.{PassedTo}
 use Rattle.log.proofs.Doubt.{walked-some, doubtful-at, doubt-some}
 use Rattle.log.proofs.FirstDoubt.{first-at, first-end, absence-known, absence-held}
 use Rattle.log.proofs.Alike.{look-up-alike}

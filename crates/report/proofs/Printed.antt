@@ -27,9 +27,9 @@ use Rattle.reader.specs.declared.Place.{Place}
 use Rattle.reader.specs.declared.Place.the-variants.{At, Nowhere}
 use Rattle.log.specs.LookUp.{blocks, inBlock, outside, doubtful, mostSectors, logAllowed}
 use Rattle.log.proofs.Doubt.{walked-zero, walked-none, walked-some, doubt-none, doubt-some}
-use Rattle.log.specs.Laws.{PassedTo}
+use Rattle.log.specs.Promises.{PassedTo}
 use Rattle.log.proofs.Records.{records-none, records-some, records-used}
-use Rattle.lookup.proofs.Laws.{placed-some, placed-none, allowed-sectors}
+use Rattle.lookup.proofs.Outcomes.{placed-some, placed-none, allowed-sectors}
 use Rattle.report.specs.declared.Survey.{Survey}
 use Rattle.report.specs.declared.Reported.the-variants.{Written, Refused}
 use Rattle.report.specs.Report.{decimal, sectorsName, usedName, recordsName, doubtfulName, verdictName, verdict, surveyOf, textOf, reportText, reportOutcome, reportOf}
