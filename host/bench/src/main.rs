@@ -2,6 +2,7 @@
 //! release. Prints a table, and stops before it where two results differ.
 
 mod blank;
+mod durable;
 mod log;
 mod parts;
 mod sizes;
@@ -18,16 +19,26 @@ const SAMPLES: usize = 201;
 const SAMPLE: f64 = 0.005;
 
 const HELP: &str = "\
-bench [--help]
+bench [durable FOLDER] [--help]
 
 Measures the proved functions beside ordinary Rust, both built for release, by turns on the same
 input, and prints tables; it takes about two minutes. Where two results differ it stops before that.
+
+durable FOLDER measures blocks that are on disk when they are answered for, in a new folder below FOLDER:
+through `skywimple serve`, which has to be built beside this program, and through `sqlite3`.
 ";
 
 fn main() -> ExitCode {
     match std::env::args().nth(1).as_deref() {
         None => measure(),
         Some("--help" | "-h") => print!("{HELP}"),
+        Some("durable") => {
+            let folder = std::env::args_os().nth(2).unwrap_or_else(|| ".".into());
+            if let Err(e) = durable::run(folder.as_ref()) {
+                eprintln!("bench: {e}");
+                return ExitCode::FAILURE;
+            }
+        }
         Some(word) => {
             eprintln!("bench: {word} isn't known. `bench --help` says what it takes.");
             return ExitCode::from(2);

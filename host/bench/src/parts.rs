@@ -1,6 +1,6 @@
 //! What is lent to both programs, and the messages.
 
-use boundary::{serve, Refusal, Session};
+use boundary::{serve, serve_known, Known, Refusal, Session};
 use plain::log as ordinary;
 use std::time::Instant;
 
@@ -21,6 +21,8 @@ pub struct Parts {
     pub log: Vec<u8>,
     pub waiting: Vec<u8>,
     pub index: Vec<u8>,
+    /// What is known of all three, where requests go by that.
+    pub known: Option<Known>,
     reply: Vec<u8>,
 }
 
@@ -34,6 +36,7 @@ impl Parts {
             log,
             waiting: vec![0; WAITING * 512],
             index: vec![0; index],
+            known: None,
             reply: vec![0; 57_348],
         }
     }
@@ -42,7 +45,17 @@ impl Parts {
     pub fn ask(&mut self, message: &[u8]) -> Result<(), Refusal> {
         let (log, waiting) = (&mut self.log, &mut self.waiting);
         let (index, reply) = (&mut self.index, &mut self.reply);
-        serve(Session::Greeted, message, &DATE, log, waiting, index, reply).outcome
+        let session = Session::Greeted;
+        let served = match &mut self.known {
+            Some(known) => serve_known(known, session, message, &DATE, log, waiting, index, reply),
+            None => serve(session, message, &DATE, log, waiting, index, reply),
+        };
+        served.outcome
+    }
+
+    /// Learns what is known.
+    pub fn learn(&mut self) {
+        self.known = Some(Known::learn(&self.log, &self.waiting, &self.index));
     }
 
     /// A read by the ordinary log.

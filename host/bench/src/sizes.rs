@@ -1,4 +1,5 @@
-//! What a request costs in logs of several sizes that are full of blocks, beside the ordinary log.
+//! What a request costs in logs of several sizes that are full of blocks, beside the ordinary log: with the
+//! index, by scan, and by what is known from the last request.
 
 use boundary::Refusal;
 use plain::index;
@@ -21,10 +22,12 @@ fn data(number: usize) -> Vec<u8> {
     data
 }
 
-/// Both programs' seconds for a number of requests.
+/// Blocks looked for in vain by what is known.
+const ABSENT_KNOWN: usize = 1000;
+
+/// Both programs' seconds for a request.
 struct Cost {
     name: &'static str,
-    requests: usize,
     rounds: Vec<[f64; 2]>,
 }
 
@@ -59,7 +62,7 @@ fn read(parts: &mut Parts, scores: &[[u8; 20]], count: usize) -> [f64; 2] {
             assert_eq!(parts.ordinary_read(score), Ok(BLOCK));
         }
     });
-    [ours, theirs]
+    [ours, theirs].map(|seconds| seconds / count as f64)
 }
 
 /// Stores some blocks in the waiting part, first by the one and then by the other.
@@ -83,13 +86,14 @@ fn store(parts: &mut Parts, from: usize) -> [f64; 2] {
     });
     assert!(parts.waiting == stored && parts.index == entered);
     parts.waiting.fill(0);
-    [ours, theirs]
+    [ours, theirs].map(|seconds| seconds / STORED as f64)
 }
 
-fn absent(parts: &mut Parts) -> [f64; 2] {
+/// Looks for a block that is not there, so many times by ours.
+fn absent(parts: &mut Parts, count: usize) -> [f64; 2] {
     let message = read_message(&[7; 20]);
     let ours = time(|| {
-        for _ in 0..ABSENT {
+        for _ in 0..count {
             assert_eq!(parts.ask(&message), Err(Refusal::NotHeld));
         }
     });
@@ -99,36 +103,50 @@ fn absent(parts: &mut Parts) -> [f64; 2] {
             assert_eq!(answer, Err(ordinary::Refused::Number(11)));
         }
     });
-    [ours, theirs]
+    [ours / count as f64, theirs / ABSENT as f64]
 }
 
 /// The costs in a log of so many sectors.
 fn measure(sectors: usize) -> Vec<Cost> {
     let names = [
-        ("read by index", BY_INDEX),
-        ("read by scan", BY_SCAN),
-        ("store", STORED),
-        ("absent", ABSENT),
+        "read by index",
+        "read by scan",
+        "store",
+        "absent",
+        "learn",
+        "read, known",
+        "store, known",
+        "absent, known",
     ];
-    let mut costs: Vec<Cost> = names
-        .into_iter()
-        .map(|(name, requests)| Cost {
-            name,
-            requests,
-            rounds: Vec::new(),
-        })
-        .collect();
+    let mut costs = names.map(|name| Cost {
+        name,
+        rounds: Vec::new(),
+    });
     let (mut parts, scores) = full(sectors);
     for _ in 0..ROUNDS {
+        let index = parts.index.clone();
         costs[0].rounds.push(read(&mut parts, &scores, BY_INDEX));
-        let index = std::mem::take(&mut parts.index);
+        parts.index = Vec::new();
         costs[1].rounds.push(read(&mut parts, &scores, BY_SCAN));
         parts.index = index.clone();
         costs[2].rounds.push(store(&mut parts, scores.len()));
-        parts.index = index;
-        costs[3].rounds.push(absent(&mut parts));
+        parts.index = index.clone();
+        costs[3].rounds.push(absent(&mut parts, ABSENT));
+
+        // Ordinary Rust learns nothing: its look at the whole log stands beside it.
+        let absent_by_scan = costs[3].rounds.last().map_or(0.0, |round| round[1]);
+        costs[4]
+            .rounds
+            .push([time(|| parts.learn()), absent_by_scan]);
+        let known = parts.known;
+        assert!(known.is_some_and(|known| known.is_exact()));
+        costs[5].rounds.push(read(&mut parts, &scores, BY_INDEX));
+        costs[6].rounds.push(store(&mut parts, scores.len()));
+        (parts.index, parts.known) = (index, known);
+        costs[7].rounds.push(absent(&mut parts, ABSENT_KNOWN));
+        parts.known = None;
     }
-    costs
+    costs.into()
 }
 
 /// Prints lines for each of these lengths, in sectors.
@@ -142,11 +160,9 @@ pub fn run(lengths: &[usize]) {
     );
     for &sectors in lengths {
         for cost in measure(sectors) {
-            let each = |k: usize| {
-                1e3 * crate::median(cost.rounds.iter().map(|r| r[k])) / cost.requests as f64
-            };
+            let each = |k: usize| 1e3 * crate::median(cost.rounds.iter().map(|r| r[k]));
             println!(
-                "{:>9} {:14} {:>9.3} {:>11.3} {:>7.2}",
+                "{:>9} {:14} {:>9.4} {:>11.4} {:>7.4}",
                 sectors / 2048,
                 cost.name,
                 each(0),

@@ -19,6 +19,33 @@ extern "C" {
         reply: *mut u8,
         reply_len: usize,
     ) -> u32;
+    pub fn skywimple_learn(
+        log: *const u8,
+        log_len: usize,
+        waiting: *const u8,
+        waiting_len: usize,
+        index: *const u8,
+        index_len: usize,
+        known: *mut u8,
+        known_len: usize,
+    ) -> u32;
+    pub fn skywimple_serve_known(
+        session: u8,
+        message: *const u8,
+        message_len: usize,
+        date: *const u8,
+        date_len: usize,
+        log: *mut u8,
+        log_len: usize,
+        waiting: *mut u8,
+        waiting_len: usize,
+        index: *mut u8,
+        index_len: usize,
+        reply: *mut u8,
+        reply_len: usize,
+        known: *mut u8,
+        known_len: usize,
+    ) -> u32;
     pub fn skywimple_report(
         log: *const u8,
         log_len: usize,

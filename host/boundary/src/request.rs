@@ -18,6 +18,35 @@ pub struct Served {
     pub session: Session,
 }
 
+impl Session {
+    pub(crate) fn number(self) -> u8 {
+        match self {
+            Session::Fresh => 0,
+            Session::Greeted => 1,
+            Session::Closed => 2,
+        }
+    }
+}
+
+impl Served {
+    /// What a result says, with its reply.
+    pub(crate) fn of(result: u32, reply: &[u8]) -> Served {
+        Served {
+            outcome: Refusal::of((result % 256) as u8).map_err(|refusal| match refusal {
+                Refusal::NotKnown { .. } => Refusal::NotKnown {
+                    sector: sector_in(reply).expect("the text of 12 tells the sector"),
+                },
+                other => other,
+            }),
+            session: match result / 256 {
+                0 => Session::Fresh,
+                1 => Session::Greeted,
+                _ => Session::Closed,
+            },
+        }
+    }
+}
+
 /// The bytes of an error reply before its text, and the text of 12 before the sector's digits.
 const BEFORE_TEXT: usize = 6;
 const DOUBT_AT: &[u8] = b"why=12 at=";
@@ -36,16 +65,11 @@ pub fn serve(
     index: &mut [u8],
     reply: &mut [u8],
 ) -> Served {
-    let number = match session {
-        Session::Fresh => 0,
-        Session::Greeted => 1,
-        Session::Closed => 2,
-    };
     // SAFETY: the pointers and lengths are those of slices that outlive the call; the mutable ones
     // are borrowed alone, so none overlaps another.
     let result = unsafe {
         boundary::skywimple_serve(
-            number,
+            session.number(),
             message.as_ptr(),
             message.len(),
             date.as_ptr(),
@@ -60,19 +84,7 @@ pub fn serve(
             reply.len(),
         )
     };
-    Served {
-        outcome: Refusal::of((result % 256) as u8).map_err(|refusal| match refusal {
-            Refusal::NotKnown { .. } => Refusal::NotKnown {
-                sector: sector_in(reply).expect("the text of 12 tells the sector"),
-            },
-            other => other,
-        }),
-        session: match result / 256 {
-            0 => Session::Fresh,
-            1 => Session::Greeted,
-            _ => Session::Closed,
-        },
-    }
+    Served::of(result, reply)
 }
 
 /// The sector that the text of an error reply tells: eight lower-case hex digits.

@@ -74,17 +74,20 @@ fn piece(sector: usize, count: usize, block: Option<Block>) -> Piece {
     }
 }
 
-/// The sectors of the first sound block of a type and score: the one that look-up finds.
-pub fn find(log: &[u8], kind: u8, score: &Score) -> Option<Range<usize>> {
+/// Where the first sound block of a type and score starts: the one that look-up finds.
+pub fn find(log: &[u8], kind: u8, score: &Score) -> Option<usize> {
     let wanted = format::digits(kind, score);
     let mut sectors = log.chunks_exact(SECTOR).enumerate();
-    sectors.find_map(|(at, sector)| {
-        if format::named(sector) != (wanted.0.as_bytes(), wanted.1.as_bytes()) {
-            return None;
-        }
-        let size = sound_at(log, at).ok().filter(|size| *size > 0)?;
-        Some(at..at + parts(sector, size))
-    })
+    let named = |sector| format::named(sector) == (wanted.0.as_bytes(), wanted.1.as_bytes());
+    let found = sectors.find(|(at, sector)| named(sector) && self::at(log, *at).is_some());
+    found.map(|(at, _)| at)
+}
+
+/// The sectors of the sound block that starts at a sector.
+pub fn at(log: &[u8], sector: usize) -> Option<Range<usize>> {
+    let size = sound_at(log, sector).ok().filter(|size| *size > 0)?;
+    let first = &log[sector * SECTOR..(sector + 1) * SECTOR];
+    Some(sector..sector + parts(first, size))
 }
 
 /// The sectors of a sound block of so many bytes, by its first.
@@ -113,10 +116,12 @@ mod tests {
         let long = put(&mut log, 13, 1000);
         let short = put(&mut log, 13, 5);
         assert_eq!(put(&mut log, 2, 1000), long);
-        assert_eq!(find(&log, 13, &long), Some(0..3));
-        assert_eq!(find(&log, 13, &short), Some(3..4));
-        assert_eq!(find(&log, 2, &long), Some(4..7));
+        assert_eq!(find(&log, 13, &long), Some(0));
+        assert_eq!(find(&log, 13, &short), Some(3));
+        assert_eq!(find(&log, 2, &long), Some(4));
         assert_eq!(find(&log, 1, &long), None);
+        let places = [0, 1, 3, 4, 7].map(|sector| at(&log, sector));
+        assert_eq!(places, [Some(0..3), None, Some(3..4), Some(4..7), None]);
         assert_eq!(data(&log, 4, 1000), [7; 1000]);
         let block = |kind, size, score| {
             Some(Block {
@@ -135,7 +140,7 @@ mod tests {
         log[2 * SECTOR + 200] ^= 1;
         assert_eq!(find(&log, 13, &long), None);
         assert_eq!(put(&mut log, 13, 1000), long);
-        assert_eq!(find(&log, 13, &long), Some(7..10));
+        assert_eq!(find(&log, 13, &long), Some(7));
         let again = piece(7, 3, block(13, 1000, long));
         let doubtful = piece(0, 3, None);
         assert_eq!(

@@ -5,7 +5,7 @@ use std::ops::Range;
 use std::path::Path;
 
 use crate::blocks;
-use crate::format::{Score, BLANK, SECTOR};
+use crate::format::{BLANK, SECTOR};
 use crate::sectors;
 
 /// Sectors of a block that was found in memory and is another on disk: damage that fell between two
@@ -25,11 +25,10 @@ pub struct Taken {
     before: Option<Vec<u8>>,
 }
 
-/// The block of this type and score that an accepted write found in a log, where it is another on disk. None
-/// where it is so on disk too, and where the block is in no sector of the log: it is empty, or waits.
-pub fn damaged(log: &[u8], file: &File, block: Option<(u8, Score)>) -> Option<Damaged> {
-    let (kind, score) = block?;
-    let sectors = blocks::find(log, kind, &score)?;
+/// The sound block that starts at a sector of a log, where it is another on disk. None where it is so on disk
+/// too.
+pub fn damaged(log: &[u8], file: &File, sector: usize) -> Option<Damaged> {
+    let sectors = blocks::at(log, sector)?;
     let (on_disk, unreadable) = on_disk(file, &sectors);
     let differs = on_disk != log[sectors.start * SECTOR..sectors.end * SECTOR];
     differs.then_some(Damaged {

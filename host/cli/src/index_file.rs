@@ -232,15 +232,17 @@ impl Index {
         self.bytes
     }
 
-    /// A request that was lent the index stored a block. Where its bucket was full, the index grows.
-    pub fn stored(&mut self, kind: u8, score: &Score, sector: usize) {
+    /// A request that was lent the index stored a block. Where its bucket was full, the index may grow: whether
+    /// it did.
+    pub fn stored(&mut self, kind: u8, score: &Score, sector: usize) -> bool {
         let hint = entry(kind, score, sector);
         let bucket = bucket(self.bytes.len(), score);
         let (places, _) = self.bytes[bucket.clone()].as_chunks::<ENTRY>();
         match places.iter().rposition(|place| *place == hint) {
             Some(place) => self.note(bucket.start + place * ENTRY),
-            None => self.grow(&hint),
+            None => return self.grow(&hint),
         }
+        false
     }
 
     /// A call that was not lent the index stored a block.
@@ -248,7 +250,9 @@ impl Index {
         let hint = entry(kind, score, sector);
         match enter(&mut self.bytes, &hint) {
             Some(place) => self.note(place),
-            None => self.grow(&hint),
+            None => {
+                self.grow(&hint);
+            }
         }
     }
 
@@ -261,10 +265,10 @@ impl Index {
     /// Has room for twice as many blocks, where it has more than half of those that it was made for: the
     /// hints that there are, in their order, and one more. A bucket that is full before that is full by
     /// chance, or by someone's will: its other blocks are found by the scan.
-    fn grow(&mut self, hint: &[u8; ENTRY]) {
+    fn grow(&mut self, hint: &[u8; ENTRY]) -> bool {
         let length = length_for(2 * self.count);
         if length <= self.bytes.len() || self.bytes.is_empty() {
-            return;
+            return false;
         }
         let mut grown = vec![0; length];
         let there = taken(&self.bytes).chain([hint]);
@@ -273,6 +277,7 @@ impl Index {
             .count();
         self.bytes = grown;
         self.whole = true;
+        true
     }
 
     /// Enters the blocks that start behind those that it has, by their labels alone.
@@ -284,7 +289,9 @@ impl Index {
         for hint in hints {
             match enter(&mut self.bytes, &hint) {
                 Some(place) => self.note(place),
-                None => self.grow(&hint),
+                None => {
+                    self.grow(&hint);
+                }
             }
         }
         self.used = log.len() / SECTOR;
@@ -344,6 +351,13 @@ pub fn hints(path: &Path, kind: u8, score: &Score) -> Vec<u8> {
         let _ = enter(&mut index, hint);
     }
     index
+}
+
+/// The sector that the first hint of an index names.
+pub fn first_hint(index: &[u8]) -> Option<usize> {
+    let hint = taken(index).next()?;
+    let sector = hint.last_chunk::<4>()?;
+    Some(u32::from_be_bytes(*sector) as usize)
 }
 
 /// The bucket of a score, from a file that is an index.

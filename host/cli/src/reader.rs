@@ -5,10 +5,12 @@ use std::path::{Path, PathBuf};
 
 use boundary::Session;
 
+use crate::blocks;
 use crate::date::NO_DAY;
 use crate::format::{used, SECTOR};
 use crate::held;
 use crate::index_file::Index;
+use crate::knowledge::{Knowledge, Lent};
 use crate::lock;
 use crate::log_file::{fits, is_file, load};
 use crate::mark::Mark;
@@ -50,6 +52,8 @@ pub struct Reader {
     bytes: Vec<u8>,
     /// The index beside it, as it was when the log was opened, and with what came since.
     index: Index,
+    /// What is known of both from the last request that was lent the whole log.
+    knowledge: Knowledge,
 }
 
 impl Reader {
@@ -69,6 +73,7 @@ impl Reader {
             mark,
             bytes,
             index,
+            knowledge: Knowledge::default(),
         })
     }
 
@@ -101,7 +106,36 @@ impl Reader {
         self.bytes[start..end].copy_from_slice(&bytes);
         self.mark = mark;
         self.index.extend(&self.bytes);
+        self.knowledge.forget();
         used(&self.bytes) * SECTOR == self.bytes.len()
+    }
+}
+
+impl Reader {
+    /// Answers a write: a block that it takes for held is so on disk.
+    fn meet_write(
+        &mut self,
+        session: Session,
+        message: &[u8],
+        reply: &mut [u8],
+        streams: &mut Streams,
+    ) -> boundary::Served {
+        let log = &mut self.bytes[..self.mark.used * SECTOR];
+        let mut unsound = Vec::new();
+        loop {
+            let index = self.index.lent();
+            let served = boundary::serve(session, message, &NO_DAY, log, &mut [], index, reply);
+            let block = served.outcome.ok().and(session::stored(message, reply));
+            let sector = block.and_then(|(kind, score)| blocks::find(log, kind, &score));
+            if let Some(damaged) = sector.and_then(|at| held::damaged(log, &self.file, at)) {
+                streams.tell(&held::words(&damaged, &self.path));
+                unsound.push(damaged.take(log));
+                self.knowledge.forget();
+                continue;
+            }
+            unsound.into_iter().for_each(|block| block.put_back(log));
+            return served;
+        }
     }
 }
 
@@ -114,30 +148,22 @@ impl Answers for Reader {
         streams: &mut Streams,
     ) -> Result<Served, Failure> {
         self.follow(streams)?;
-        let lent = match session::is_write(message) {
-            true => self.mark.used * SECTOR,
-            false => self.bytes.len(),
-        };
-        let log = &mut self.bytes[..lent];
-        let mut unsound = Vec::new();
-        loop {
-            let index = self.index.lent();
-            let served = boundary::serve(session, message, &NO_DAY, log, &mut [], index, reply);
-            if served.outcome.is_ok() {
-                let block = session::stored(message, reply);
-                if let Some(damaged) = held::damaged(log, &self.file, block) {
-                    streams.tell(&held::words(&damaged, &self.path));
-                    unsound.push(damaged.take(log));
-                    continue;
-                }
+        let served = match session::is_write(message) {
+            true => self.meet_write(session, message, reply, streams),
+            false => {
+                let lent = Lent {
+                    log: &mut self.bytes,
+                    waiting: &mut [],
+                    index: self.index.lent(),
+                };
+                self.knowledge.serve(session, message, &NO_DAY, lent, reply)
             }
-            unsound.into_iter().for_each(|block| block.put_back(log));
-            return Ok(Served {
-                outcome: served.outcome,
-                session: served.session,
-                appended: 0,
-            });
-        }
+        };
+        Ok(Served {
+            outcome: served.outcome,
+            session: served.session,
+            appended: 0,
+        })
     }
 
     /// What it acknowledges is on disk already.

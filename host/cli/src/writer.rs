@@ -7,15 +7,17 @@ use std::os::unix::fs::{FileExt, MetadataExt};
 use std::path::{Path, PathBuf};
 use std::time::Duration;
 
-use boundary::{sha1, Refusal, Session, Walked, FILE_SCORES, MOST_WAITING};
+use boundary::{look_up_by, sha1, Refusal, Session, Walked, FILE_SCORES, MOST_WAITING};
 
+use crate::blocks;
 use crate::date::Dates;
 use crate::disk;
 use crate::entry;
 use crate::escape;
 use crate::format::{start, used, Score, BLANK, MOST_PARTS, SECTOR};
-use crate::held;
+use crate::held::{self, Damaged};
 use crate::index_file::Index;
+use crate::knowledge::{Knowledge, Lent};
 use crate::lock;
 use crate::log_file::{fits, is_file, load};
 use crate::mark::{self, Found, Mark};
@@ -43,6 +45,8 @@ pub struct Writer {
     dates: Dates,
     /// The index beside the log, from the first request on.
     index: Option<Index>,
+    /// What is known of all three from the last request.
+    knowledge: Knowledge,
     /// What the writer of files is lent for scores, from its first call on.
     scores: Vec<u8>,
 }
@@ -94,6 +98,7 @@ impl Writer {
             waits: 0,
             dates: Dates::Today,
             index: None,
+            knowledge: Knowledge::default(),
             scores: Vec::new(),
         };
         log.begin(loaded)?;
@@ -175,14 +180,19 @@ impl Writer {
     ) -> Result<boundary::Served, Failure> {
         let date = self.dates.now()?;
         let end = self.used + self.waits;
-        let (log, waiting) = (&mut self.bytes, &mut self.waiting);
-        let index = self.index.as_mut().map_or(&mut [][..], Index::lent);
-        let served = boundary::serve(session, message, &date, log, waiting, index, reply);
+        let lent = Lent {
+            log: &mut self.bytes,
+            waiting: &mut self.waiting,
+            index: self.index.as_mut().map_or(&mut [][..], Index::lent),
+        };
+        let served = self.knowledge.serve(session, message, &date, lent, reply);
         self.waits = used(&self.waiting);
         self.keep_moved()?;
         if let (true, Some(index)) = (self.used + self.waits > end, &mut self.index) {
             if let Some((kind, score)) = session::stored(message, reply) {
-                index.stored(kind, &score, end);
+                if index.stored(kind, &score, end) {
+                    self.knowledge.forget();
+                }
             }
         }
         Ok(served)
@@ -199,6 +209,7 @@ impl Writer {
         self.scores.resize(FILE_SCORES, 0);
         let (log, waiting, scores) = (&self.bytes, &mut self.waiting, &mut self.scores);
         let written = boundary::write_file(log, waiting, &date, slice, sizes, scores);
+        self.knowledge.forget();
         self.waits = used(&self.waiting);
         if let (true, Some(index)) = (self.used + self.waits > end, &mut self.index) {
             if let Some((kind, score)) = written.ok().and_then(leaf_of) {
@@ -243,23 +254,39 @@ impl Writer {
                 continue;
             }
             if let (Ok(block), 0) = (outcome, appended) {
-                if let Some(damaged) = held::damaged(&self.bytes, &self.file, block) {
+                if let Some(damaged) = self.damaged(block) {
                     // Damage is taken in with nothing waiting.
                     self.settle()?;
                     streams.tell(&held::words(&damaged, &self.path));
                     unsound.push(damaged.take(&mut self.bytes));
+                    self.knowledge.forget();
                     continue;
                 }
             }
-            if appended == 0 {
+            if appended == 0 && !unsound.is_empty() {
                 unsound
                     .into_iter()
                     .for_each(|block| block.put_back(&mut self.bytes));
+                self.knowledge.forget();
             }
             // A reply acknowledges, also where nothing was appended.
             self.in_place()?;
             return Ok((answer, appended));
         }
+    }
+
+    /// The block that a write found in the log in memory, where it is another on disk.
+    fn damaged(&mut self, block: Option<(u8, Score)>) -> Option<Damaged> {
+        let (kind, score) = block?;
+        let sector = match (self.knowledge.is_exact(), &mut self.index) {
+            (true, Some(index)) => {
+                let (log, waiting, index) = (&self.bytes, &self.waiting, index.lent());
+                let place = look_up_by(log, waiting, index, kind, &score).ok()?;
+                (place.sector < self.used).then_some(place.sector)?
+            }
+            _ => blocks::find(&self.bytes, kind, &score)?,
+        };
+        held::damaged(&self.bytes, &self.file, sector)
     }
 
     /// Opens the index beside the log, or makes it.
@@ -270,6 +297,7 @@ impl Writer {
                 let name = self.path.display();
                 streams.working(&format!("making the index of {name}"));
             }));
+            self.knowledge.forget();
             streams.clear_progress();
         }
     }
@@ -316,6 +344,7 @@ impl Writer {
         let date = self.dates.now()?;
         self.bytes.resize(self.sectors * SECTOR, 0);
         let copied = boundary::copy(from, &[], &mut self.bytes, &date, root, allowance);
+        self.knowledge.forget();
         let end = self.end();
         let starts = |at: &usize| start(&self.bytes[at * SECTOR..(at + 1) * SECTOR], *at).is_some();
         let last = (self.used..end).rev().find(starts).unwrap_or(end);

@@ -1,6 +1,7 @@
 //! What an archive under test has to offer.
 
 use second::changes::{Compared, Part};
+use second::known::KNOWN;
 use second::query::Value;
 use second::tree::Run;
 use second::{Refusal, Score, Session};
@@ -50,6 +51,37 @@ pub trait Archive {
         } = lent;
         let (date, waiting) = (Some(date), Some(waiting));
         second::request::serve_by(session, message, date, log, waiting, index, reply)
+    }
+
+    /// Whether its requests are tried by what is known, too.
+    fn takes_known(&self) -> bool {
+        false
+    }
+
+    /// What is known of a log, its waiting part and an index, learned from their bytes.
+    fn learn(&mut self, log: &[u8], waiting: &[u8], index: &[u8]) -> [u8; KNOWN] {
+        second::known::learn(log, waiting, index).bytes()
+    }
+
+    /// One request by what is known, and what is known then.
+    fn serve_known(
+        &mut self,
+        known: &mut [u8; KNOWN],
+        session: Session,
+        message: &[u8],
+        date: &[u8],
+        lent: Buffers,
+        reply: &mut [u8],
+    ) -> (u8, Session) {
+        let Buffers {
+            log,
+            waiting,
+            index,
+        } = lent;
+        let (date, both) = (Some(date), Some(&mut *waiting));
+        let answer = second::request::serve_by(session, message, date, log, both, index, reply);
+        *known = second::known::learn(log, waiting, index).bytes();
+        answer
     }
 
     /// Where the block of a score and type starts, by an index: none for the empty block.

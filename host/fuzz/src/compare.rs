@@ -1,12 +1,17 @@
 //! Asking the archive under test and the second program alike, and comparing.
 
+use second::crc32::crc32;
 use second::ledger::Prediction;
 use second::{Refusal, Session};
 
 use crate::archive::{Archive, Buffers};
+use crate::known::{self, Left};
 
 /// The longest reply buffer that is lent.
 pub const LONGEST_REPLY: usize = 65_600;
+
+/// One request of so many, by its bytes, is asked by what is known besides.
+const KNOWN_EVERY: u32 = 3;
 
 /// The steps of a case, written down only if wanted.
 pub struct Trace {
@@ -85,6 +90,8 @@ impl Compare {
             reply_len,
         } = asked;
         let (tested, right) = lent;
+        let by_known = archive.takes_known() && crc32(message).is_multiple_of(KNOWN_EVERY);
+        let before = by_known.then(|| tested.clone());
         let indexed = archive.takes_index();
         self.index = if indexed { index.to_vec() } else { Vec::new() };
         let mut index = self.index.clone();
@@ -141,12 +148,24 @@ impl Compare {
                 None => Ok(after),
             }
         };
+        let reply = by_known.then(|| self.second[..reply_len].to_vec());
         if result.is_err() {
             self.restore();
         } else {
             self.tested[..written].copy_from_slice(&self.pattern[..written]);
             self.second[..written].copy_from_slice(&self.pattern[..written]);
         }
+        let (Ok(_), Some(before), Some(reply)) = (&result, before, reply) else {
+            return result;
+        };
+        let left = Left {
+            answer: second,
+            reply,
+            parts: right,
+            index: &self.index,
+        };
+        let buffer = self.pattern[..reply_len].to_vec();
+        known::check(archive, asked, before, buffer, &left)?;
         result
     }
 

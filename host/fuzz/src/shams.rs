@@ -1,6 +1,7 @@
 //! Shams: the second program with one rule broken each. The fuzzer has to catch them all.
 
 use second::changes::{Compared, Part};
+use second::known::KNOWN;
 use second::log::{joined, shaped_at, used, write_in, Contents};
 use second::message::{accept, read_reply, silent, write_reply, Lent, Request};
 use second::query::Value;
@@ -16,6 +17,7 @@ use crate::sham_copy;
 use crate::sham_dates;
 use crate::sham_doubt;
 use crate::sham_index;
+use crate::sham_known;
 use crate::sham_texts::{no_overlong, no_surrogate, no_zero, not_cut_off, not_past_end};
 use crate::sham_tools::{
     lower_label, only_blank_doubts, records_and_doubtful, refit, refuse, reply_data, report_text,
@@ -50,7 +52,7 @@ fn restore(log: &mut [u8], waiting: &mut [u8], before: &(Vec<u8>, Vec<u8>)) {
 }
 
 /// Appends a block that is held already, if the waiting part has room.
-fn append(log: &[u8], waiting: &mut [u8], edition: Edition, kind: u8, data: &[u8]) {
+pub fn append(log: &[u8], waiting: &mut [u8], edition: Edition, kind: u8, data: &[u8]) {
     let waits = used(waiting);
     if waiting.len() / SECTOR - waits >= edition.sectors_for(data.len()) {
         let first = used(log) + waits;
@@ -240,7 +242,7 @@ impl Archive for Sham {
     }
 
     fn takes_index(&self) -> bool {
-        sham_index::RULES.contains(&self.broken)
+        sham_index::RULES.contains(&self.broken) || self.takes_known()
     }
 
     fn serve_by(
@@ -252,6 +254,26 @@ impl Archive for Sham {
         reply: &mut [u8],
     ) -> (u8, Session) {
         sham_index::serve(self.broken, session, message, date, lent, reply)
+    }
+
+    fn takes_known(&self) -> bool {
+        sham_known::RULES.contains(&self.broken)
+    }
+
+    fn learn(&mut self, log: &[u8], waiting: &[u8], index: &[u8]) -> [u8; KNOWN] {
+        sham_known::learned(self.broken, log, waiting, index)
+    }
+
+    fn serve_known(
+        &mut self,
+        known: &mut [u8; KNOWN],
+        session: Session,
+        message: &[u8],
+        date: &[u8],
+        lent: Buffers,
+        reply: &mut [u8],
+    ) -> (u8, Session) {
+        sham_known::serve(self.broken, known, session, message, date, lent, reply)
     }
 
     fn look_up_by(

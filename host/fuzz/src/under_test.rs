@@ -3,6 +3,7 @@
 use crate::archive::{Archive, Buffers};
 use boundary as proved;
 use second::changes::{Compared, Part, Side};
+use second::known::KNOWN;
 use second::query::Value;
 use second::tree::{Place, Run};
 use second::{Refusal, Score, Session};
@@ -21,6 +22,24 @@ struct Proved {
 /// The number of a refusal, 0 for none.
 fn number(outcome: Result<(), proved::Refusal>) -> u8 {
     outcome.map_or_else(proved::Refusal::number, |()| 0)
+}
+
+fn session_of(session: Session) -> proved::Session {
+    match session {
+        Session::Fresh => proved::Session::Fresh,
+        Session::Ready => proved::Session::Greeted,
+        Session::Closed => proved::Session::Closed,
+    }
+}
+
+/// The number and the session afterwards.
+fn answer(served: proved::Served) -> (u8, Session) {
+    let after = match served.session {
+        proved::Session::Fresh => Session::Fresh,
+        proved::Session::Greeted => Session::Ready,
+        proved::Session::Closed => Session::Closed,
+    };
+    (number(served.outcome), after)
 }
 
 /// A refusal with its sector.
@@ -83,18 +102,41 @@ impl Archive for Proved {
             waiting,
             index,
         } = lent;
-        let before = match session {
-            Session::Fresh => proved::Session::Fresh,
-            Session::Ready => proved::Session::Greeted,
-            Session::Closed => proved::Session::Closed,
-        };
-        let served = proved::serve(before, message, date, log, waiting, index, reply);
-        let after = match served.session {
-            proved::Session::Fresh => Session::Fresh,
-            proved::Session::Greeted => Session::Ready,
-            proved::Session::Closed => Session::Closed,
-        };
-        (number(served.outcome), after)
+        let session = session_of(session);
+        answer(proved::serve(
+            session, message, date, log, waiting, index, reply,
+        ))
+    }
+
+    fn takes_known(&self) -> bool {
+        true
+    }
+
+    fn learn(&mut self, log: &[u8], waiting: &[u8], index: &[u8]) -> [u8; KNOWN] {
+        *proved::Known::learn(log, waiting, index).bytes()
+    }
+
+    fn serve_known(
+        &mut self,
+        known: &mut [u8; KNOWN],
+        session: Session,
+        message: &[u8],
+        date: &[u8],
+        lent: Buffers,
+        reply: &mut [u8],
+    ) -> (u8, Session) {
+        let Buffers {
+            log,
+            waiting,
+            index,
+        } = lent;
+        let session = session_of(session);
+        let mut then = proved::Known::of(*known);
+        let served = proved::serve_known(
+            &mut then, session, message, date, log, waiting, index, reply,
+        );
+        *known = *then.bytes();
+        answer(served)
     }
 
     fn write_file(

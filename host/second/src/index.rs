@@ -64,14 +64,17 @@ pub fn lookup(log: &[u8], index: &[u8], kind: u8, score: &Score) -> Lookup {
     if *score == ZERO_SCORE {
         return Lookup::Empty;
     }
-    let bucket = &index[bucket(index.len(), score)];
-    match bucket
-        .chunks_exact(HINT)
-        .find_map(|entry| true_hint(log, entry, kind, score))
-    {
+    match hinted(log, index, kind, score) {
         Some(block) => Lookup::Found(block),
         None => Contents::of(log).lookup(kind, score),
     }
+}
+
+/// The block of the first entry of the bucket that holds true.
+pub fn hinted(log: &[u8], index: &[u8], kind: u8, score: &Score) -> Option<Block> {
+    let bucket = &index[bucket(index.len(), score)];
+    let mut entries = bucket.chunks_exact(HINT);
+    entries.find_map(|entry| true_hint(log, entry, kind, score))
 }
 
 /// The sound block of this score and type at the sector that an entry for them names.

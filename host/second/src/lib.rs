@@ -12,6 +12,7 @@ pub mod crc32;
 pub mod edition;
 pub mod index;
 pub mod kind;
+pub mod known;
 pub mod ledger;
 pub mod log;
 pub mod message;
