@@ -43,6 +43,25 @@ uint32_t skywimple_serve(uint8_t session, const uint8_t *message, size_t message
                          uint8_t *waiting, size_t waiting_len, uint8_t *index, size_t index_len,
                          uint8_t *reply, size_t reply_len);
 
+/* Learns what is known of log, waiting and index, to the 25 bytes of known: how many sectors of log are
+   used, and of waiting, eight bytes each, the first doubtful sector of both and one, or 0 for none, in
+   eight, and 1 if index leads to every sound block, else 0. Numbers have their highest byte first.
+   Returns the number (2 if known_len is not 25: nothing changes). */
+uint32_t skywimple_learn(const uint8_t *log, size_t log_len, const uint8_t *waiting,
+                         size_t waiting_len, const uint8_t *index, size_t index_len,
+                         uint8_t *known, size_t known_len);
+
+/* Answers one request as skywimple_serve does, by what is known; known then holds what is known after
+   it. If it holds what skywimple_learn would write for log, waiting and index, all is as
+   skywimple_serve leaves it, and known again holds what skywimple_learn would write. Whatever else
+   changes a byte of the three, it has to be learned anew. 2 also if known_len is not 25: nothing
+   changes. */
+uint32_t skywimple_serve_known(uint8_t session, const uint8_t *message, size_t message_len,
+                               const uint8_t *date, size_t date_len, uint8_t *log, size_t log_len,
+                               uint8_t *waiting, size_t waiting_len, uint8_t *index,
+                               size_t index_len, uint8_t *reply, size_t reply_len, uint8_t *known,
+                               size_t known_len);
+
 /* Looks up a score, 20 bytes, and type by index, of any length and bytes: the block of the first true
    entry of its bucket, else the one that the scan finds. number = result % 256 (3, 9, 11 or 12), the
    block's size in bytes = result / 256 % 65536, and the sector where it starts, or the first doubtful
