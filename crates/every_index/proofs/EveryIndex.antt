@@ -131,7 +131,7 @@ no-clash-second x before later ok more idle cs hurt D =
 
 -- ---- whatever happens
 
-event-same : (index : Bytes) (s : Standing archive) (b : Books archive) (e : Event archive) → Stands archive s b → AgreedAtRequest b e
+pub event-same : (index : Bytes) (s : Standing archive) (b : Books archive) (e : Event archive) → Stands archive s b → AgreedAtRequest b e
     → happensBy index s e ≡ happen archive s e
 event-same index s b (ask q) S A =
     ap (λ (t : Turn (Seen Answer Session Lent) (Standing archive)). record { shown = answered (t .shown); state = t .state }) (as-scan s b (record { item = q; index = index }) S A)
@@ -156,7 +156,7 @@ every-index x es ok =
 
 -- ---- where nothing is healed
 
-one-event : (b : Books archive) (e : Event archive) → Unhealed b e → OneOfAName archive nameOf (b .ledger) → OneOfAName archive nameOf (recountEvent archive b e .state .ledger)
+pub one-event : (b : Books archive) (e : Event archive) → Unhealed b e → OneOfAName archive nameOf (b .ledger) → OneOfAName archive nameOf (recountEvent archive b e .state .ledger)
 one-event b (ask q) ok O = one-request archive nameOf adds-new-names b q (ok .0) O
 one-event b (harm cs hurt) ok O = one-told archive nameOf (b .ledger .rows) cs (b .ledger) (λ r m. m) (ok .1) O
 one-event b (stop l) ok O = one-stop archive nameOf (b .ledger) O
@@ -164,7 +164,7 @@ one-event b (crash q arrived torn l hurt) ok O =
     one-crashed archive nameOf arrived torn (beginning archive b q) (one-beginning archive nameOf adds-new-names b q (ok .0 .0) O)
 one-event b (grow g) ok O = O
 
-agreed-at : (b : Books archive) (e : Event archive) → OneOfAName archive nameOf (b .ledger) → AgreedAtRequest b e
+pub agreed-at : (b : Books archive) (e : Event archive) → OneOfAName archive nameOf (b .ledger) → AgreedAtRequest b e
 agreed-at b (ask q) O = one-agreed b O
 agreed-at b (harm cs hurt) O = tt
 agreed-at b (stop l) O = tt

@@ -59,13 +59,14 @@ lent-alike log (some w) past b c ok S =
     subst (λ (v : Verdict). (t .shown ≡ recountCall v b c .shown) × Stands archive (t .state) (recountCall v b c .state)) told
     (call-alike log w past b c (ok .0) S (verdict (length log) (length w) c) refl)
 
-alike : (s : Standing archive) (b : Books archive) (h : Happening) → May b h → Stands archive s b → Goes s b h
+pub alike : (s : Standing archive) (b : Books archive) (h : Happening) → May b h → Stands archive s b
+    → (happenOrWrite s h .shown ≡ recountOrWrite b h .shown) × Stands archive (happenOrWrite s h .state) (recountOrWrite b h .state)
+unfolding Goes
 alike s b (event e) ok S = event-alike s b e ok S
 alike s b (call c) ok S = lent-alike (s .log .log) (s .log .waiting) (s .past) b c ok S
 
 agree : (x : Extent) (hs : List Happening) → Along May recountOrWrite (blank-books archive x) hs
     → Agree (Stands archive) (trace happenOrWrite (blank-log archive x) hs) (trace recountOrWrite (blank-books archive x) hs)
-unfolding Goes
 agree x hs ok = along-agrees happenOrWrite recountOrWrite (Stands archive) May alike (blank-log archive x) (blank-books archive x) hs ok (begins-blank archive lawful x)
 
 pub writing-among-events : WritingAmongEvents
@@ -82,6 +83,13 @@ cut-of-bytes b (q ∷ qs) A = let t = recount archive b q in (A .0, go (eqb (t .
     go true ys h = h
     go false ys h = tt
 
+pub messages-of-bytes : (b : Books archive) (c : Call) → small (c .slice) ≡ true → (d : ℕ) → verdictIn (extentOf (b .begin)) c ≡ passesAt d → AllOfBytes archive (messagesBy b c d)
+messages-of-bytes b c sm d e =
+    let x = extentOf (b .begin) in
+    let w = on (x .waiting) 0 (λ m. m) in
+    let P = passes (x .size) w c d e in
+    cut-of-bytes b _ (requests-of-bytes (c .date) (replicate replyRoom 0) (length (b .past)) (blocksAt d c) (writable-call (x .size) w c d sm P))
+
 -- what a list of events followed by others is to the ledger
 Becomes : Books archive → List (Event archive) → Books archive → Type 0
 Becomes b es m = Along (Possible archive) (recountEvent archive) b es × (trace (recountEvent archive) b es .left ≡ m)
@@ -96,12 +104,7 @@ becomes-both b es more m n B C = (
 call-becomes : (b : Books archive) (c : Call) → small (c .slice) ≡ true → (v : Verdict) → verdictIn (extentOf (b .begin)) c ≡ v → Becomes b (callEvents v b c) (recountCall v b c .state)
 unfolding Becomes
 call-becomes b c sm (refusedBy y) e = (tt, refl)
-call-becomes b c sm (passesAt d) e =
-    let x = extentOf (b .begin) in
-    let P = passes (x .size) (on (x .waiting) 0 (λ m. m)) c d e in
-    let all = requests-of-bytes (c .date) (replicate replyRoom 0) (length (b .past)) (blocksAt d c) (writable-call (x .size) (on (x .waiting) 0 (λ m. m)) c d sm P) in
-    let some-of = cut-of-bytes b _ all in
-    (possible-asks archive b (messagesBy b c d) some-of, recount-left archive b (messagesBy b c d))
+call-becomes b c sm (passesAt d) e = (possible-asks archive b (messagesBy b c d) (messages-of-bytes b c sm d e), recount-left archive b (messagesBy b c d))
 
 becomes : (b : Books archive) (hs : List Happening) → Along May recountOrWrite b hs → Becomes b (expanded b hs) (trace recountOrWrite b hs .left)
 unfolding Becomes expanded

@@ -1,2 +1,3 @@
 -- What is claimed of histories in which writing calls stand between events.
 pub mod Happenings
+pub mod ByIndex
