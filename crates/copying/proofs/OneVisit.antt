@@ -24,7 +24,8 @@ use Rattle.visit.proofs.Visits.{visitBy}
 use Rattle.walk_laws.proofs.Found.{not-done}
 use Rattle.copying.specs.PostOrder.{Role, typeOf, PostOrder, postOrder, later, goOn, behind}
 use Rattle.copying.specs.Promises.{Shown, HoldsAll, Linked}
-use Rattle.copying.proofs.Visited.{OfFirst, done-first, first-on, holds-parts, holds-later, holds-earlier, holds-on, SpentWithin, within-later, within-on, LinksFirst, links-join, links-later, Any}
+use Rattle.copying.proofs.Visited.{OfFirst, done-first, first-on, holds-parts, holds-later, holds-earlier, holds-on, SpentWithin, within-later, within-on, LinksFirst}
+use Rattle.copying.proofs.Visited.{links-join, links-later, Any}
 use Rattle.copying.proofs.Visited.{followed-again, behind-answer, Counted, counted-behind}
 
 -- a refusal of another number

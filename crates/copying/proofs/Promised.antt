@@ -1,7 +1,7 @@
 -- The promises of a copy: by its tests, then by the blocks that it stores.
 use mathlib.Core.Path.{_≡_, refl, sym, ap, subst, _∙_}
 use mathlib.Core.Bool.{Bool, true, false, cond, true≢false}
-use mathlib.Core.List.{List, [], _∷_, _++_, List·Memᴰ, Memᴰ·append-left}
+use mathlib.Core.List.{List, [], _∷_, _++_, List·Memᴰ, List·Memᴰ·not-nil, Memᴰ·append-left}
 use mathlib.Core.Logic.{inl, inr}
 use Prim.Native.Nat.{ℕ, _/_, _%_, _≤_, _^_}
 use native.Mathlib.Omega.{arith}
@@ -26,11 +26,12 @@ use Rattle.walk.specs.Walk.{walkOf, mostAllowance}
 use Rattle.walk_laws.proofs.Found.{not-done, walk-found}
 use Rattle.copying.specs.Copy.{Copied, stopped, copyRoot, copyIn, copyAllowed, copyOf}
 use Rattle.copying.specs.PostOrder.{Visit, PostOrder, postOrderIn, postOrderOf}
-use Rattle.copying.specs.Promises.{Holds, HoldsAll, wroteAll, Writes, none, OnlyWrites, CopyIsWrites, StopsAt, ended, refused, CopyStopsAt, OfSecond, RefusedBlock, OnlyWhereRefused, RoomAndNoClash}
+use Rattle.copying.specs.Promises.{Holds, HoldsAll, Linked, wroteAll, Writes, none, OnlyWrites, CopyIsWrites, StopsAt, ended, refused, CopyStopsAt, OfSecond, RefusedBlock}
+use Rattle.copying.specs.Promises.{OnlyWhereRefused, RoomAndNoClash}
 use Rattle.copying.specs.Promises.{CopiedStays, NoDangling, EndsWhole, AsWalk, CopyIsWalk}
 use Rattle.copying.proofs.Stored.{Fits}
 use Rattle.copying.proofs.Grown.{shown-holds, Grown, grown-same, root-holds}
-use Rattle.copying.proofs.Writes.{refuses-second, not-of-second, writes-grown, writes-held, stops-at}
+use Rattle.copying.proofs.Writes.{refuses-second, not-of-second, writes-grown, writes-linked, writes-held, stops-at}
 use Rattle.copying.proofs.InPostOrder.{parts-allowed, copy-is-stores}
 use Rattle.copying.proofs.OneVisit.{of-first}
 use Rattle.copying.proofs.Visited.{OfFirst}
@@ -119,8 +120,15 @@ module _ (log waiting date score second : Bytes) (n : ℕ) where
   only-writes = go (tested (tape log waiting) date score n second lent)
     where
       go : Tested lent (tape log waiting) date score n second outcome → OnlyWrites (tape log waiting) date second (outcome .second)
-      go (failed why _ _ e) = record { visits = []; writes = none; behind = ap (λ (c : Copied). c .second) e }
-      go (passed l d a e) = let f = written l d in record { visits = f .0; writes = f .1; behind = f .2 }
+      go (failed why _ _ e) = record { visits = []; writes = none; behind = ap (λ (c : Copied). c .second) e; linked = λ v m. absurd (List·Memᴰ·not-nil m) }
+      go (passed l d a e) =
+          let f = written l d in
+          record {
+            visits = f .0;
+            writes = f .1;
+            behind = f .2;
+            linked = λ v m. subst (λ (s : Bytes). Linked s (v .role) (v .bytes)) (sym (f .2)) (writes-linked (tape log waiting) date d (f .1) (fits l) v m);
+          }
 
   grown : Grown (reached .visits) date second (outcome .second)
   unfolding Wrote

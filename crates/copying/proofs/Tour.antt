@@ -29,7 +29,8 @@ use Rattle.copying.specs.PostOrder.{entryLast, topLast, rootLast, postOr
 use Rattle.copying.specs.Promises.{HoldsAll, Linked, PostOrderIsWalk, EachVisitOnce}
 use Rattle.copying.proofs.Below.{below-entry, below-a-root, below-a-top}
 use Rattle.copying.proofs.OneVisit.{of-first, absence-first, walks-by, within-by, shown-by, again-by, links-by, counted-by, first-by}
-use Rattle.copying.proofs.Visited.{OfFirst, done-first, first-on, holds-later, holds-on, SpentWithin, within-later, within-on, LinksFirst, links-later, links-on, Any, followed-again, followed-answer}
+use Rattle.copying.proofs.Visited.{OfFirst, done-first, first-on, holds-later, holds-on, SpentWithin, within-later, within-on, LinksFirst, links-later, links-on, Any}
+use Rattle.copying.proofs.Visited.{followed-again, followed-answer}
 use Rattle.copying.proofs.Visited.{Counted, counted-followed}
 
 -- behind n visits
@@ -126,7 +127,8 @@ module _ (nest left : ℕ) (role : Role) (count : ℕ) (score : Bytes) (B : Byte
         (λ q b d L′ h. let T = f (something-left q) b in
         linked (something-left q) b L′ (ap (λ (w : Walked). w .end) (sym (T .walks L′)) ∙ ap (λ (p : PostOrder). p .answer .end) (T .again L L′ d h) ∙ d));
     counted = λ L. counted-by role count score (ltb 16 nest) (eqb left 0) (held L (typeOf role) score) (absence L) (λ b. B b L) (λ q b. f (something-left q) b .counted L);
-    first = λ L. first-by role count score (ltb 16 nest) (eqb left 0) (held L (typeOf role) score) (absence L) (λ b. B b L) (absence-first L) (λ q b. f (something-left q) b .first L);
+    first = λ L. first-by role count score (ltb 16 nest) (eqb left 0) (held L (typeOf role) score) (absence L) (λ b. B b L) (absence-first L)
+        (λ q b. f (something-left q) b .first L);
   }
 
 -- ---- entries and directories
@@ -175,7 +177,10 @@ root-tour score left =
 
 pub tests-tour : (lent : Bool) (score : Bytes) (n : ℕ) → Tour 0 (λ L. postOrderIn lent L score n) (λ L. walkIn lent L score n)
 unfolding postOrderIn walkIn
-tests-tour lent score n = cond-tour lent _ _ _ _ (cond-tour (ltb mostAllowance n) _ _ _ _ (stops-there 0 0 Allowance (of-first Allowance refl refl)) (root-tour score n)) (stops-there 0 0 LogLength (of-first LogLength refl refl))
+tests-tour lent score n =
+    cond-tour lent _ _ _ _
+    (cond-tour (ltb mostAllowance n) _ _ _ _ (stops-there 0 0 Allowance (of-first Allowance refl refl)) (root-tour score n))
+    (stops-there 0 0 LogLength (of-first LogLength refl refl))
 
 pub post-order-is-walk : PostOrderIsWalk
 post-order-is-walk log waiting score n = tests-tour (lentAllowed (length log) (length waiting)) score n .walks (tape log waiting)

@@ -1,8 +1,8 @@
 -- A list of writes: what it leaves of the second log, and how storing a list ends.
 use mathlib.Core.Path.{_≡_, refl, sym, ap, ap₂, subst, _∙_}
 use mathlib.Core.Bool.{Bool, true, false}
-use mathlib.Core.List.{List, [], _∷_, _++_, List·Memᴰ, List·Memᴰ·head, List·Memᴰ·tail}
-use mathlib.Core.Logic.{inl, inr}
+use mathlib.Core.List.{List, [], _∷_, _++_, List·Memᴰ, List·Memᴰ·head, List·Memᴰ·tail, List·Memᴰ·not-nil, List·Memᴰ·cases-cons}
+use mathlib.Core.Logic.{_⊎_, inl, inr}
 use mathlib.Core.Option.{none as nothing, some}
 use Prim.Native.Nat.{ℕ, _≤_, _^_}
 use lib.ListN.{length}
@@ -28,7 +28,7 @@ use Rattle.copying.specs.PostOrder.{typeOf, Visit, postOrder, stored, st
 use Rattle.copying.specs.Promises.{Holds, Shown, HeldIn, HoldsAll, Linked, wrote, wroteAll, Writes, none, next, Refuses, no-room, clash, StopsAt, ended, OfSecond}
 use Rattle.copying.specs.Promises.{refused as refusedAt}
 use Rattle.copying.proofs.Stored.{held-named, Stored, new, there, refused, Fits, stored-alone}
-use Rattle.copying.proofs.Grown.{shown-holds, Grown, grown-same, grown-again, grown-written}
+use Rattle.copying.proofs.Grown.{linked-holds, shown-holds, Grown, grown-same, grown-again, grown-written}
 use Rattle.copying.proofs.Visited.{SpentWithin, LinksFirst}
 
 pub not-of-second {ℓ} : {A : Type ℓ} {e : End} → OfSecond e → e ≡ Done → A
@@ -132,6 +132,19 @@ module _ (first date : Bytes) (d : isDate date ≡ true) where
       let S = stored-shown s date (typeOf (v .role)) (v .score) (v .bytes) (stored date v s) (stored-visit s v fit h)
       (shown-writable first (typeOf (v .role)) (v .score) (v .bytes) h .scored) q in
       (shown-holds (wrote date v s) (wroteAll date vs (wrote date v s)) (writes-grown vs w (λ x m. m) fit₁ .stays .still-held) S, writes-held w fit₁)
+
+  -- and what it links to
+  pub writes-linked : {vs : List Visit} {s : Bytes} → Writes first date vs s → Fits s → (v : Visit) → List·Memᴰ v vs → Linked (wroteAll date vs s) (v .role) (v .bytes)
+  unfolding wroteAll
+  writes-linked none fit x m = absurd (List·Memᴰ·not-nil m)
+  writes-linked {s = s} (next {v = v} {vs = vs} h l q w) fit x m =
+      go (List·Memᴰ·cases-cons m) (λ k. writes-linked w (fits-on (grown-wrote (v ∷ []) s v fit h (List·Memᴰ·head refl) l) fit) x k)
+    where
+      go : (x ≡ v) ⊎ List·Memᴰ x vs → (List·Memᴰ x vs → Linked (wroteAll date vs (wrote date v s)) (x .role) (x .bytes)) → Linked (wroteAll date (v ∷ vs) s) (x .role) (x .bytes)
+      go (inl e) f =
+          linked-holds s (wroteAll date (v ∷ vs) s) (writes-grown (v ∷ vs) (next h l q w) (λ y k. k) fit .stays .still-held)
+          (subst (λ (y : Visit). Linked s (y .role) (y .bytes)) (sym e) l)
+      go (inr k) f = f k
 
   -- ---- how storing a list ends
 

@@ -98,8 +98,10 @@ pub record OnlyWrites (first date second second′ : Bytes) : Type 0 where
   pub visits : List Visit
   pub writes : Writes first date visits second
   pub behind : second′ ≡ wroteAll date visits second
+  pub linked : (v : Visit) → List·Memᴰ v visits → Linked second′ (v .role) (v .bytes)
 
--- "appended to that log itself": the second log is what a list of writes leaves, one after the other, each settled at once
+-- "appended to that log itself": the second log is what a list of writes leaves, one after the other, each settled at once; in the end too it has all that the
+-- blocks written link to, each by every visit that wrote it or met it there
 abbrev pub CopyIsWrites : Type 0
 CopyIsWrites = (log waiting date score second : Bytes) (n : ℕ)
     → OnlyWrites (tape log waiting) date second (copyOf log waiting date score second n .second)
@@ -117,6 +119,7 @@ pub data StopsAt (first date : Bytes) (p : PostOrder) (second : Bytes) (c : Copi
       → HeldIn first v → Linked (c .second) (v .role) (v .bytes) → Refuses (c .second) date (typeOf (v .role)) (v .bytes) (c .answer .end)
       → c .answer .visits ≡ v .spent → v .spent ≤ p .answer .visits → StopsAt first date p second c
 
+-- which of the two
 abbrev pub CopyStopsAt : Type 0
 CopyStopsAt = (log waiting date score second : Bytes) (n : ℕ) → copyAllowed (length log) (length waiting) (length second) ≡ true → isDate date ≡ true
     → StopsAt (tape log waiting) date (postOrderOf log waiting score n) second (copyOf log waiting date score second n)
