@@ -1,10 +1,10 @@
 //! The blocks of a card, gathered from a long log into a short one in memory, in which the proved search
-//! finds them at once. They are read by messages, with the index of the log, and stored by messages. What
-//! a read by index answers with is a sound block of that type and score (`HintHolds`), and where one sector
-//! of the log alone says that it begins one, the very block that the scan finds. So each block of the short
-//! log is held by the long one with the same bytes, and a value that the search gives there, or 25 or 26,
-//! is the long log's own (`AnsweredElsewhere`). Any other refusal, and any block that could not be had so,
-//! is a matter for the search in the long log itself.
+//! finds them at once. They are read by messages, with the index of the log, and stored by messages. Of a
+//! type and score that one sector of the log alone says it begins, no more than one block is sound, and a
+//! read by index answers with it as the scan does (`OneBlockIsTheScans`). So each block of the short log is
+//! held by the long one with the same bytes, and a value that the search gives there, or 25 or 26, is the
+//! long log's own (`AnsweredElsewhere`). Any other refusal, and any block that could not be had so, is a
+//! matter for the search in the long log itself.
 
 use boundary::{search, sha1, sound_at, Refusal, Value};
 
@@ -106,7 +106,8 @@ impl Gathered {
             return true;
         }
         let (scores, _) = block.as_chunks::<20>();
-        let offsets = (0..).map(|at| offset + at * entry.span(level - 1));
+        let before = |at| entry.span(level - 1).saturating_mul(at);
+        let offsets = (0..).map(|at| offset.saturating_add(before(at)));
         let within = offsets.take_while(|offset| *offset < entry.size);
         let mut below = scores.iter().zip(within);
         below.all(|(score, offset)| self.below(entry, level - 1, score, offset))

@@ -70,8 +70,8 @@ newer mark: an older one cannot tell what is lost. Copy the mark first, then the
 ";
 
 pub const INDEX: &str = "\
-Writes LOG.index, where `serve`, `get` and `search` look first for a block: reading it then takes as long in a long
-log as in a short one. Prints how many blocks it has. There is seldom a need: the first writer of a log
+Writes LOG.index, where `serve`, `get` and `search` look first for a block: reading it then takes as long in
+a long log as in a short one. Prints how many blocks it has. There is seldom a need: the first writer of a log
 makes the index, each one keeps it and makes it anew where it is missing or another log's.
 An index is a hint. Each block is looked at before it counts, and where no hint holds true the log is looked
 through as without one: an index that is missing, old, damaged or another log's changes no answer, and
