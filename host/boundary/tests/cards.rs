@@ -121,5 +121,7 @@ fn a_card_has_at_most_4096_bytes() {
     let card: String = (0..257).map(|i| format!("K{i:07}=absent\n")).collect();
     assert!(is_card(&card.as_bytes()[..4096]));
     assert!(!is_card(card.as_bytes()));
-    assert!(!is_card(&[&card.as_bytes()[..4096], b"L=absent\n"].concat()));
+    assert!(!is_card(
+        &[&card.as_bytes()[..4096], b"L=absent\n"].concat()
+    ));
 }
