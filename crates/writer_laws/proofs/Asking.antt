@@ -187,7 +187,8 @@ module _ (log date buffer : Bytes) (dated : isDate date ≡ true) (room : steps.
       let o = steps.step (getD past i Fresh) (writeMessage x) (some date) L buffer in
       let one = one-write log w date buffer al dated room x (A .0) (getD past i Fresh) g in
       let past′ = past ++ (o .session ∷ []) in
-      let rest = run xs (K .part) past′ (ap (λ (n : ℕ). lentAllowed (length log) n) (K .long) ∙ al) (A .1) (omega (arith, length-append past (o .session ∷ []))) (front-stays past (o .session ∷ []) i h ∙ g) in
+      let rest = run xs (K .part) past′ (ap (λ (n : ℕ). lentAllowed (length log) n) (K .long) ∙ al) (A .1)
+      (omega (arith, length-append past (o .session ∷ []))) (front-stays past (o .session ∷ []) i h ∙ g) in
       let there = subst (λ (M : Lent). Same M past′ (asked M date xs) (storeAll M date xs .lent) (numbers M date xs)) (sym (K .lent)) rest in
       let all = subst (λ (l : Lent). Same l past′ (going (endOf (a .receipt .stored)) (asked (a .lent) date xs)) (onward (endOf (a .receipt .stored)) (a .lent) (storeAll (a .lent) date xs) .lent)
       (going (endOf (a .receipt .stored)) (numbers (a .lent) date xs))) (sym (one .lent)) (ways (endOf (a .receipt .stored)) (a .lent) past′ xs there) in

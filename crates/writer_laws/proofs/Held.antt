@@ -119,7 +119,8 @@ module _ (log w date : Bytes) (x : Typed) (allowed : lentAllowed (length log) (l
       row = newRow L date (x .kind) d
 
       go : (b : Bool) → roomFor L (partsFor date d) ≡ b
-          → Kept log w x (cond b (afterStore (receipt (sha1Of d) (New (record { 0 = used (oneLog L) }))) (appendRow L (newRow L date (x .kind) d))) (afterStore (receipt (sha1Of d) (NotStored NoRoom)) L))
+          → Kept log w x (cond b (afterStore (receipt (sha1Of d) (New (record { 0 = used (oneLog L) }))) (appendRow L (newRow L date (x .kind) d)))
+          (afterStore (receipt (sha1Of d) (NotStored NoRoom)) L))
       go true q =
           let room = room-one log (some w) (partsFor date d) q in
           let v : valid (newRow L date (x .kind) d) ≡ true =

@@ -162,7 +162,8 @@ module _ (slice : Bytes) (dsize psize depth : ℕ) (d-from : 1 ≤ dsize) (d-to 
           let F = fill-from log w page made o d (omega (arith, size-is)) (λ x _ h. every x h) in
           let G = fill-files log w made o d in
           let counted : r .filled .count ≡ n = F .0 ∙ ap (λ (k : ℕ). min (length d) (k - o)) size-is in
-          let room : n ≤ length (r .buffer) = omega (arith, counted, buffer-long (lentAllowed (length log) (length w)) (tape log w) made o d (course (lentAllowed (length log) (length w)) (tape log w) made o d)) in
+          let lent = lentAllowed (length log) (length w) in
+          let room : n ≤ length (r .buffer) = omega (arith, counted, buffer-long lent (tape log w) made o d (course lent (tape log w) made o d)) in
           let front : take n (r .buffer) ≡ take n (drop o slice) =
           ext-getD 0 (take n (r .buffer)) (take n (drop o slice)) (length-take-le n (r .buffer) room ∙ sym (length-take-le n (drop o slice) (omega (arith, length-drop o slice))))
           (λ i h. let g : i < n = omega (arith, h, length-take-le n (r .buffer) room) in

@@ -43,7 +43,11 @@ pub writable-level : (kind w : ℕ) (b : Bytes) (k i : ℕ) → lawful kind ≡ 
 unfolding blocksFrom cutBlock
 writable-level kind w b zero i l h s = tt
 writable-level kind w b (suc k) i l h s = (
-  (l, omega (arith, cut-short kind (piece w i b), length-take-most w (drop (w * i) b), h), small-take (cutLength (unitOf kind) (piece w i b)) (piece w i b) (small-take w (drop (w * i) b) (small-drop (w * i) b s))),
+  (
+    l,
+    omega (arith, cut-short kind (piece w i b), length-take-most w (drop (w * i) b), h),
+    small-take (cutLength (unitOf kind) (piece w i b)) (piece w i b) (small-take w (drop (w * i) b) (small-drop (w * i) b s)),
+  ),
   writable-level kind w b k (suc i) l h s,
 )
 

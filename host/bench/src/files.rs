@@ -12,7 +12,6 @@ const DSIZE: usize = 1_024;
 const PSIZE: usize = 8_192;
 /// The type of a pointer block of level 1.
 const POINTER: u8 = 3;
-const ROUNDS: usize = 11;
 
 /// The write message of a block of any type.
 fn message(kind: u8, data: &[u8]) -> Vec<u8> {
@@ -32,7 +31,7 @@ fn messages(slice: &[u8]) -> Vec<Vec<u8>> {
 }
 
 /// The median of both, in milliseconds, and of their ratio, in a blank log of so many sectors.
-fn measure(sectors: usize) -> (f64, f64, f64) {
+fn measure(sectors: usize, rounds: usize) -> (f64, f64, f64) {
     let mut slice = Random::new(3).bytes(SLICE);
     for leaf in slice.chunks_mut(DSIZE) {
         // no zero at the end: nothing is cut
@@ -42,7 +41,7 @@ fn measure(sectors: usize) -> (f64, f64, f64) {
     let mut called = Parts::new(sectors, 0);
     let mut asked = Parts::new(sectors, 0);
     let mut scores = vec![0; FILE_SCORES];
-    let rounds: Vec<[f64; 2]> = (0..ROUNDS)
+    let rounds: Vec<[f64; 2]> = (0..rounds)
         .map(|_| {
             called.waiting.fill(0);
             asked.waiting.fill(0);
@@ -65,8 +64,8 @@ fn measure(sectors: usize) -> (f64, f64, f64) {
     (each(0), each(1), ratio)
 }
 
-/// Prints a line for each of these lengths, in sectors.
-pub fn run(lengths: &[usize]) {
+/// Prints a line for each of these lengths, in sectors, each measured so often.
+pub fn run(lengths: &[(usize, usize)]) {
     println!(
         "\nmilliseconds to write a file of {SLICE} bytes, leaves of {DSIZE}, by the writing call and as write messages \
          of the same blocks, in blank logs without an index; ratio: the call's time over the messages'"
@@ -75,8 +74,8 @@ pub fn run(lengths: &[usize]) {
         "{:>9} {:>9} {:>9} {:>7}",
         "sectors", "call", "messages", "ratio"
     );
-    for &sectors in lengths {
-        let (call, writes, ratio) = measure(sectors);
+    for &(sectors, rounds) in lengths {
+        let (call, writes, ratio) = measure(sectors, rounds);
         println!("{sectors:>9} {call:>9.3} {writes:>9.3} {ratio:>7.2}");
     }
 }

@@ -60,7 +60,7 @@ fn measure() {
     compare("crc32", boundary::crc32, plain::crc32::crc32);
     log::run();
     blank::run(&[4_096, 131_072, 1_048_576]);
-    files::run(&[1_024, 16_384]);
+    files::run(&[(1_024, 401), (16_384, 15)]);
     sizes::run(&[32_768, 131_072, 1_048_576]);
 }
 
