@@ -20,7 +20,7 @@ use Rattle.entry.specs.Entry.{pointers}
 use Rattle.tree.specs.Tree.{piece, typeAt, countAt}
 use Rattle.visit.specs.declared.End.the-variants.{Done}
 use Rattle.visit.specs.Visit.{walked, more}
-use Rattle.descent.specs.Descent.{visitDirectory, visitEntry}
+use Rattle.descent.specs.Descent.{nestOf, judged, visitDirectory, visitEntry}
 use Rattle.walk_laws.proofs.Found.{type-above}
 use Rattle.walk_laws.proofs.Enough.{entry-enough}
 use Rattle.demands.proofs.Seen.{held-zero}
@@ -33,7 +33,7 @@ use Rattle.writer_laws.specs.Walk.{WalkVisitsFile}
 use Rattle.writer_laws.proofs.Scores.{score-of, piece-piece, cut-short, cut-whole}
 use Rattle.writer_laws.proofs.Back.{holds-at, count, length-at, part-length, length-take-most}
 use Rattle.writer_laws.proofs.Written.{holds-level}
-use Rattle.writer_laws.proofs.ReadBack.{entry-is, score-is, done-with}
+use Rattle.writer_laws.proofs.ReadBack.{entry-is, score-is, well-formed, done-with}
 use Rattle.writer_laws.proofs.Walk.{cut-piece, inner, whole-piece, parts, long, shallow}
 use Rattle.writer_laws.proofs.Visits.{sumFrom, sum-one, sum-mono, sum-above, visit-found, order-sum, blocks-count}
 
@@ -215,18 +215,18 @@ module _ (slice : Bytes) (dsize psize depth : ℕ) (lies : Lies (length slice) d
           (v, most (omega (arith, q)), ended v first at)
 
 pub walk-visits-file : WalkVisitsFile
-unfolding EndsWith
+unfolding EndsWith judged nestOf
 walk-visits-file log w date slice dsize psize entry scores sm done =
     let D = done-with log w date slice dsize psize entry scores sm done in
     let d = D .tests .depth in
+    let both = tape log (D .part) in
     let lies = depth-lies (length slice) dsize psize d (D .tests .deep) in
     let m = least-found (length slice) dsize (psize / 20) d (lies .least) in
     let is = entry-is slice dsize psize d (lies .dsize-from) (lies .dsize-to) (lies .psize-from) (lies .psize-to) (m .0) (D .tests .short) (m .1) in
     let sc = score-is slice dsize psize d (lies .dsize-from) (lies .dsize-to) (lies .psize-from) (lies .psize-to) (m .0) (D .tests .short) (m .1) in
-    let T = visits-top slice dsize psize d lies (D .tests .short) (tape log (D .part)) (D .holds) in
-    rw (D .lent, D .handed, is, sc) (
-      T .0,
-      T .1,
-      λ calls nest left enough n l. entry-enough calls (calls + suc d) (tape log (D .part)) (E slice dsize psize d lies (D .tests .short) (tape log (D .part)) (D .holds)) d nest
-          (topScore slice dsize psize d) left enough (omega arith) ∙ T .2 (calls + suc d) nest left (omega arith) n l,
-    )
+    let wf = well-formed slice dsize psize d (lies .dsize-from) (lies .dsize-to) (lies .psize-from) (lies .psize-to) (m .0) (D .tests .short) (m .1) in
+    let T = visits-top slice dsize psize d lies (D .tests .short) both (D .holds) in
+    let e = E slice dsize psize d lies (D .tests .short) both (D .holds) in
+    let ends : (calls nest left : ℕ) → left + left + 1 ≤ calls → nest ≤ 16 → T .0 ≤ left → visitEntry calls both e d nest (topScore slice dsize psize d) left ≡ walked (T .0) Done =
+    λ calls nest left enough n l. entry-enough calls (calls + suc d) both e d nest (topScore slice dsize psize d) left enough (omega arith) ∙ T .2 (calls + suc d) nest left (omega arith) n l in
+    rw (D .lent, D .handed, is, sc, wf) (T .0, T .1, λ calls nest left enough n l. (ends calls nest left enough n l, ends calls nest left enough n l))
