@@ -93,7 +93,8 @@ unfoldable pub upToRefused : Books archive → List (Item archive) → List (Ite
 upToRefused b [] = []
 upToRefused b (q ∷ qs) = let t = recount archive b q in q ∷ cond (eqb (t .shown .answer .number) 0) (upToRefused (t .state) qs) []
 
--- the messages of a call: a hello, then its blocks as writes, each with the call's date and any reply buffer that is long enough
+-- the messages of a call: a hello with a fresh session, then its blocks as writes with the session that it leaves, each with the call's date and the shortest reply
+-- buffer that is allowed, all blank
 abbrev pub messagesBy : Books archive → Call → ℕ → List (Item archive)
 messagesBy b c depth = upToRefused b (requests (c .date) (replicate replyRoom 0) (length (b .past)) (blocksAt depth c))
 
