@@ -324,10 +324,11 @@ mod tests {
         shelf.log[300] ^= 1;
         let again = shelf.file(b"A=present\n", 57_344);
         assert_eq!(card, again);
-        let index = shelf.index();
-        agrees(&shelf.log, &[card], &[index.clone()]);
+        let before = [shelf.index()];
+        agrees(&shelf.log, &[card], &before);
         shelf.log[300] ^= 1;
-        agrees(&shelf.log, &[card], &[index, shelf.index()]);
+        agrees(&shelf.log, &[card], &before);
+        agrees(&shelf.log, &[card], &[shelf.index()]);
         assert_eq!(doubled(&shelf.log), [front(&sha1(b"A=present\n"))]);
     }
 }
