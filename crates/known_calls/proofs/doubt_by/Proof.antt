@@ -6,14 +6,16 @@ use Rattle.known_calls.proofs.doubt_by.Tie as tie
 
 returns : tie.Need-returns
 returns c =
-    clear-by _ (c .if1 .taken)
+    let if1 = c .if1 in
+    clear-by _ (if1 .taken)
 
 sub-t3 : tie.Need-sub-t3
 sub-t3 c = search needs
 
 returns-2 : tie.Need-returns-2
 returns-2 c =
-    at-by _ (c .if1 .left)
+    let if1 = c .if1 in
+    at-by _ (if1 .left)
 
 pub doubt-by-spec : {M : Type 1} → statement M
 doubt-by-spec =

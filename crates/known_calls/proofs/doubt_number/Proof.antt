@@ -13,18 +13,22 @@ enum-told c = search needs
 
 returns : tie.Need-returns
 returns c =
-    clear-number _ (c .enum-told .given .1)
+    let enum-told = c .enum-told in
+    clear-number _ (enum-told .given .1)
 
 returns-2 : tie.Need-returns-2
 returns-2 c =
-    greatest-number _ _ (c .before .before .before .doubt .given .1) (c .if1 .taken)
+    let doubt = c .before .before .before .doubt in
+    let if1 = c .if1 in
+    greatest-number _ _ (doubt .given .1) (if1 .taken)
 
 add-result : tie.Need-add-result
 add-result c = search needs
 
 returns-3 : tie.Need-returns-3
 returns-3 c =
-    at-number _ _ (c .before .before .before .before .doubt .given .1)
+    let doubt = c .before .before .before .before .doubt in
+    at-number _ _ (doubt .given .1)
 
 pub doubt-number-spec : {M : Type 1} → statement M
 doubt-number-spec =

@@ -6,8 +6,10 @@ use Rattle.known_calls.proofs.learn.Tie as tie
 
 returns : tie.Need-returns
 returns c =
-    let a = (c .before .before .before .before .before .args) in
-    learn-refused (a .log .now) (a .waiting .now) (a .index .now) (a .known .now) (c .if1 .taken)
+    let start = c .before .before .before .before .before in
+    let if1 = c .if1 in
+    let a = start .args in
+    learn-refused (a .log .now) (a .waiting .now) (a .index .now) (a .known .now) (if1 .taken)
 
 learn-requires : tie.Need-learn-requires
 learn-requires c κs = search needs
@@ -20,8 +22,12 @@ same-length c = search needs
 
 returns-2 : tie.Need-returns-2
 returns-2 c =
-    let a = (c .before .before .before .before .before .before .before .before .before .before .args) in
-    learn-done (a .log .now) (a .waiting .now) (a .index .now) (a .known .now) (c .before .before .before .before .before .if1 .left) _ _ (c .before .before .before .before .learn .ensures) (c .before .before .write-known .ensures)
+    let start = c .before .before .before .before .before .before .before .before .before .before in
+    let if1 = c .before .before .before .before .before .if1 in
+    let learn = c .before .before .before .before .learn in
+    let write-known = c .before .before .write-known in
+    let a = start .args in
+    learn-done (a .log .now) (a .waiting .now) (a .index .now) (a .known .now) (if1 .left) _ _ (learn .ensures) (write-known .ensures)
 
 pub learn-spec : {M : Type 1} → statement M
 learn-spec =

@@ -15,11 +15,16 @@ session-number-requires c κs = search needs
 
 mul-result : tie.Need-mul-result
 mul-result c =
-    omega (arith, session-most ((c .before .before .args .answer .session)) (c .session-number .result) (c .session-number .ensures))
+    let start = c .before .before in
+    let session-number = c .session-number in
+    omega (arith, session-most ((start .args .answer .session)) (session-number .result) (session-number .ensures))
 
 add-result : tie.Need-add-result
 add-result c =
-    omega (arith, session-most ((c .before .before .args .answer .session)) (c .session-number .result) (c .session-number .ensures), (c .before .struct-known .given .0))
+    let start = c .before .before in
+    let struct-known = c .before .struct-known in
+    let session-number = c .session-number in
+    omega (arith, session-most ((start .args .answer .session)) (session-number .result) (session-number .ensures), (struct-known .given .0))
 
 returns : tie.Need-returns
 returns c = search needs

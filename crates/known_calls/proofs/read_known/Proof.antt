@@ -21,8 +21,13 @@ shared-slice-read-exact c = search needs
 
 returns : tie.Need-returns
 returns c =
-    let a = (c .before .before .before .before .before .before .args) in
-    known-read (a .bytes .now) _ _ _ _ (c .before .before .before .before .read-number .ensures) (c .before .before .before .read-number2 .ensures) (c .before .before .read-number3 .ensures) (c .before .doubt-by .ensures)
+    let start = c .before .before .before .before .before .before in
+    let read-number = c .before .before .before .before .read-number in
+    let read-number2 = c .before .before .before .read-number2 in
+    let read-number3 = c .before .before .read-number3 in
+    let doubt-by = c .before .doubt-by in
+    let a = start .args in
+    known-read (a .bytes .now) _ _ _ _ (read-number .ensures) (read-number2 .ensures) (read-number3 .ensures) (doubt-by .ensures)
 
 pub read-known-spec : {M : Type 1} → statement M
 read-known-spec =

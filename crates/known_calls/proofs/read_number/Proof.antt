@@ -22,8 +22,10 @@ be-number-requires c κs = search needs
 
 returns : tie.Need-returns
 returns c =
-    let a = (c .before .before .before .args) in
-    (c .be-number .ensures) ∙ number-read (a .bytes .now) (a .at)
+    let start = c .before .before .before in
+    let be-number = c .be-number in
+    let a = start .args in
+    (be-number .ensures) ∙ number-read (a .bytes .now) (a .at)
 
 pub read-number-spec : {M : Type 1} → statement M
 read-number-spec =

@@ -12,8 +12,13 @@ packed-requires c κs = search needs
 
 returns : tie.Need-returns
 returns c =
-    let a = (c .before .before .before .before .before .before .before .before .before .before .args) in
-    serve-refused (a .session) (a .message .now) (a .date .now) (a .index .now) (a .log .now) (a .waiting .now) (a .reply .now) (a .known .now) _ (c .before .before .session-of .ensures) _ (c .before .if1 .taken) (c .packed .ensures)
+    let start = c .before .before .before .before .before .before .before .before .before .before in
+    let session-of = c .before .before .session-of in
+    let if1 = c .before .if1 in
+    let packed = c .packed in
+    let a = start .args in
+    serve-refused (a .session) (a .message .now) (a .date .now) (a .index .now) (a .log .now) (a .waiting .now) (a .reply .now) (a .known .now) _ (session-of .ensures) _ (if1 .taken)
+    (packed .ensures)
 
 read-known-requires : tie.Need-read-known-requires
 read-known-requires c κs = search needs
@@ -44,9 +49,17 @@ same-length-5 c = search needs
 
 returns-2 : tie.Need-returns-2
 returns-2 c =
-    let a = (c .before .before .before .before .before .before .before .before .before .before .before .before .before .before .before .before .before .before .before .before .before .before .before .before .before .before .before .before .before .before .before .args) in
-    serve-done (a .session) (a .message .now) (a .date .now) (a .index .now) (a .log .now) (a .waiting .now) (a .reply .now) (a .known .now) _ (c .before .before .before .before .before .before .before .before .before .before .before .before .before .before .before .before .before .before .before .before .before .before .before .session-of .ensures) _ (c .before .before .before .before .before .before .before .before .before .before .before .before .before .before .before .before .before .before .before .before .before .before .if1 .left)
-    _ (c .before .before .before .before .before .before .before .before .before .before .before .before .before .before .before .serve .result) _ _ _ _ _ (c .before .before .before .before .before .before .before .before .before .before .before .before .before .before .before .before .before .before .before .before .read-known .ensures) (c .before .before .before .before .before .before .before .before .before .before .before .before .before .before .before .serve .ensures) (c .before .before .before .before .write-known .ensures) (c .packed2 .ensures)
+    let before = c .before .before .before .before .before .before .before .before .before .before .before .before .before .before .before .before .before .before in
+    let start = before .before .before .before .before .before .before .before .before .before .before .before .before .before in
+    let session-of = before .before .before .before .before .before .session-of in
+    let if1 = before .before .before .before .before .if1 in
+    let read-known = before .before .before .read-known in
+    let serve = c .before .before .before .before .before .before .before .before .before .before .before .before .before .before .before .serve in
+    let write-known = c .before .before .before .before .write-known in
+    let packed2 = c .packed2 in
+    let a = start .args in
+    serve-done (a .session) (a .message .now) (a .date .now) (a .index .now) (a .log .now) (a .waiting .now) (a .reply .now) (a .known .now) _ (session-of .ensures) _ (if1 .left)
+    _ (serve .result) _ _ _ _ _ (read-known .ensures) (serve .ensures) (write-known .ensures) (packed2 .ensures)
 
 pub serve-known-spec : {M : Type 1} → statement M
 serve-known-spec =

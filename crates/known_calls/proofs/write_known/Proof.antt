@@ -24,13 +24,25 @@ slice-write-bytes c = search needs
 
 same-length : tie.Need-same-length
 same-length c =
-    let a = (c .before .before .before .before .before .before .before .before .before .before .before .before .before .before .before .before .before .args) in
-    written-length (a .bytes .now) _ _ _ (a .known) _ _ (c .before .before .before .before .before .before .before .before .before .before .before .before .before .before .before .before .before .pre) (c .before .before .before .before .before .before .before .before .before .before .before .before .write-number .ensures) (c .before .before .before .before .before .before .before .before .write-number2 .ensures) (c .before .before .before .write-number3 .ensures) (c .before .before .before .before .doubt-number .ensures) (c .exact-byte .ensures)
+    let start = c .before .before .before .before .before .before .before .before .before .before .before .before .before .before .before .before .before in
+    let write-number = c .before .before .before .before .before .before .before .before .before .before .before .before .write-number in
+    let write-number2 = c .before .before .before .before .before .before .before .before .write-number2 in
+    let doubt-number = c .before .before .before .before .doubt-number in
+    let write-number3 = c .before .before .before .write-number3 in
+    let exact-byte = c .exact-byte in
+    let a = start .args in
+    written-length (a .bytes .now) _ _ _ (a .known) _ _ (start .pre) (write-number .ensures) (write-number2 .ensures) (write-number3 .ensures) (doubt-number .ensures) (exact-byte .ensures)
 
 returns : tie.Need-returns
 returns c =
-    let a = (c .before .before .before .before .before .before .before .before .before .before .before .before .before .before .before .before .before .args) in
-    known-written (a .bytes .now) _ _ _ (a .known) _ _ (c .before .before .before .before .before .before .before .before .before .before .before .before .before .before .before .before .before .pre) (c .before .before .before .before .before .before .before .before .before .before .before .before .write-number .ensures) (c .before .before .before .before .before .before .before .before .write-number2 .ensures) (c .before .before .before .write-number3 .ensures) (c .before .before .before .before .doubt-number .ensures) (c .exact-byte .ensures)
+    let start = c .before .before .before .before .before .before .before .before .before .before .before .before .before .before .before .before .before in
+    let write-number = c .before .before .before .before .before .before .before .before .before .before .before .before .write-number in
+    let write-number2 = c .before .before .before .before .before .before .before .before .write-number2 in
+    let doubt-number = c .before .before .before .before .doubt-number in
+    let write-number3 = c .before .before .before .write-number3 in
+    let exact-byte = c .exact-byte in
+    let a = start .args in
+    known-written (a .bytes .now) _ _ _ (a .known) _ _ (start .pre) (write-number .ensures) (write-number2 .ensures) (write-number3 .ensures) (doubt-number .ensures) (exact-byte .ensures)
 
 pub write-known-spec : {M : Type 1} → statement M
 write-known-spec =

@@ -21,13 +21,17 @@ put-be-requires c κs = search needs
 
 same-length : tie.Need-same-length
 same-length c =
-    let a = (c .before .before .before .before .before .args) in
-    number-length (a .bytes .now) _ (a .at) (a .n) (c .before .before .before .before .before .pre) (c .before .before .put-be .ensures)
+    let start = c .before .before .before .before .before in
+    let put-be = c .before .before .put-be in
+    let a = start .args in
+    number-length (a .bytes .now) _ (a .at) (a .n) (start .pre) (put-be .ensures)
 
 returns : tie.Need-returns
 returns c =
-    let a = (c .before .before .before .before .before .args) in
-    number-written (a .bytes .now) _ (a .at) (a .n) (c .before .before .before .before .before .pre) (c .before .before .put-be .ensures)
+    let start = c .before .before .before .before .before in
+    let put-be = c .before .before .put-be in
+    let a = start .args in
+    number-written (a .bytes .now) _ (a .at) (a .n) (start .pre) (put-be .ensures)
 
 pub write-number-spec : {M : Type 1} → statement M
 write-number-spec =

@@ -23,8 +23,11 @@ same-length-4 c = search needs
 
 returns : tie.Need-returns
 returns c =
-    let a = (c .before .before .before .before .before .before .before .before .before .before .before .before .before .before .before .before .before .before .before .args) in
-    ap (λ (x : Indexed). knowing (a .known) x) (c .before .before .before .before .before .before .before .before .serve .ensures)
+    let before = c .before .before .before .before .before .before .before .before .before .before .before .before .before .before .before .before .before .before in
+    let start = before .before in
+    let serve = c .before .before .before .before .before .before .before .before .serve in
+    let a = start .args in
+    ap (λ (x : Indexed). knowing (a .known) x) (serve .ensures)
 
 pub hand-on-spec : {M : Type 1} → statement M
 hand-on-spec =

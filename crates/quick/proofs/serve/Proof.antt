@@ -26,12 +26,20 @@ same-length-4 c = search needs
 
 returns : tie.Need-returns
 returns c =
-    let a = (c .before .before .before .before .before .before .before .before .before .before .before .before .before .before .before .before .before .before .before .before .before .args) in
-    (c .before .before .before .before .before .before .before .before .hand-on .ensures) ∙ not-admitted (a .known) (a .session) (a .message .now) (a .date .now) (a .index .now) (a .log .now) (a .waiting .now) (a .reply .now) (sym (c .before .before .before .before .before .before .before .before .before .before .before .before .before .before .is-admitted .ensures) ∙ not-true _ (c .before .before .before .before .before .before .before .before .before .before .before .before .before .if1 .taken))
+    let before = c .before .before .before .before .before .before .before .before .before .before .before .before .before .before .before .before .before .before in
+    let start = before .before .before .before in
+    let is-admitted = c .before .before .before .before .before .before .before .before .before .before .before .before .before .before .is-admitted in
+    let if1 = c .before .before .before .before .before .before .before .before .before .before .before .before .before .if1 in
+    let hand-on = c .before .before .before .before .before .before .before .before .hand-on in
+    let a = start .args in
+    hand-on .ensures ∙ not-admitted (a .known) (a .session) (a .message .now) (a .date .now) (a .index .now) (a .log .now) (a .waiting .now) (a .reply .now)
+    (sym (is-admitted .ensures) ∙ not-true _ (if1 .taken))
 
 serve-admitted-requires : tie.Need-serve-admitted-requires
 serve-admitted-requires c κs =
-    sym (c .before .before .before .before .before .is-admitted .ensures) ∙ not-false _ (c .before .before .before .before .if1 .left)
+    let is-admitted = c .before .before .before .before .before .is-admitted in
+    let if1 = c .before .before .before .before .if1 in
+    sym (is-admitted .ensures) ∙ not-false _ (if1 .left)
 
 same-length-5 : tie.Need-same-length-5
 same-length-5 c = search needs

@@ -10,14 +10,16 @@ use Rattle.quick.proofs.serve_admitted.Tie as tie
 
 tag-of-requires : tie.Need-tag-of-requires
 tag-of-requires c κs =
-    let a = (c .before .before .before .before .before .before .args) in
-    let p = passed (a .session) (a .message .now) (a .date .now) (length (a .log .now)) (length (a .waiting .now)) (length (a .reply .now)) (c .before .before .before .before .before .before .pre) in
+    let start = c .before .before .before .before .before .before in
+    let a = start .args in
+    let p = passed (a .session) (a .message .now) (a .date .now) (length (a .log .now)) (length (a .waiting .now)) (length (a .reply .now)) (start .pre) in
     framed-head (a .message .now) (p .whole) .0
 
 parse-requires : tie.Need-parse-requires
 parse-requires c κs =
-    let a = (c .before .before .before .before .before .before .before .args) in
-    let p = passed (a .session) (a .message .now) (a .date .now) (length (a .log .now)) (length (a .waiting .now)) (length (a .reply .now)) (c .before .before .before .before .before .before .before .pre) in
+    let start = c .before .before .before .before .before .before .before in
+    let a = start .args in
+    let p = passed (a .session) (a .message .now) (a .date .now) (length (a .log .now)) (length (a .waiting .now)) (length (a .reply .now)) (start .pre) in
     framed-head (a .message .now) (p .whole) .0
 
 enum-known-request : tie.Need-enum-known-request
@@ -28,9 +30,14 @@ renew-requires c κs = search needs
 
 serve-read-requires : tie.Need-serve-read-requires
 serve-read-requires c κs =
-    let a = (c .before .before .before .before .before .before .before .before .before .before .before .before .before .before .before .before .before .before .before .args) in
-    let p = passed (a .session) (a .message .now) (a .date .now) (length (a .log .now)) (length (a .waiting .now)) (length (a .reply .now)) (c .before .before .before .before .before .before .before .before .before .before .before .before .before .before .before .before .before .before .before .pre) in
-    ((c .before .before .before .before .renew .ensures .0), sym (c .before .before .before .before .before .before .before .before .before .before .before .parse .ensures) ∙ (c .before .before .before .before .before .before .before .before .before .request .given .1), roomy-enough _ _ _ _ _ _ p)
+    let before = c .before .before .before .before .before .before .before .before .before .before .before .before .before .before .before .before .before .before in
+    let start = before .before in
+    let parse = c .before .before .before .before .before .before .before .before .before .before .before .parse in
+    let request = c .before .before .before .before .before .before .before .before .before .request in
+    let renew = c .before .before .before .before .renew in
+    let a = start .args in
+    let p = passed (a .session) (a .message .now) (a .date .now) (length (a .log .now)) (length (a .waiting .now)) (length (a .reply .now)) (start .pre) in
+    ((renew .ensures .0), sym (parse .ensures) ∙ (request .given .1), roomy-enough _ _ _ _ _ _ p)
 
 enum-known-request-2 : tie.Need-enum-known-request-2
 enum-known-request-2 c = search needs
@@ -40,9 +47,14 @@ renew-requires-2 c κs = search needs
 
 serve-write-requires : tie.Need-serve-write-requires
 serve-write-requires c κs =
-    let a = (c .before .before .before .before .before .before .before .before .before .before .before .before .before .before .before .before .before .before .before .args) in
-    let p = passed (a .session) (a .message .now) (a .date .now) (length (a .log .now)) (length (a .waiting .now)) (length (a .reply .now)) (c .before .before .before .before .before .before .before .before .before .before .before .before .before .before .before .before .before .before .before .pre) in
-    ((c .before .before .before .before .renew2 .ensures .0), sym (c .before .before .before .before .before .before .before .before .before .before .before .parse .ensures) ∙ (c .before .before .before .before .before .before .before .before .before .request2 .given .1), date-length (a .date .now) (p .dated), roomy-enough _ _ _ _ _ _ p)
+    let before = c .before .before .before .before .before .before .before .before .before .before .before .before .before .before .before .before .before .before in
+    let start = before .before in
+    let parse = c .before .before .before .before .before .before .before .before .before .before .before .parse in
+    let request2 = c .before .before .before .before .before .before .before .before .before .request2 in
+    let renew2 = c .before .before .before .before .renew2 in
+    let a = start .args in
+    let p = passed (a .session) (a .message .now) (a .date .now) (length (a .log .now)) (length (a .waiting .now)) (length (a .reply .now)) (start .pre) in
+    ((renew2 .ensures .0), sym (parse .ensures) ∙ (request2 .given .1), date-length (a .date .now) (p .dated), roomy-enough _ _ _ _ _ _ p)
 
 enum-told : tie.Need-enum-told
 enum-told c = search needs
@@ -52,9 +64,11 @@ renew-requires-3 c κs = search needs
 
 serve-sync-requires : tie.Need-serve-sync-requires
 serve-sync-requires c κs =
-    let a = (c .before .before .before .before .before .before .before .before .before .before .before .before .before .before .before .before .before .args) in
-    let p = passed (a .session) (a .message .now) (a .date .now) (length (a .log .now)) (length (a .waiting .now)) (length (a .reply .now)) (c .before .before .before .before .before .before .before .before .before .before .before .before .before .before .before .before .before .pre) in
-    ((c .before .before .before .renew3 .ensures .0), roomy-enough _ _ _ _ _ _ p)
+    let start = c .before .before .before .before .before .before .before .before .before .before .before .before .before .before .before .before .before in
+    let renew3 = c .before .before .before .renew3 in
+    let a = start .args in
+    let p = passed (a .session) (a .message .now) (a .date .now) (length (a .log .now)) (length (a .waiting .now)) (length (a .reply .now)) (start .pre) in
+    ((renew3 .ensures .0), roomy-enough _ _ _ _ _ _ p)
 
 hand-on-requires : tie.Need-hand-on-requires
 hand-on-requires c κs = search needs
@@ -73,9 +87,16 @@ same-length-4 c = search needs
 
 returns : tie.Need-returns
 returns c =
-    let a = (c .before .before .before .before .before .before .before .before .before .before .before .before .before .before .before .before .before .before .before .before .before .before .args) in
-    let p = passed (a .session) (a .message .now) (a .date .now) (length (a .log .now)) (length (a .waiting .now)) (length (a .reply .now)) (c .before .before .before .before .before .before .before .before .before .before .before .before .before .before .before .before .before .before .before .before .before .before .pre) in
-    read-admitted (a .known) (a .session) (a .message .now) (a .date .now) (a .index .now) (a .log .now) (a .waiting .now) (a .reply .now) p _ _ _ (c .before .before .before .before .before .before .before .before .before .before .before .before .before .before .parse .ensures) (c .before .before .before .before .before .before .before .renew .ensures .1) _ _ (c .before .before .before .before .before .before .before .before .before .before .before .before .request .given .1) (c .before .before .serve-read .ensures)
+    let before = c .before .before .before .before .before .before .before .before .before .before .before .before .before .before .before .before .before .before in
+    let start = before .before .before .before .before in
+    let parse = c .before .before .before .before .before .before .before .before .before .before .before .before .before .before .parse in
+    let request = c .before .before .before .before .before .before .before .before .before .before .before .before .request in
+    let renew = c .before .before .before .before .before .before .before .renew in
+    let serve-read = c .before .before .serve-read in
+    let a = start .args in
+    let p = passed (a .session) (a .message .now) (a .date .now) (length (a .log .now)) (length (a .waiting .now)) (length (a .reply .now)) (start .pre) in
+    read-admitted (a .known) (a .session) (a .message .now) (a .date .now) (a .index .now) (a .log .now) (a .waiting .now) (a .reply .now) p _ _ _ (parse .ensures) (renew .ensures .1) _
+    _ (request .given .1) (serve-read .ensures)
 
 same-length-5 : tie.Need-same-length-5
 same-length-5 c = search needs
@@ -91,9 +112,16 @@ same-length-8 c = search needs
 
 returns-2 : tie.Need-returns-2
 returns-2 c =
-    let a = (c .before .before .before .before .before .before .before .before .before .before .before .before .before .before .before .before .before .before .before .before .before .before .before .before .before .before .args) in
-    let p = passed (a .session) (a .message .now) (a .date .now) (length (a .log .now)) (length (a .waiting .now)) (length (a .reply .now)) (c .before .before .before .before .before .before .before .before .before .before .before .before .before .before .before .before .before .before .before .before .before .before .before .before .before .before .pre) in
-    write-admitted (a .known) (a .session) (a .message .now) (a .date .now) (a .index .now) (a .log .now) (a .waiting .now) (a .reply .now) p _ _ _ (c .before .before .before .before .before .before .before .before .before .before .before .before .before .before .before .before .before .before .parse .ensures) (c .before .before .before .before .before .before .before .before .before .before .before .renew2 .ensures .1) _ (c .before .before .before .before .before .before .before .before .before .before .before .before .before .before .before .before .request2 .given .1) (c .before .before .before .before .before .before .serve-write .ensures)
+    let before = c .before .before .before .before .before .before .before .before .before .before .before .before .before .before .before .before .before .before in
+    let start = before .before .before .before .before .before .before .before .before in
+    let parse = before .parse in
+    let request2 = c .before .before .before .before .before .before .before .before .before .before .before .before .before .before .before .before .request2 in
+    let renew2 = c .before .before .before .before .before .before .before .before .before .before .before .renew2 in
+    let serve-write = c .before .before .before .before .before .before .serve-write in
+    let a = start .args in
+    let p = passed (a .session) (a .message .now) (a .date .now) (length (a .log .now)) (length (a .waiting .now)) (length (a .reply .now)) (start .pre) in
+    write-admitted (a .known) (a .session) (a .message .now) (a .date .now) (a .index .now) (a .log .now) (a .waiting .now) (a .reply .now) p _ _ _ (parse .ensures) (renew2 .ensures .1)
+    _ (request2 .given .1) (serve-write .ensures)
 
 same-length-9 : tie.Need-same-length-9
 same-length-9 c = search needs
@@ -109,9 +137,17 @@ same-length-12 c = search needs
 
 returns-3 : tie.Need-returns-3
 returns-3 c =
-    let a = (c .before .before .before .before .before .before .before .before .before .before .before .before .before .before .before .before .before .before .before .before .before .before .before .before .args) in
-    let p = passed (a .session) (a .message .now) (a .date .now) (length (a .log .now)) (length (a .waiting .now)) (length (a .reply .now)) (c .before .before .before .before .before .before .before .before .before .before .before .before .before .before .before .before .before .before .before .before .before .before .before .before .pre) in
-    sync-admitted (a .known) (a .session) (a .message .now) (a .date .now) (a .index .now) (a .log .now) (a .waiting .now) (a .reply .now) p _ _ _ (c .before .before .before .before .before .before .before .before .before .before .before .before .before .before .before .before .parse .ensures) (c .before .before .before .before .before .before .before .before .before .before .renew3 .ensures .1) _ (c .before .before .before .before .before .before .before .before .before .before .before .before .before .before .before .before .before .tag-of .ensures) (c .before .before .before .before .before .before .before .before .before .before .before .before .before .before .enum-told .given .1) ((c .before .before .before .before .before .before .serve-sync .ensures) (a .index .now))
+    let before = c .before .before .before .before .before .before .before .before .before .before .before .before .before .before .before .before .before .before in
+    let start = before .before .before .before .before .before .before in
+    let tag-of = c .before .before .before .before .before .before .before .before .before .before .before .before .before .before .before .before .before .tag-of in
+    let parse = c .before .before .before .before .before .before .before .before .before .before .before .before .before .before .before .before .parse in
+    let enum-told = c .before .before .before .before .before .before .before .before .before .before .before .before .before .before .enum-told in
+    let renew3 = c .before .before .before .before .before .before .before .before .before .before .renew3 in
+    let serve-sync = c .before .before .before .before .before .before .serve-sync in
+    let a = start .args in
+    let p = passed (a .session) (a .message .now) (a .date .now) (length (a .log .now)) (length (a .waiting .now)) (length (a .reply .now)) (start .pre) in
+    sync-admitted (a .known) (a .session) (a .message .now) (a .date .now) (a .index .now) (a .log .now) (a .waiting .now) (a .reply .now) p _ _ _ (parse .ensures) (renew3 .ensures .1)
+    _ (tag-of .ensures) (enum-told .given .1) ((serve-sync .ensures) (a .index .now))
 
 same-length-13 : tie.Need-same-length-13
 same-length-13 c = search needs
@@ -127,9 +163,15 @@ same-length-16 c = search needs
 
 returns-4 : tie.Need-returns-4
 returns-4 c =
-    let a = (c .before .before .before .before .before .before .before .before .before .before .before .before .before .before .before .before .before .before .before .before .before .before .args) in
-    let p = passed (a .session) (a .message .now) (a .date .now) (length (a .log .now)) (length (a .waiting .now)) (length (a .reply .now)) (c .before .before .before .before .before .before .before .before .before .before .before .before .before .before .before .before .before .before .before .before .before .before .pre) in
-    (c .before .before .before .before .before .before .before .before .hand-on .ensures) ∙ others-handed-on (a .known) (a .session) (a .message .now) (a .date .now) (a .index .now) (a .log .now) (a .waiting .now) (a .reply .now) p _ (sym (c .before .before .before .before .before .before .before .before .before .before .before .before .before .before .parse .ensures)) (c .before .before .before .before .before .before .before .before .before .before .before .before .before .match .keys4)
+    let before = c .before .before .before .before .before .before .before .before .before .before .before .before .before .before .before .before .before .before in
+    let start = before .before .before .before .before in
+    let parse = c .before .before .before .before .before .before .before .before .before .before .before .before .before .before .parse in
+    let match = c .before .before .before .before .before .before .before .before .before .before .before .before .before .match in
+    let hand-on = c .before .before .before .before .before .before .before .before .hand-on in
+    let a = start .args in
+    let p = passed (a .session) (a .message .now) (a .date .now) (length (a .log .now)) (length (a .waiting .now)) (length (a .reply .now)) (start .pre) in
+    hand-on .ensures ∙ others-handed-on (a .known) (a .session) (a .message .now) (a .date .now) (a .index .now) (a .log .now) (a .waiting .now) (a .reply .now) p _
+    (sym (parse .ensures)) (match .keys4)
 
 pub serve-admitted-spec : {M : Type 1} → statement M
 serve-admitted-spec =

@@ -25,16 +25,22 @@ same-length-3 c = search needs
 
 returns : tie.Need-returns
 returns c =
-    let a = (c .before .before .before .before .before .before .before .before .before .before .before .before .before .before .before .args) in
-    λ index. sync-refused (a .known) (a .tag) index (a .log .now) (a .waiting .now) (a .reply .now) _ _ _ (c .before .before .before .before .before .before .before .before .before .settle-known .ensures .0) (c .before .before .before .before .before .before .before .before .before .settle-known .ensures .1) (not-true _ (c .before .before .before .before .if1 .taken)) ((c .before .before .refuse .ensures) _ _)
+    let start = c .before .before .before .before .before .before .before .before .before .before .before .before .before .before .before in
+    let settle-known = c .before .before .before .before .before .before .before .before .before .settle-known in
+    let if1 = c .before .before .before .before .if1 in
+    let refuse = c .before .before .refuse in
+    let a = start .args in
+    λ index. sync-refused (a .known) (a .tag) index (a .log .now) (a .waiting .now) (a .reply .now) _ _ _ (settle-known .ensures .0) (settle-known .ensures .1) (not-true _ (if1 .taken))
+    ((refuse .ensures) _ _)
 
 acknowledge-requires : tie.Need-acknowledge-requires
 acknowledge-requires c κs = search needs
 
 after-sync-requires : tie.Need-after-sync-requires
 after-sync-requires c κs =
-    let a = (c .before .before .before .before .before .before .before .before .before .before .before .before .before .before .before .args) in
-    let b = belongs-reads (a .known) (length (a .log .now)) (length (a .waiting .now)) (c .before .before .before .before .before .before .before .before .before .before .before .before .before .before .before .pre .0) in
+    let start = c .before .before .before .before .before .before .before .before .before .before .before .before .before .before .before in
+    let a = start .args in
+    let b = belongs-reads (a .known) (length (a .log .now)) (length (a .waiting .now)) (start .pre .0) in
     omega (arith, b .0, b .1)
 
 same-length-4 : tie.Need-same-length-4
@@ -48,8 +54,14 @@ same-length-6 c = search needs
 
 returns-2 : tie.Need-returns-2
 returns-2 c =
-    let a = (c .before .before .before .before .before .before .before .before .before .before .before .before .before .before .before .before .args) in
-    λ index. sync-moved (a .known) (a .tag) index (a .log .now) (a .waiting .now) (a .reply .now) _ _ _ (c .before .before .before .before .before .before .before .before .before .before .settle-known .ensures .0) (c .before .before .before .before .before .before .before .before .before .before .settle-known .ensures .1) (not-false _ (c .before .before .before .before .before .if1 .left)) ((c .before .before .before .acknowledge .ensures) _ _) _ (c .after-sync .ensures)
+    let start = c .before .before .before .before .before .before .before .before .before .before .before .before .before .before .before .before in
+    let settle-known = c .before .before .before .before .before .before .before .before .before .before .settle-known in
+    let if1 = c .before .before .before .before .before .if1 in
+    let acknowledge = c .before .before .before .acknowledge in
+    let after-sync = c .after-sync in
+    let a = start .args in
+    λ index. sync-moved (a .known) (a .tag) index (a .log .now) (a .waiting .now) (a .reply .now) _ _ _ (settle-known .ensures .0) (settle-known .ensures .1) (not-false _ (if1 .left))
+    ((acknowledge .ensures) _ _) _ (after-sync .ensures)
 
 pub serve-sync-spec : {M : Type 1} → statement M
 serve-sync-spec =

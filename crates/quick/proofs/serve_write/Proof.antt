@@ -10,7 +10,8 @@ use Rattle.quick.proofs.serve_write.Tie as tie
 
 tag-of-requires : tie.Need-tag-of-requires
 tag-of-requires c κs =
-    omega (arith, write-length _ _ (c .before .before .before .before .before .before .pre .1))
+    let start = c .before .before .before .before .before .before in
+    omega (arith, write-length _ _ (start .pre .1))
 
 is-lawful-requires : tie.Need-is-lawful-requires
 is-lawful-requires c κs = search needs
@@ -23,13 +24,19 @@ same-length c = search needs
 
 returns : tie.Need-returns
 returns c =
-    let a = (c .before .before .before .before .before .before .before .before .before .before .before .before .before .args) in
-    write-as (a .known) (a .date .now) (a .kind) (a .message .now) (a .index .now) (a .log .now) (a .waiting .now) (a .reply .now) _ _ _ (c .before .before .before .before .before .before .tag-of .ensures) refl
-    (write-kind (a .known) (a .date .now) (a .kind) _ _ (a .index .now) (a .log .now) (a .waiting .now) (a .reply .now) _ (c .before .before .before .before .before .is-lawful .ensures) (not-true _ (c .before .before .before .before .if1 .taken)) _ ((c .before .before .refuse .ensures) _ _))
+    let start = c .before .before .before .before .before .before .before .before .before .before .before .before .before in
+    let tag-of = c .before .before .before .before .before .before .tag-of in
+    let is-lawful = c .before .before .before .before .before .is-lawful in
+    let if1 = c .before .before .before .before .if1 in
+    let refuse = c .before .before .refuse in
+    let a = start .args in
+    write-as (a .known) (a .date .now) (a .kind) (a .message .now) (a .index .now) (a .log .now) (a .waiting .now) (a .reply .now) _ _ _ (tag-of .ensures) refl
+    (write-kind (a .known) (a .date .now) (a .kind) _ _ (a .index .now) (a .log .now) (a .waiting .now) (a .reply .now) _ (is-lawful .ensures) (not-true _ (if1 .taken)) _ ((refuse .ensures) _ _))
 
 data-of-requires : tie.Need-data-of-requires
 data-of-requires c κs =
-    write-length _ _ (c .before .before .before .before .before .before .before .before .before .pre .1)
+    let start = c .before .before .before .before .before .before .before .before .before in
+    write-length _ _ (start .pre .1)
 
 refuse-requires-2 : tie.Need-refuse-requires-2
 refuse-requires-2 c κs = search needs
@@ -39,9 +46,17 @@ same-length-2 c = search needs
 
 returns-2 : tie.Need-returns-2
 returns-2 c =
-    let a = (c .before .before .before .before .before .before .before .before .before .before .before .before .before .before .before .args) in
-    write-as (a .known) (a .date .now) (a .kind) (a .message .now) (a .index .now) (a .log .now) (a .waiting .now) (a .reply .now) _ _ _ (c .before .before .before .before .before .before .before .before .tag-of .ensures) (c .before .before .before .before .before .data-of .ensures)
-    (write-long (a .known) (a .date .now) (a .kind) _ _ (a .index .now) (a .log .now) (a .waiting .now) (a .reply .now) _ (c .before .before .before .before .before .before .before .is-lawful .ensures) (not-false _ (c .before .before .before .before .before .before .if1 .left)) (c .before .before .before .before .if2 .taken) _ ((c .before .before .refuse2 .ensures) _ _))
+    let start = c .before .before .before .before .before .before .before .before .before .before .before .before .before .before .before in
+    let tag-of = c .before .before .before .before .before .before .before .before .tag-of in
+    let is-lawful = c .before .before .before .before .before .before .before .is-lawful in
+    let if1 = c .before .before .before .before .before .before .if1 in
+    let data-of = c .before .before .before .before .before .data-of in
+    let if2 = c .before .before .before .before .if2 in
+    let refuse2 = c .before .before .refuse2 in
+    let a = start .args in
+    write-as (a .known) (a .date .now) (a .kind) (a .message .now) (a .index .now) (a .log .now) (a .waiting .now) (a .reply .now) _ _ _ (tag-of .ensures) (data-of .ensures)
+    (write-long (a .known) (a .date .now) (a .kind) _ _ (a .index .now) (a .log .now) (a .waiting .now) (a .reply .now) _ (is-lawful .ensures) (not-false _ (if1 .left)) (if2 .taken) _
+    ((refuse2 .ensures) _ _))
 
 store-block-requires : tie.Need-store-block-requires
 store-block-requires c κs = search needs
@@ -57,9 +72,18 @@ same-length-5 c = search needs
 
 returns-3 : tie.Need-returns-3
 returns-3 c =
-    let a = (c .before .before .before .before .before .before .before .before .before .before .before .before .before .before .before .before .before .before .before .before .before .args) in
-    write-as (a .known) (a .date .now) (a .kind) (a .message .now) (a .index .now) (a .log .now) (a .waiting .now) (a .reply .now) _ _ _ (c .before .before .before .before .before .before .before .before .before .before .before .before .before .before .tag-of .ensures) (c .before .before .before .before .before .before .before .before .before .before .before .data-of .ensures)
-    (write-stored (a .known) (a .date .now) (a .kind) _ _ (a .index .now) (a .log .now) (a .waiting .now) (a .reply .now) _ (c .before .before .before .before .before .before .before .before .before .before .before .before .before .is-lawful .ensures) (not-false _ (c .before .before .before .before .before .before .before .before .before .before .before .before .if1 .left)) (c .before .before .before .before .before .before .before .before .before .before .if2 .left) _ (c .before .before .before .before .before .before .store-block .ensures))
+    let before = c .before .before .before .before .before .before .before .before .before .before .before .before .before .before .before .before .before .before in
+    let start = before .before .before .before in
+    let tag-of = c .before .before .before .before .before .before .before .before .before .before .before .before .before .before .tag-of in
+    let is-lawful = c .before .before .before .before .before .before .before .before .before .before .before .before .before .is-lawful in
+    let if1 = c .before .before .before .before .before .before .before .before .before .before .before .before .if1 in
+    let data-of = c .before .before .before .before .before .before .before .before .before .before .before .data-of in
+    let if2 = c .before .before .before .before .before .before .before .before .before .before .if2 in
+    let store-block = c .before .before .before .before .before .before .store-block in
+    let a = start .args in
+    write-as (a .known) (a .date .now) (a .kind) (a .message .now) (a .index .now) (a .log .now) (a .waiting .now) (a .reply .now) _ _ _ (tag-of .ensures) (data-of .ensures)
+    (write-stored (a .known) (a .date .now) (a .kind) _ _ (a .index .now) (a .log .now) (a .waiting .now) (a .reply .now) _ (is-lawful .ensures) (not-false _ (if1 .left)) (if2 .left) _
+    (store-block .ensures))
 
 pub serve-write-spec : {M : Type 1} → statement M
 serve-write-spec =

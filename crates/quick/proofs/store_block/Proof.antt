@@ -24,15 +24,20 @@ parts-of-requires c κs = search needs
 
 known-after-requires : tie.Need-known-after-requires
 known-after-requires c κs =
-    let a = (c .before .before .before .before .before .before .before .before .before .before .before .before .before .before .before .before .before .before .before .before .before .before .before .args) in
-    let b = belongs-reads (a .known) (length (a .log .now)) (length (a .waiting .now)) (c .before .before .before .before .before .before .before .before .before .before .before .before .before .before .before .before .before .before .before .before .before .before .before .pre .0) in
-    let u : a .known .used .0 + a .known .waits .0 < 2 ^ 64 = omega (arith, b .0, b .1, (c .before .before .before .before .before .before .before .before .before .before .before .before .before .before .before .before .before .before .before .before .before .before .before .good)) in
-    let v : a .known .waits .0 + (c .before .before .before .before .parts-of .result) < 2 ^ 64 = omega (arith, b .1, (c .before .before .before .before .before .before .before .before .before .before .before .before .before .before .before .before .before .before .before .before .before .before .before .good), (c .before .before .before .before .parts-of .ensures), parts-bounds 389 (omega arith) (length (a .«data» .now)), (c .before .before .before .before .before .before .before .before .before .before .before .before .before .before .before .before .before .before .before .before .before .before .before .pre .1)) in
+    let before = c .before .before .before .before .before .before .before .before .before .before .before .before .before .before .before .before .before .before in
+    let start = before .before .before .before .before .before in
+    let parts-of = c .before .before .before .before .parts-of in
+    let a = start .args in
+    let b = belongs-reads (a .known) (length (a .log .now)) (length (a .waiting .now)) (start .pre .0) in
+    let u : a .known .used .0 + a .known .waits .0 < 2 ^ 64 = omega (arith, b .0, b .1, (start .good)) in
+    let v : a .known .waits .0 + (parts-of .result) < 2 ^ 64 = omega (arith, b .1, (start .good), (parts-of .ensures), parts-bounds 389 (omega arith) (length (a .«data» .now)), (start .pre .1)) in
     (search needs, u, v)
 
 answer-store-requires : tie.Need-answer-store-requires
 answer-store-requires c κs =
-    (c .before .before .before .before .before .before .before .before .before .before .before .before .before .before .before .before .before .before .before .before .before .before .before .before .before .pre .3)
+    let before = c .before .before .before .before .before .before .before .before .before .before .before .before .before .before .before .before .before .before in
+    let start = before .before .before .before .before .before .before .before in
+    (start .pre .3)
 
 same-length : tie.Need-same-length
 same-length c = search needs
@@ -45,9 +50,17 @@ same-length-3 c = search needs
 
 returns : tie.Need-returns
 returns c =
-    let a = (c .before .before .before .before .before .before .before .before .before .before .before .before .before .before .before .before .before .before .before .before .before .before .before .before .before .before .before .before .args) in
-    stored-answered (a .known) (a .date .now) (a .kind) (a .tag) (a .«data» .now) (a .index .now) (a .log .now) (a .waiting .now) (a .reply .now) _ _ _ _ _ _ (c .before .before .before .before .before .before .before .before .before .before .before .before .before .before .before .before .before .before .before .store-known .ensures) ((c .before .before .answer-store .ensures) _ _) (c .before .before .before .before .before .before .before .before .before .before .before .before .enter-stored .ensures)
-    (parts-dated (a .date .now) (a .«data» .now) _ (c .before .before .before .before .before .before .before .before .before .before .before .before .before .before .before .before .before .before .before .before .before .before .before .before .before .before .before .before .pre .2) (c .before .before .before .before .before .before .before .before .before .parts-of .ensures)) (c .before .before .before .before .known-after .ensures)
+    let before = c .before .before .before .before .before .before .before .before .before .before .before .before .before .before .before .before .before .before in
+    let start = before .before .before .before .before .before .before .before .before .before .before in
+    let store-known = before .before .store-known in
+    let enter-stored = c .before .before .before .before .before .before .before .before .before .before .before .before .enter-stored in
+    let parts-of = c .before .before .before .before .before .before .before .before .before .parts-of in
+    let known-after = c .before .before .before .before .known-after in
+    let answer-store = c .before .before .answer-store in
+    let a = start .args in
+    stored-answered (a .known) (a .date .now) (a .kind) (a .tag) (a .«data» .now) (a .index .now) (a .log .now) (a .waiting .now) (a .reply .now) _ _ _ _ _ _ (store-known .ensures)
+    ((answer-store .ensures) _ _) (enter-stored .ensures)
+    (parts-dated (a .date .now) (a .«data» .now) _ (start .pre .2) (parts-of .ensures)) (known-after .ensures)
 
 pub store-block-spec : {M : Type 1} → statement M
 store-block-spec =
