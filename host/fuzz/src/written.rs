@@ -149,6 +149,26 @@ fn a_clash_in_a_file() {
     });
 }
 
+/// 14 at every block of a file of three levels, in the log and among what waits: those before it stay.
+#[test]
+fn no_room_at_every_block() {
+    on_both(|archive| {
+        let slice: Vec<u8> = (0..7).flat_map(|leaf| vec![leaf + 1; 100]).collect();
+        // seven leaves, then four, two and one pointer blocks
+        let kinds: Vec<u8> = [vec![13; 7], vec![3; 4], vec![4; 2], vec![5]].concat();
+        for (log, waiting) in (0..=14).flat_map(|room| [(room, 20), (20, room)]) {
+            let room = log.min(waiting);
+            let (mut log, mut waiting) = (vec![0; log * SECTOR], vec![0; waiting * SECTOR]);
+            let answer = archive.write_file(&mut log, &mut waiting, DATE, &slice, (100, 40));
+            assert_eq!(answer.err(), (room < 14).then_some(14), "{room} sectors");
+            let blocks = Contents::of(&waiting).blocks;
+            let stored: Vec<u8> = blocks.iter().map(|block| block.kind).collect();
+            assert_eq!(stored, kinds[..room]);
+            assert_eq!(used(&log), 0);
+        }
+    });
+}
+
 /// 15 of a second log that holds another block of a leaf's score, and 14 of one that has no room.
 #[test]
 fn a_clash_in_the_second_log() {
