@@ -4,11 +4,10 @@ use known::Known;
 use request::Answer;
 use sector_number::SectorNumber;
 ghost use mathlib.Core.Path.{_≡_};
-ghost use Prim.Native.Nat.{_+_, _*_, _≤_};
+ghost use Prim.Native.Nat.{_+_, _≤_};
 ghost use lib.ListN.{length, take, drop};
 ghost use Rattle.word.specs.Number.{beBytes, beNumber};
 ghost use Rattle.buffer.specs.Bytes.{put};
-ghost use Rattle.results.specs.Serve.{sessionNumber};
 ghost use Rattle.known_calls.specs.KnownBytes.{doubtNumber, doubtBy, exactByte, knownBytes, knownOf};
 ghost use Rattle.known_calls.specs.Calls.{afterLearn, learnAsked, servedKnown, serveAsked};
 
@@ -110,14 +109,6 @@ pub fn learn<'a>(log: &'a [u8], waiting: &'a [u8], index: &[u8], known: &mut [u8
     0
 }
 
-// An answer in one number: the number of the refusal, 0 for none, and 256 times the session afterwards.
-fn packed(answer: Answer) -> u32
-    ensures { λ r. ⌜ r ≡ answer .number + 256 * sessionNumber (answer .session) ⌝ }
-{
-    let after = answer.session;
-    (answer.number as u32) + 256 * serve_calls::session_number(after)
-}
-
 // One request by the 25 bytes of `known`, which then hold what is known after it; a buffer of another length is 2. The result is as that of `serve`.
 pub fn serve_known(
     session: u8,
@@ -133,7 +124,7 @@ pub fn serve_known(
 {
     let before = serve_calls::session_of(session);
     if known.len() != KNOWN {
-        return packed(Answer {
+        return serve_calls::packed(Answer {
             number: 2,
             session: before,
         });
@@ -143,5 +134,5 @@ pub fn serve_known(
     let after = served.known;
     write_known(known, after);
     let answer = served.answer;
-    packed(answer)
+    serve_calls::packed(answer)
 }

@@ -1,7 +1,9 @@
 // One request, its session and its outcome as numbers.
+use request::Answer;
 use request::Session;
 ghost use mathlib.Core.Path.{_≡_};
 ghost use mathlib.Core.Option.{some};
+ghost use Prim.Native.Nat.{_+_, _*_};
 ghost use Rattle.log.specs.Parts.{beside};
 ghost use Rattle.indexed.specs.Indexed.{stepBy};
 ghost use Rattle.results.specs.Serve.{sessionOf, sessionNumber, served, servedOf};
@@ -19,7 +21,7 @@ pub fn session_of(n: u8) -> Session
     Session::Closed
 }
 
-pub fn session_number(s: Session) -> u32
+fn session_number(s: Session) -> u32
     ensures { λ r. ⌜ r ≡ sessionNumber s ⌝ }
 {
     match s {
@@ -27,6 +29,14 @@ pub fn session_number(s: Session) -> u32
         Session::Greeted => 1,
         Session::Closed => 2,
     }
+}
+
+// An answer in one number: the number of the refusal, 0 for none, and 256 times the session afterwards.
+pub fn packed(answer: Answer) -> u32
+    ensures { λ r. ⌜ r ≡ answer .number + 256 * sessionNumber (answer .session) ⌝ }
+{
+    let after = answer.session;
+    (answer.number as u32) + 256 * session_number(after)
 }
 
 // One request, with a date, the log and its waiting part, and an index of any length; an empty one is the scan. The result is the number of the refusal, 0 for none, and 256 times the session afterwards.
@@ -50,6 +60,5 @@ pub fn serve(
         index,
         reply,
     );
-    let after = answer.session;
-    (answer.number as u32) + 256 * session_number(after)
+    packed(answer)
 }

@@ -1,11 +1,9 @@
--- `known_calls::packed` meets its contract.
-use mathlib.Core.Path.{ap}
-use Prim.Native.Nat.{_+_, _*_}
+-- `serve_calls::packed` meets its contract.
 use native.Mathlib.Omega.{arith}
 use Rattle.results.proofs.ServeLaws.{session-most}
 use borrow.Author.Needs.{needs}
-use Rattle.known_calls.proofs.packed.Statement.{statement}
-use Rattle.known_calls.proofs.packed.Tie as tie
+use Rattle.serve_calls.proofs.packed.Statement.{statement}
+use Rattle.serve_calls.proofs.packed.Tie as tie
 
 cast-result : tie.Need-cast-result
 cast-result c = search needs
@@ -17,14 +15,14 @@ mul-result : tie.Need-mul-result
 mul-result c =
     let start = c .before .before in
     let session-number = c .session-number in
-    omega (arith, session-most ((start .args .answer .session)) (session-number .result) (session-number .ensures))
+    omega (arith, session-most (start .args .answer .session) (session-number .result) (session-number .ensures))
 
 add-result : tie.Need-add-result
 add-result c =
     let start = c .before .before in
     let struct-known = c .before .struct-known in
     let session-number = c .session-number in
-    omega (arith, session-most ((start .args .answer .session)) (session-number .result) (session-number .ensures), (struct-known .given .0))
+    omega (arith, session-most (start .args .answer .session) (session-number .result) (session-number .ensures), (struct-known .given .0))
 
 returns : tie.Need-returns
 returns c = search needs
