@@ -1,25 +1,20 @@
 -- The calls that are lent what is known as bytes, one case for each return, and that a request is `serve`'s.
-use mathlib.Core.Path.{_≡_, refl, sym, ap, ap₂, _∙_}
-use mathlib.Core.Bool.{Bool, true, false, cond}
-use mathlib.Core.Option.{some}
-use Prim.Native.Nat.{ℕ, _+_, _*_, _<_, _^_}
-use lib.Dec.{eqb}
+use mathlib.Core.Path.{_≡_, ap, ap₂, _∙_}
+use Prim.Native.Nat.{ℕ, _+_, _*_}
 use lib.ListN.{length}
 use borrow.Author.Tests.{eq-eqb, ne-eqb}
-use Rattle.word.specs.Number.{small}
 use Rattle.buffer.specs.Bytes.{Bytes}
-use Rattle.log.specs.Parts.{Lent, beside}
 use Rattle.known.specs.declared.Known.{Known}
 use Rattle.known.specs.Known.{learned}
 use Rattle.request.specs.declared.Session.{Session}
-use Rattle.indexed.specs.Indexed.{Indexed, stepBy}
+use Rattle.indexed.specs.Indexed.{Indexed}
 use Rattle.known_request.specs.declared.Served.{Served}
 use Rattle.known_request.specs.Promises.{learnedOf}
-use Rattle.known_request.specs.Quick.{Quick, quickOf, stepKnown}
+use Rattle.known_request.specs.Quick.{quickOf, stepKnown}
 use Rattle.known_request.proofs.Requests.{quick-is-serve}
 use Rattle.results.specs.Serve.{sessionOf, sessionNumber, servedOf}
 use Rattle.known_calls.specs.KnownBytes.{knownBytes, knownOf}
-use Rattle.known_calls.specs.Calls.{AfterLearn, afterLearn, learnAsked, ServedKnown, servedKnown, quickServed, serveAsked}
+use Rattle.known_calls.specs.Calls.{afterLearn, learnAsked, servedKnown, quickServed, serveAsked}
 use Rattle.known_calls.specs.Promises.{CallIsServe}
 use Rattle.known_calls.proofs.RoundTrip.{has-length, reads-back, learned-fits}
 

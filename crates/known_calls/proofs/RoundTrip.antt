@@ -1,5 +1,5 @@
 -- What is known reads back from its bytes, and what is learned fits them.
-use mathlib.Core.Path.{_≡_, refl, sym, ap, _∙_}
+use mathlib.Core.Path.{_≡_, refl, ap, _∙_}
 use mathlib.Core.Bool.{Bool, true, false}
 use Prim.Native.Nat.{ℕ, _+_, _-_, _≤_, _<_, _^_}
 use native.Mathlib.Omega.{arith}
@@ -8,13 +8,10 @@ use lib.ListN.{length, take, drop, getD}
 use borrow.Author.Tests.{ne-eqb}
 use Rattle.word.specs.Number.{digits, beBytes, beNumber}
 use Rattle.word.proofs.NumberLaws.{value-digits}
-use Rattle.buffer.specs.Bytes.{Bytes}
 use Rattle.refusal.specs.Number.{toldSector}
-use Rattle.sector_number.specs.declared.SectorNumber.{SectorNumber}
 use Rattle.block.specs.Log.{sectors, used}
 use Rattle.block.proofs.Used.{used-le-sectors}
 use Rattle.block.proofs.Joined.{sectors-joined}
-use Rattle.log.specs.LookUp.{absence}
 use Rattle.log.specs.Parts.{tape}
 use Rattle.results.proofs.Doubts.{absence-told}
 use Rattle.known.specs.declared.Doubt.{Doubt}
@@ -23,7 +20,7 @@ use Rattle.known.specs.declared.Known.{Known}
 use Rattle.known.specs.Known.{missing, doubtOf, learned}
 use Rattle.known.proofs.Doubts.{missing-is-absence}
 use Rattle.known_calls.specs.KnownBytes.{doubtNumber, doubtBy, exactByte, knownBytes, knownOf}
-use Rattle.known_calls.specs.Promises.{Fits, ReadsBack, HasLength, LearnedFits}
+use Rattle.known_calls.specs.Promises.{ReadsBack, HasLength, LearnedFits}
 use Rattle.known_calls.proofs.Numbers.{length-known}
 
 pub has-length : HasLength

@@ -24,7 +24,7 @@ ghost use Rattle.message.specs.declared.Request.the-variants.{Read, Write};
 ghost use Rattle.request.specs.Step.{replyRoom};
 ghost use Rattle.request.specs.declared.Session.the-variants.{Greeted};
 ghost use Rattle.indexed.specs.Indexed.{indexedOf, stepBy};
-ghost use Rattle.known_request.specs.Quick.{quickOf, knowing, readKnown, storedKnown, writeKnown, syncKnown, renewed, greetedKnown, stepKnown};
+ghost use Rattle.known_request.specs.Quick.{quickOf, knowing, readKnown, storedKnown, writeKnown, syncKnown, renewed, stepKnown};
 ghost use Rattle.quick.specs.Admitted.{isGreeted, admitted};
 
 // A read: test 9, the block that is found by what is known, test 13.

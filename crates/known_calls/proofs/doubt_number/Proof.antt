@@ -1,5 +1,4 @@
 -- `known_calls::doubt_number` meets its contract.
-use native.Mathlib.Omega.{arith}
 use Rattle.known_calls.proofs.Numbers.{clear-number, greatest-number, at-number}
 use borrow.Author.Needs.{needs}
 use Rattle.known_calls.proofs.doubt_number.Statement.{statement}

@@ -3,7 +3,7 @@ use mathlib.Core.Path.{sym, _∙_}
 use lib.ListN.{length}
 use Rattle.message.proofs.Requests.{framed-head}
 use Rattle.sector.proofs.Dates.{date-length}
-use Rattle.quick.proofs.Admission.{Passed, passed, roomy-enough, others-handed-on, read-admitted, write-admitted, sync-admitted}
+use Rattle.quick.proofs.Admission.{passed, roomy-enough, others-handed-on, read-admitted, write-admitted, sync-admitted}
 use borrow.Author.Needs.{needs}
 use Rattle.quick.proofs.serve_admitted.Statement.{statement}
 use Rattle.quick.proofs.serve_admitted.Tie as tie
