@@ -13,7 +13,6 @@ use Rattle.buffer.proofs.Bytes.{same-refl}
 use Rattle.kind.specs.Kind.{isPointer, zeroScore, longest}
 use Rattle.block.specs.Block.{Row, partsOf}
 use Rattle.append.proofs.Images.{part-start}
-use Rattle.log.specs.Parts.{tape}
 use Rattle.log.specs.LookUp.{held, emptyRow}
 use Rattle.entry.specs.declared.Entry.{Entry}
 use Rattle.entry.specs.Entry.{pointers}
@@ -27,13 +26,14 @@ use Rattle.demands.proofs.Seen.{held-zero}
 use Rattle.writer.specs.Blocks.{cutBlock, level, leaves, scoresOf, scoresAt, pointerBlocks, widthOf, fileBlocks, topOf, topScore}
 use Rattle.writer.proofs.Levels.{pointer-type}
 use Rattle.writer.proofs.Cutting.{data-lawful}
-use Rattle.writer.proofs.Depth.{Lies, depth-lies, least-found}
+use Rattle.writer.proofs.Depth.{Lies, least-found}
 use Rattle.writer_laws.specs.Held.{HoldsAll}
-use Rattle.writer_laws.specs.Walk.{WalkVisitsFile}
+use Rattle.writer_laws.specs.Walk.{VisitsFile, WalkVisitsFile, WalkVisitsFileLater}
 use Rattle.writer_laws.proofs.Scores.{score-of, piece-piece, cut-short, cut-whole}
 use Rattle.writer_laws.proofs.Back.{holds-at, count, length-at, part-length, length-take-most}
 use Rattle.writer_laws.proofs.Written.{holds-level}
-use Rattle.writer_laws.proofs.ReadBack.{entry-is, score-is, well-formed, done-with}
+use Rattle.writer_laws.proofs.ReadBack.{entry-is, score-is, well-formed}
+use Rattle.writer_laws.proofs.StillHeld.{Ever, after-call, after-requests}
 use Rattle.writer_laws.proofs.Walk.{cut-piece, inner, whole-piece, parts, long, shallow}
 use Rattle.writer_laws.proofs.Visits.{sumFrom, sum-one, sum-mono, sum-above, visit-found, order-sum, blocks-count}
 
@@ -214,19 +214,23 @@ module _ (slice : Bytes) (dsize psize depth : ℕ) (lies : Lies (length slice) d
           rw (ne-eqb (length top) 0 (λ z. omega (arith, long slice dsize psize depth lies short log H, q)))
           (v, most (omega (arith, q)), ended v first at)
 
-pub walk-visits-file : WalkVisitsFile
-unfolding EndsWith judged nestOf
-walk-visits-file log w date slice dsize psize entry scores sm done =
-    let D = done-with log w date slice dsize psize entry scores sm done in
-    let d = D .tests .depth in
-    let both = tape log (D .part) in
-    let lies = depth-lies (length slice) dsize psize d (D .tests .deep) in
+visits-ever : (slice : Bytes) (dsize psize : ℕ) → Ever slice dsize psize (VisitsFile slice dsize psize)
+unfolding Ever EndsWith judged nestOf
+visits-ever slice dsize psize log d lies short H =
     let m = least-found (length slice) dsize (psize / 20) d (lies .least) in
-    let is = entry-is slice dsize psize d (lies .dsize-from) (lies .dsize-to) (lies .psize-from) (lies .psize-to) (m .0) (D .tests .short) (m .1) in
-    let sc = score-is slice dsize psize d (lies .dsize-from) (lies .dsize-to) (lies .psize-from) (lies .psize-to) (m .0) (D .tests .short) (m .1) in
-    let wf = well-formed slice dsize psize d (lies .dsize-from) (lies .dsize-to) (lies .psize-from) (lies .psize-to) (m .0) (D .tests .short) (m .1) in
-    let T = visits-top slice dsize psize d lies (D .tests .short) both (D .holds) in
-    let e = E slice dsize psize d lies (D .tests .short) both (D .holds) in
-    let ends : (calls nest left : ℕ) → left + left + 1 ≤ calls → nest ≤ 16 → T .0 ≤ left → visitEntry calls both e d nest (topScore slice dsize psize d) left ≡ walked (T .0) Done =
-    λ calls nest left enough n l. entry-enough calls (calls + suc d) both e d nest (topScore slice dsize psize d) left enough (omega arith) ∙ T .2 (calls + suc d) nest left (omega arith) n l in
-    rw (D .lent, D .handed, is, sc, wf) (T .0, T .1, λ calls nest left enough n l. (ends calls nest left enough n l, ends calls nest left enough n l))
+    let is = entry-is slice dsize psize d (lies .dsize-from) (lies .dsize-to) (lies .psize-from) (lies .psize-to) (m .0) short (m .1) in
+    let sc = score-is slice dsize psize d (lies .dsize-from) (lies .dsize-to) (lies .psize-from) (lies .psize-to) (m .0) short (m .1) in
+    let wf = well-formed slice dsize psize d (lies .dsize-from) (lies .dsize-to) (lies .psize-from) (lies .psize-to) (m .0) short (m .1) in
+    let T = visits-top slice dsize psize d lies short log H in
+    let e = E slice dsize psize d lies short log H in
+    let ends : (calls nest left : ℕ) → left + left + 1 ≤ calls → nest ≤ 16 → T .0 ≤ left → visitEntry calls log e d nest (topScore slice dsize psize d) left ≡ walked (T .0) Done =
+    λ calls nest left enough n l. entry-enough calls (calls + suc d) log e d nest (topScore slice dsize psize d) left enough (omega arith) ∙ T .2 (calls + suc d) nest left (omega arith) n l in
+    rw (is, sc, wf) (T .0, T .1, λ calls nest left enough n l. (ends calls nest left enough n l, ends calls nest left enough n l))
+
+pub walk-visits-file : WalkVisitsFile
+walk-visits-file log w date slice dsize psize entry scores sm done =
+    after-call (VisitsFile slice dsize psize) log w date slice dsize psize entry scores (visits-ever slice dsize psize) sm done
+
+pub walk-visits-file-later : WalkVisitsFileLater
+walk-visits-file-later log w date slice dsize psize entry scores sm done =
+    after-requests (VisitsFile slice dsize psize) log w date slice dsize psize entry scores (visits-ever slice dsize psize) sm done

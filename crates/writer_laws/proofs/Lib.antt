@@ -1,10 +1,11 @@
 -- Laws of the writer of files: `Scores`, of scores and of blocks that were cut; `Held`, of blocks stored; `Written`, of the blocks and tests of a file;
--- `Back`, of reading through its tree; `ReadBack`, the theorems.
+-- `Back`, of reading through its tree; `ReadBack`, the theorems; `StillHeld`, what follows of a log that holds the blocks.
 pub mod Scores
 pub mod Held
 pub mod Back
 pub mod Written
 pub mod ReadBack
+pub mod StillHeld
 pub mod Asking
 pub mod Walk
 pub mod Tests

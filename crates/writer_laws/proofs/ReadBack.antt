@@ -230,7 +230,7 @@ reads-back log w date slice dsize psize entry scores page sm zeros done =
 
 -- ---- and later
 
-holds-later : (log later : Bytes) (xs : List Typed) → ((t : ℕ) (s : Bytes) (r : Row) → held log t s ≡ some r → held later t s ≡ some r) → HoldsAll log xs → HoldsAll later xs
+pub holds-later : (log later : Bytes) (xs : List Typed) → ((t : ℕ) (s : Bytes) (r : Row) → held log t s ≡ some r → held later t s ≡ some r) → HoldsAll log xs → HoldsAll later xs
 holds-later log later [] k H = tt
 holds-later log later (x ∷ xs) k H =
     let h = H .0 in ((h .0, k (x .kind) (sha1Of (x .bytes)) (h .0) (h .1), h .2), holds-later log later xs k (H .1))

@@ -13,7 +13,6 @@ use Rattle.buffer.proofs.Bytes.{same-refl}
 use Rattle.buffer.proofs.Parts.{part-within}
 use Rattle.kind.specs.Kind.{isPointer, zeroScore, longest}
 use Rattle.block.specs.Block.{partsOf}
-use Rattle.log.specs.Parts.{tape}
 use Rattle.log.specs.LookUp.{held, emptyRow}
 use Rattle.cut.specs.Cut.{unitOf, cutLength}
 use Rattle.cut.proofs.Shortest.{cut-le}
@@ -25,13 +24,14 @@ use Rattle.demands.proofs.Seen.{held-zero}
 use Rattle.writer.specs.Blocks.{cutBlock, level, leaves, scoresOf, scoresAt, pointerBlocks, widthOf, fileBlocks, topOf, topScore}
 use Rattle.writer.proofs.Levels.{pointer-type}
 use Rattle.writer.proofs.Cutting.{data-lawful}
-use Rattle.writer.proofs.Depth.{Lies, depth-lies, least-found}
+use Rattle.writer.proofs.Depth.{Lies, least-found}
 use Rattle.writer_laws.specs.Held.{HoldsAll}
-use Rattle.writer_laws.specs.Walk.{WalkFindsFile}
+use Rattle.writer_laws.specs.Walk.{FindsFile, WalkFindsFile, WalkFindsFileLater}
 use Rattle.writer_laws.proofs.Scores.{score-of, piece-piece, cut-whole}
 use Rattle.writer_laws.proofs.Back.{holds-at, count, length-at, read-at, part-length}
 use Rattle.writer_laws.proofs.Written.{holds-both, holds-level}
-use Rattle.writer_laws.proofs.ReadBack.{entry-is, score-is, well-formed, done-with}
+use Rattle.writer_laws.proofs.ReadBack.{entry-is, score-is, well-formed}
+use Rattle.writer_laws.proofs.StillHeld.{Ever, after-call, after-requests}
 
 -- a score of a block that was cut is one of the block's
 pub cut-piece : (kind : ℕ) (b : Bytes) (j : ℕ) → j < length (cutBlock kind b) / 20 → (piece 20 j (cutBlock kind b) ≡ piece 20 j b) × (20 * j + 20 ≤ length b)
@@ -131,13 +131,19 @@ module _ (slice : Bytes) (dsize psize depth : ℕ) (lies : Lies (length slice) d
           (holds-level log (widthOf psize) (scoresOf (leaves dsize slice)) depth (parts .1)) depth (omega arith) 0 (omega (arith, q)) in
           rw (ne-eqb (length top) 0 (λ z. omega (arith, long, q))) (subst (Found log E depth) (ap (λ (n : ℕ). take 20 (drop n top)) (mul-zero 20)) f)
 
+finds-ever : (slice : Bytes) (dsize psize : ℕ) → Ever slice dsize psize FindsFile
+unfolding Ever
+finds-ever slice dsize psize log d lies short H =
+    let m = least-found (length slice) dsize (psize / 20) d (lies .least) in
+    let is = entry-is slice dsize psize d (lies .dsize-from) (lies .dsize-to) (lies .psize-from) (lies .psize-to) (m .0) short (m .1) in
+    let sc = score-is slice dsize psize d (lies .dsize-from) (lies .dsize-to) (lies .psize-from) (lies .psize-to) (m .0) short (m .1) in
+    let wf = well-formed slice dsize psize d (lies .dsize-from) (lies .dsize-to) (lies .psize-from) (lies .psize-to) (m .0) short (m .1) in
+    rw (is, sc) (refl, wf, found-top slice dsize psize d lies short log H)
+
 pub walk-finds-file : WalkFindsFile
 walk-finds-file log w date slice dsize psize entry scores sm done =
-    let D = done-with log w date slice dsize psize entry scores sm done in
-    let d = D .tests .depth in
-    let lies = depth-lies (length slice) dsize psize d (D .tests .deep) in
-    let m = least-found (length slice) dsize (psize / 20) d (lies .least) in
-    let is = entry-is slice dsize psize d (lies .dsize-from) (lies .dsize-to) (lies .psize-from) (lies .psize-to) (m .0) (D .tests .short) (m .1) in
-    let sc = score-is slice dsize psize d (lies .dsize-from) (lies .dsize-to) (lies .psize-from) (lies .psize-to) (m .0) (D .tests .short) (m .1) in
-    let wf = well-formed slice dsize psize d (lies .dsize-from) (lies .dsize-to) (lies .psize-from) (lies .psize-to) (m .0) (D .tests .short) (m .1) in
-    rw (D .lent, D .handed, is, sc) (refl, wf, found-top slice dsize psize d lies (D .tests .short) (tape log (D .part)) (D .holds))
+    after-call FindsFile log w date slice dsize psize entry scores (finds-ever slice dsize psize) sm done
+
+pub walk-finds-file-later : WalkFindsFileLater
+walk-finds-file-later log w date slice dsize psize entry scores sm done =
+    after-requests FindsFile log w date slice dsize psize entry scores (finds-ever slice dsize psize) sm done
