@@ -60,7 +60,7 @@ pub part-length : (w i : ℕ) (b : Bytes) → length (piece w i b) ≡ min w (le
 part-length w i b = simp (length-take, length-drop) refl
 
 -- a pointer block of whole scores has the one that leads down
-split-whole : (p i j x c all n : ℕ) → all ≡ 20 * c → n ≡ min (20 * p) (all - 20 * p * i) → p * i + j ≡ x → j < p → x < c → (n % 20 ≡ 0) × (20 * j < n)
+pub split-whole : (p i j x c all n : ℕ) → all ≡ 20 * c → n ≡ min (20 * p) (all - 20 * p * i) → p * i + j ≡ x → j < p → x < c → (n % 20 ≡ 0) × (20 * j < n)
 split-whole p i j x c all n ea en ex hj hx = let q : 20 * p * i ≡ 20 * (p * i) = mul-assoc 20 p i in (omega arith, omega arith)
 
 -- "below a zero score all is zero"

@@ -11,3 +11,4 @@ pub mod Walk
 pub mod Tests
 pub mod Visits
 pub mod FileVisits
+pub mod Reached

@@ -1,14 +1,21 @@
 -- "the walk of a directory that holds the entry finds every block".
 use mathlib.Core.Path.{_≡_}
 use mathlib.Core.Bool.{true}
-use mathlib.Core.List.{List}
-use Prim.Native.Nat.{ℕ, _+_, _≤_, max}
+use mathlib.Core.List.{List, [], List·Memᴰ}
+use mathlib.Core.Logic.{_≢_}
+use mathlib.Core.Option.{some}
+use Prim.Native.Nat.{ℕ, suc, _+_, _/_, _≤_, _<_, max}
 use lib.ListN.{length}
 use Rattle.buffer.specs.Bytes.{Bytes}
 use Rattle.word.specs.Number.{small}
+use Rattle.sha1.specs.Sha1.{sha1Of}
+use Rattle.block.specs.Block.{Row}
 use Rattle.log.specs.Parts.{Lent, tape}
+use Rattle.log.specs.LookUp.{held}
 use Rattle.request.specs.declared.Session.{Session}
+use Rattle.entry.specs.declared.Entry.{Entry}
 use Rattle.entry.specs.Entry.{entryOf, entryAllowed, scoreOf}
+use Rattle.tree.specs.Tree.{piece, typeAt}
 use Rattle.visit.specs.declared.End.the-variants as visit
 use Rattle.visit.specs.Visit.{walked}
 use Rattle.descent.specs.Descent.{visitEntry}
@@ -18,9 +25,10 @@ use Rattle.ledger.specs.History.{Item, AllOfBytes}
 use Rattle.demands.specs.Instance.{archive}
 use Rattle.promises.specs.Histories.{afterwards}
 use Rattle.trees.specs.Again.{waitingOf}
-use Rattle.writer.specs.Blocks.{fileBlocks}
+use Rattle.writer.specs.Blocks.{Typed, fileBlocks}
 use Rattle.writer.specs.WriteFile.{writeFile}
 use Rattle.writer.specs.declared.End.the-variants.{Done}
+use Rattle.writer_laws.specs.Held.{Holds}
 
 -- the log and its waiting part, read as one
 abbrev pub both : Lent → Bytes
@@ -63,3 +71,30 @@ WalkVisitsFileLater = (log waiting date slice : Bytes) (dsize psize : ℕ) (entr
     → let o = writeFile log waiting date slice dsize psize entry scores in
     o .end ≡ Done → (past : List Session) (qs : List (Item archive)) → AllOfBytes archive qs
     → VisitsFile slice dsize psize (both (afterwards (o .lent) past qs)) (o .entry)
+
+-- the scores that a walk comes to from a score that an entry has, each at its level: that one at the entry's depth, and every score of a pointer block that it came to
+pub data ComesTo (log : Bytes) (e : Entry) (top : Bytes) : ℕ → Bytes → Type 0 where
+  first : ComesTo log e top (e .depth) top
+  below : {k : ℕ} {s : Bytes} (r : Row) → ComesTo log e top (suc k) s → held log (2 + suc k) s ≡ some r → (i : ℕ) → i < length (r .bytes) / 20
+      → ComesTo log e top k (piece 20 i (r .bytes))
+
+-- each block of the file that is not empty is held, and a walk comes to its score at a level that has its type. An empty one has the zero score, and
+-- zero scores at a pointer block's end are cut off
+abbrev pub ReachesFile : Bytes → ℕ → ℕ → Bytes → Bytes → Type 0
+ReachesFile slice dsize psize log entry =
+    let e = entryOf entry in
+    (x : Typed) → List·Memᴰ x (fileBlocks slice dsize psize (e .depth)) → x .bytes ≢ []
+    → Holds log x × ((k : ℕ) × (typeAt e k ≡ x .kind) × ComesTo log e (scoreOf entry) k (sha1Of (x .bytes)))
+
+-- so it is where the call succeeds: "finds every block"
+abbrev pub WalkReachesFile : Type 0
+WalkReachesFile = (log waiting date slice : Bytes) (dsize psize : ℕ) (entry scores : Bytes) → small slice ≡ true
+    → let o = writeFile log waiting date slice dsize psize entry scores in
+    o .end ≡ Done → ReachesFile slice dsize psize (both (o .lent)) (o .entry)
+
+-- and still after any later requests
+abbrev pub WalkReachesFileLater : Type 0
+WalkReachesFileLater = (log waiting date slice : Bytes) (dsize psize : ℕ) (entry scores : Bytes) → small slice ≡ true
+    → let o = writeFile log waiting date slice dsize psize entry scores in
+    o .end ≡ Done → (past : List Session) (qs : List (Item archive)) → AllOfBytes archive qs
+    → ReachesFile slice dsize psize (both (afterwards (o .lent) past qs)) (o .entry)
