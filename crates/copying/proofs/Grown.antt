@@ -1,4 +1,4 @@
--- A log after writes: what was there stays, and what is new is found and lacks nothing that it links to.
+-- A log after writes: what was there stays, and what is new is found and is the block of a visit.
 use mathlib.Core.Path.{_≡_, refl, sym, ap, subst, _∙_}
 use mathlib.Core.Bool.{Bool, true, false, cond, _&&_}
 use mathlib.Core.List.{List, [], _∷_, _++_, append-assoc, append-nil, List·Memᴰ, List·Memᴰ·not-nil, List·Memᴰ·append-cases, List·Memᴰ·eq-of-singleton}
@@ -21,7 +21,7 @@ use Rattle.entry.specs.declared.Entry.{Entry}
 use Rattle.walk_laws.specs.Found.{Found, leaf, FoundEntries, FoundRoot}
 use Rattle.walk_laws.specs.Found.{directory as directoryFound, pointers as pointersFound}
 use Rattle.copying.specs.PostOrder.{Role, Visit}
-use Rattle.copying.specs.Promises.{Holds, Shown, Linked, below-root, below-top, no-link, entries, scores, Stays, LinkedAs}
+use Rattle.copying.specs.Promises.{Holds, Shown, Linked, below-root, below-top, no-link, entries, scores, Stays, VisitedIn}
 
 -- ---- what a log finds, one finds that holds as much
 
@@ -54,14 +54,11 @@ module _ (s s′ : Bytes) (h : Holds s s′) where
     below = entries-hold (R .below);
   }
 
-  pub as-holds : (vs : List Visit) (x : Row) → LinkedAs vs s x → LinkedAs vs s′ x
-  as-holds vs x (v, m, k, b, l) = (v, m, k, b, linked-holds l)
-
 -- ---- logs that grow
 
 pub record Grown (vs : List Visit) (date s s′ : Bytes) : Type 0 where
   pub stays : Stays date s s′
-  pub linked : (x : Row) → List·Memᴰ x (stays .new) → LinkedAs vs s′ x
+  pub visited : (x : Row) → List·Memᴰ x (stays .new) → VisitedIn vs x
 
 pub grown-same : (vs : List Visit) (date s : Bytes) → Grown vs date s s
 grown-same vs date s = record {
@@ -74,7 +71,7 @@ grown-same vs date s = record {
     new-held = λ x m. absurd (List·Memᴰ·not-nil m);
     new-dated = λ x m. absurd (List·Memᴰ·not-nil m);
   };
-  linked = λ x m. absurd (List·Memᴰ·not-nil m);
+  visited = λ x m. absurd (List·Memᴰ·not-nil m);
 }
 
 -- the used part does not shrink
@@ -96,7 +93,7 @@ grown-again {vs} {date} {s} {s₁} {s₂} A B = record {
     new-held = λ x m. by (λ (y : Row). held s₂ (y .kind) (y .score) ≡ some y) x (λ k. B .stays .still-held _ _ x (A .stays .new-held x k)) (B .stays .new-held x) m;
     new-dated = λ x m. by (λ (y : Row). y .date ≡ date) x (A .stays .new-dated x) (B .stays .new-dated x) m;
   };
-  linked = λ x m. by (LinkedAs vs s₂) x (λ k. as-holds s₁ s₂ (B .stays .still-held) vs x (A .linked x k)) (B .linked x) m;
+  visited = λ x m. by (VisitedIn vs) x (A .visited x) (B .visited x) m;
 }
   where
     by : (P : Row → Type 0) (x : Row) → (List·Memᴰ x (A .stays .new) → P x) → (List·Memᴰ x (B .stays .new) → P x) → List·Memᴰ x (A .stays .new ++ B .stays .new) → P x
@@ -112,7 +109,7 @@ only : (P : Row → Type 0) (r : Row) → P r → (x : Row) → List·Memᴰ x (
 only P r p x m = subst P (sym (List·Memᴰ·eq-of-singleton m)) p
 
 module _ (vs : List Visit) (date s : Bytes) (r : Row) (v : valid r ≡ true) (f : r .first ≡ used s) (room : r .first + parts r ≤ sectors (length s)) (d : r .date ≡ date)
-    (h : held s (r .kind) (r .score) ≡ nothing) (l : LinkedAs vs s r) where
+    (h : held s (r .kind) (r .score) ≡ nothing) (l : VisitedIn vs r) where
   front-same : (n : ℕ) → n < used s → at (written s r) n ≡ at s n
   front-same n k =
       let z : leb (r .first) n ≡ false = lt-leb (r .first) n (omega (arith, f)) in
@@ -129,5 +126,5 @@ module _ (vs : List Visit) (date s : Bytes) (r : Row) (v : valid r ≡ true) (f 
       new-held = only (λ (x : Row). held (written s r) (x .kind) (x .score) ≡ some x) r (held-appended s r v f room h);
       new-dated = only (λ (x : Row). x .date ≡ date) r d;
     };
-    linked = only (LinkedAs vs (written s r)) r (as-holds s (written s r) (held-written s r v f room) vs r l);
+    visited = only (VisitedIn vs) r l;
   }

@@ -4,6 +4,7 @@ pub mod Below
 pub mod CopiedAgain
 pub mod Grown
 pub mod InPostOrder
+pub mod Made
 pub mod OneVisit
 pub mod Promised
 pub mod SameSectors

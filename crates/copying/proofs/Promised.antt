@@ -1,7 +1,7 @@
 -- The promises of a copy: by its tests, then by the blocks that it stores.
 use mathlib.Core.Path.{_≡_, refl, sym, ap, subst, _∙_}
 use mathlib.Core.Bool.{Bool, true, false, cond, true≢false}
-use mathlib.Core.List.{List, [], _∷_, _++_, List·Memᴰ, List·Memᴰ·not-nil, Memᴰ·append-left}
+use mathlib.Core.List.{List, [], _∷_, _++_, append-nil, List·Memᴰ, List·Memᴰ·not-nil}
 use mathlib.Core.Logic.{inl, inr}
 use Prim.Native.Nat.{ℕ, _/_, _%_, _≤_, _^_}
 use native.Mathlib.Omega.{arith}
@@ -25,14 +25,15 @@ use Rattle.visit.specs.Visit.{walked}
 use Rattle.walk.specs.Walk.{walkOf, mostAllowance}
 use Rattle.walk_laws.proofs.Found.{not-done, walk-found}
 use Rattle.copying.specs.Copy.{Copied, stopped, copyRoot, copyIn, copyAllowed, copyOf}
-use Rattle.copying.specs.PostOrder.{Visit, PostOrder, postOrderIn, postOrderOf}
-use Rattle.copying.specs.Promises.{Holds, HoldsAll, Linked, wroteAll, Writes, none, OnlyWrites, CopyIsWrites, StopsAt, ended, refused, CopyStopsAt, OfSecond, RefusedBlock}
+use Rattle.copying.specs.PostOrder.{typeOf, Visit, PostOrder, postOrderIn, postOrderOf}
+use Rattle.copying.specs.Promises.{Holds, HoldsAll, Linked, wroteAll, Writes, none, taken, made, OnlyWrites, CopyIsWrites, StopsAt, ended, refused, Refuses, CopyStopsAt, OfSecond, RefusedBlock}
 use Rattle.copying.specs.Promises.{OnlyWhereRefused, RoomAndNoClash}
-use Rattle.copying.specs.Promises.{CopiedStays, NoDangling, EndsWhole, AsWalk, CopyIsWalk}
+use Rattle.copying.specs.Promises.{CopiedStays, LinkedAs, NoDangling, EndsWhole, AsWalk, CopyIsWalk}
 use Rattle.copying.proofs.Stored.{Fits}
 use Rattle.copying.proofs.Grown.{shown-holds, Grown, grown-same, root-holds}
 use Rattle.copying.proofs.Writes.{refuses-second, not-of-second, writes-grown, writes-linked, writes-held, stops-at}
 use Rattle.copying.proofs.InPostOrder.{parts-allowed, copy-is-stores}
+use Rattle.copying.proofs.Made.{all-taken, taken-before, unspent}
 use Rattle.copying.proofs.OneVisit.{of-first}
 use Rattle.copying.proofs.Visited.{OfFirst}
 use Rattle.copying.proofs.Tour.{tests-tour, post-order-is-walk}
@@ -102,43 +103,70 @@ module _ (log waiting date score second : Bytes) (n : ℕ) where
       subst (StopsAt L date reached second) (sym (copy-is-stores log waiting date score second n l d))
       (stops-at L date d (reached .visits) (reached .answer) second (fits l) (λ x. Unit {0}) (λ x y h q. tt) tt (T .links L) (T .shown L) (T .within L))
 
-  -- what it wrote are blocks of the walk
-  Wrote : Type 0
-  Wrote = (vs : List Visit) × Writes (tape log waiting) date vs second × (outcome .second ≡ wroteAll date vs second) × ((v : Visit) → List·Memᴰ v vs → List·Memᴰ v (reached .visits))
+  -- ---- what it wrote
 
-  written : lent ≡ true → isDate date ≡ true → Wrote
-  unfolding Wrote
-  written l d = go (stops l d)
+  abbrev Wrote : List Visit → Type 0
+  Wrote before = OnlyWrites (tape log waiting) date reached before second outcome
+
+  -- a beginning of the walk, written
+  begun : lent ≡ true → isDate date ≡ true → (before rest : List Visit) → reached .visits ≡ before ++ rest → (outcome .answer ≡ reached .answer → rest ≡ [])
+      → Writes (tape log waiting) date before second → outcome .second ≡ wroteAll date before second → Wrote before
+  begun l d before rest q z W e = record {
+    rest = rest;
+    beginning = q;
+    whole = z;
+    writes = W;
+    behind = e;
+    linked = λ v m. subst (λ (s : Bytes). Linked s (v .role) (v .bytes)) (sym e) (writes-linked (tape log waiting) date d W (fits l) v m);
+  }
+
+  -- up to the block that is refused, which the walk does not answer
+  written : lent ≡ true → isDate date ≡ true → StopsAt (tape log waiting) date reached second outcome → Wrote (taken date (reached .visits) second)
+  written l d (ended W e a) =
+      subst Wrote (sym (all-taken (tape log waiting) date (reached .visits) second W)) (begun l d (reached .visits) [] (sym (append-nil (reached .visits))) (λ z. refl) W e)
+  written l d (refused before after v q W e _ _ R _ _) =
+      let o = tests-tour (lentAllowed (length log) (length waiting)) score n .first (tape log waiting) in
+      let t = taken-before (tape log waiting) date before after v second (outcome .answer .end) W
+      (subst (λ (s : Bytes). Refuses s date (typeOf (v .role)) (v .bytes) (outcome .answer .end)) e R) in
+      subst Wrote (sym (ap (λ (vs : List Visit). taken date vs second) q ∙ t))
+      (begun l d before (v ∷ after) q (λ z. absurd (o (subst (λ (w : Walked). OfSecond (w .end)) z (refuses-second R)))) W e)
+
+  -- a call that a test refuses
+  unwritten : (why : Refusal) → outcome ≡ stopped 0 (Refused why) second → Wrote []
+  unfolding wroteAll
+  unwritten why e = record {
+    rest = reached .visits;
+    beginning = refl;
+    whole = λ z. unspent (lentAllowed (length log) (length waiting)) (tape log waiting) score n
+        (ap (λ (w : Walked). w .visits) (sym z) ∙ ap (λ (c : Copied). c .answer .visits) e);
+    writes = none;
+    behind = ap (λ (c : Copied). c .second) e;
+    linked = λ v m. absurd (List·Memᴰ·not-nil m);
+  }
+
+  only-writes : Wrote (made log waiting date score second n)
+  unfolding made
+  only-writes = go lent (isDate date) refl refl (tested (tape log waiting) date score n second lent)
     where
-      go : StopsAt (tape log waiting) date reached second outcome
-          → (vs : List Visit) × Writes (tape log waiting) date vs second × (outcome .second ≡ wroteAll date vs second) × ((v : Visit) → List·Memᴰ v vs → List·Memᴰ v (reached .visits))
-      go (ended W e a) = (reached .visits, W, e, λ v m. m)
-      go (refused before after v q W e _ _ _ _ _) = (before, W, e, λ x m. subst (List·Memᴰ x) (sym q) (Memᴰ·append-left (v ∷ after) m))
+      go : (a b : Bool) → lent ≡ a → isDate date ≡ b → Tested lent (tape log waiting) date score n second outcome
+          → Wrote (cond a (cond b (taken date (reached .visits) second) []) [])
+      go true true l d T = written l d (stops l d)
+      go true false l d (failed why _ _ e) = unwritten why e
+      go true false l d (passed _ d′ _ _) = absurd (true≢false (sym d′ ∙ d))
+      go false b l d (failed why _ _ e) = unwritten why e
+      go false b l d (passed l′ _ _ _) = absurd (true≢false (sym l′ ∙ l))
 
-  only-writes : OnlyWrites (tape log waiting) date second (outcome .second)
-  unfolding Wrote wroteAll
-  only-writes = go (tested (tape log waiting) date score n second lent)
-    where
-      go : Tested lent (tape log waiting) date score n second outcome → OnlyWrites (tape log waiting) date second (outcome .second)
-      go (failed why _ _ e) = record { visits = []; writes = none; behind = ap (λ (c : Copied). c .second) e; linked = λ v m. absurd (List·Memᴰ·not-nil m) }
-      go (passed l d a e) =
-          let f = written l d in
-          record {
-            visits = f .0;
-            writes = f .1;
-            behind = f .2;
-            linked = λ v m. subst (λ (s : Bytes). Linked s (v .role) (v .bytes)) (sym (f .2)) (writes-linked (tape log waiting) date d (f .1) (fits l) v m);
-          }
-
-  grown : Grown (reached .visits) date second (outcome .second)
-  unfolding Wrote
+  grown : Grown (made log waiting date score second n) date second (outcome .second)
   grown = go (tested (tape log waiting) date score n second lent)
     where
-      go : Tested lent (tape log waiting) date score n second outcome → Grown (reached .visits) date second (outcome .second)
-      go (failed why _ _ e) = subst (λ (c : Copied). Grown (reached .visits) date second (c .second)) (sym e) (grown-same (reached .visits) date second)
+      go : Tested lent (tape log waiting) date score n second outcome → Grown (made log waiting date score second n) date second (outcome .second)
+      go (failed why _ _ e) = subst (λ (c : Copied). Grown (made log waiting date score second n) date second (c .second)) (sym e) (grown-same _ date second)
       go (passed l d a e) =
-          let f = written l d in
-          subst (Grown (reached .visits) date second) (sym (f .2)) (writes-grown (tape log waiting) date d (reached .visits) (f .1) (f .3) (fits l))
+          subst (Grown (made log waiting date score second n) date second) (sym (only-writes .behind))
+          (writes-grown (tape log waiting) date d (made log waiting date score second n) (only-writes .writes) (λ v m. m) (fits l))
+
+  lacks-nothing : (x : Row) → List·Memᴰ x (grown .stays .new) → LinkedAs (made log waiting date score second n) (outcome .second) x
+  lacks-nothing x m = (grown .visited x m, λ v k o. subst (Linked (outcome .second) (v .role)) (o .1) (only-writes .linked v k))
 
   -- ---- where it is done
 
@@ -204,8 +232,8 @@ copied-stays log waiting date score second n = grown log waiting date score seco
 
 pub no-dangling : NoDangling
 no-dangling log waiting date score second n new e x m =
-    let G = grown log waiting date score second n in
-    G .linked x (subst (List·Memᴰ x) (cancel (blocks second) new (G .stays .new) (sym e ∙ G .stays .added)) m)
+    let S = grown log waiting date score second n .stays in
+    lacks-nothing log waiting date score second n x (subst (List·Memᴰ x) (cancel (blocks second) new (S .new) (sym e ∙ S .added)) m)
 
 pub ends-whole : EndsWhole
 unfolding Whole

@@ -77,13 +77,12 @@ unfolding store
 refused-stored s date t b _ (no-room h q) = rw (h, q) (refl, refl)
 refused-stored s date t b _ (clash x h f) = rw (h, differ (x .bytes) b f) (refl, refl)
 
-stored-grown : (vs : List Visit) (s date : Bytes) (v : Visit) (a : AfterStore) → Stored s date (typeOf (v .role)) (v .bytes) a → List·Memᴰ v vs
-    → Linked s (v .role) (v .bytes) → Grown vs date s (a .lent .log)
-stored-grown vs s date v a (new r w f room k sc eb d h e _) m l =
+stored-grown : (vs : List Visit) (s date : Bytes) (v : Visit) (a : AfterStore) → Stored s date (typeOf (v .role)) (v .bytes) a → List·Memᴰ v vs → Grown vs date s (a .lent .log)
+stored-grown vs s date v a (new r w f room k sc eb d h e _) m =
     let n : held s (r .kind) (r .score) ≡ nothing = ap₂ (held s) k sc ∙ h in
-    subst (Grown vs date s) (sym e) (grown-written vs date s r w f room d n (v, m, sym k, sym eb, subst (Linked s (v .role)) (sym eb) l))
-stored-grown vs s date v a (there x h eb e _) m l = subst (Grown vs date s) (sym e) (grown-same vs date s)
-stored-grown vs s date v a (refused _ e) m l = subst (Grown vs date s) (sym e) (grown-same vs date s)
+    subst (Grown vs date s) (sym e) (grown-written vs date s r w f room d n (v, m, (sym k, sym eb)))
+stored-grown vs s date v a (there x h eb e _) m = subst (Grown vs date s) (sym e) (grown-same vs date s)
+stored-grown vs s date v a (refused _ e) m = subst (Grown vs date s) (sym e) (grown-same vs date s)
 
 stored-shown : (s date : Bytes) (t : ℕ) (score b : Bytes) (a : AfterStore) → Stored s date t b a → sha1Of b ≡ score → storeEnd (a .receipt .stored) ≡ Done
     → Shown (a .lent .log) t score b
@@ -112,14 +111,14 @@ module _ (first date : Bytes) (d : isDate date ≡ true) where
       stored-alone s date (typeOf (v .role)) (v .bytes) fit d (W .lawful-kind) (W .not-many) (W .of-bytes)
 
   module _ (all : List Visit) where
-    grown-wrote : (s : Bytes) (v : Visit) → Fits s → HeldIn first v → List·Memᴰ v all → Linked s (v .role) (v .bytes) → Grown all date s (wrote date v s)
-    grown-wrote s v fit h m l = stored-grown all s date v (stored date v s) (stored-visit s v fit h) m l
+    grown-wrote : (s : Bytes) (v : Visit) → Fits s → HeldIn first v → List·Memᴰ v all → Grown all date s (wrote date v s)
+    grown-wrote s v fit h m = stored-grown all s date v (stored date v s) (stored-visit s v fit h) m
 
     pub writes-grown : {vs : List Visit} {s : Bytes} → Writes first date vs s → ((v : Visit) → List·Memᴰ v vs → List·Memᴰ v all) → Fits s → Grown all date s (wroteAll date vs s)
     unfolding wroteAll
     writes-grown {s = s} none f fit = grown-same all date s
     writes-grown {s = s} (next {v = v} h l q w) f fit =
-        let G = grown-wrote s v fit h (f v (List·Memᴰ·head refl)) l in
+        let G = grown-wrote s v fit h (f v (List·Memᴰ·head refl)) in
         grown-again G (writes-grown w (λ x m. f x (List·Memᴰ·tail m)) (fits-on G fit))
 
   -- what was written is found
@@ -127,7 +126,7 @@ module _ (first date : Bytes) (d : isDate date ≡ true) where
   unfolding wroteAll
   writes-held none fit = tt
   writes-held {s = s} (next {v = v} {vs = vs} h l q w) fit =
-      let G = grown-wrote (v ∷ []) s v fit h (List·Memᴰ·head refl) l in
+      let G = grown-wrote (v ∷ []) s v fit h (List·Memᴰ·head refl) in
       let fit₁ = fits-on G fit in
       let S = stored-shown s date (typeOf (v .role)) (v .score) (v .bytes) (stored date v s) (stored-visit s v fit h)
       (shown-writable first (typeOf (v .role)) (v .score) (v .bytes) h .scored) q in
@@ -138,7 +137,7 @@ module _ (first date : Bytes) (d : isDate date ≡ true) where
   unfolding wroteAll
   writes-linked none fit x m = absurd (List·Memᴰ·not-nil m)
   writes-linked {s = s} (next {v = v} {vs = vs} h l q w) fit x m =
-      go (List·Memᴰ·cases-cons m) (λ k. writes-linked w (fits-on (grown-wrote (v ∷ []) s v fit h (List·Memᴰ·head refl) l) fit) x k)
+      go (List·Memᴰ·cases-cons m) (λ k. writes-linked w (fits-on (grown-wrote (v ∷ []) s v fit h (List·Memᴰ·head refl)) fit) x k)
     where
       go : (x ≡ v) ⊎ List·Memᴰ x vs → (List·Memᴰ x vs → Linked (wroteAll date vs (wrote date v s)) (x .role) (x .bytes)) → Linked (wroteAll date (v ∷ vs) s) (x .role) (x .bytes)
       go (inl e) f =
@@ -174,7 +173,7 @@ module _ (first date : Bytes) (d : isDate date ≡ true) where
   stops-at [] w s fit Q f q l h i = ended none refl refl
   stops-at (v ∷ vs) w s fit Q f q l h i = by (stored-visit s v fit (h .0))
       (λ z.
-      let G = grown-wrote (v ∷ []) s v fit (h .0) (List·Memᴰ·head refl) (l .0 s q) in
+      let G = grown-wrote (v ∷ []) s v fit (h .0) (List·Memᴰ·head refl) in
       let S = stored-shown s date (typeOf (v .role)) (v .score) (v .bytes) (stored date v s) (stored-visit s v fit (h .0))
       (shown-writable first (typeOf (v .role)) (v .score) (v .bytes) (h .0) .scored) z in
       stops-at vs w (wrote date v s) (fits-on G fit) (λ L. Q L × HeldIn L v) (λ L L′ g p. (f L L′ g (p .0), shown-holds L L′ g (p .1)))

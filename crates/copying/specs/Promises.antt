@@ -1,6 +1,6 @@
 -- What a copy promises, for any first log and any second log.
 use mathlib.Core.Path.{_≡_}
-use mathlib.Core.Bool.{true, false}
+use mathlib.Core.Bool.{true, false, cond}
 use mathlib.Core.List.{List, [], _∷_, _++_, List·Memᴰ}
 use mathlib.Core.Logic.{_≢_, _⊎_}
 use mathlib.Core.Option.{some, none as nothing}
@@ -94,17 +94,34 @@ pub data Writes (first date : Bytes) : List Visit → Bytes → Type 0 where
   next : {v : Visit} {vs : List Visit} {s : Bytes} → HeldIn first v → Linked s (v .role) (v .bytes) → storeEnd (stored date v s .receipt .stored) ≡ Done
       → Writes first date vs (wrote date v s) → Writes first date (v ∷ vs) s
 
-pub record OnlyWrites (first date second second′ : Bytes) : Type 0 where
-  pub visits : List Visit
-  pub writes : Writes first date visits second
-  pub behind : second′ ≡ wroteAll date visits second
-  pub linked : (v : Visit) → List·Memᴰ v visits → Linked second′ (v .role) (v .bytes)
+-- the visits of a list up to the first one whose block the second log refuses
+abbrev pub takenBy : End → Visit → List Visit → List Visit
+takenBy Done v vs = v ∷ vs
+takenBy (Refused why) v vs = []
 
--- "appended to that log itself": the second log is what a list of writes leaves, one after the other, each settled at once; in the end too it has all that the
--- blocks written link to, each by every visit that wrote it or met it there
+unfoldable pub taken : Bytes → List Visit → Bytes → List Visit
+taken date [] s = []
+taken date (v ∷ vs) s = takenBy (storeEnd (stored date v s .receipt .stored)) v (taken date vs (wrote date v s))
+
+-- the visits that a copy made, each of which wrote its block or met it in the second log: none where a test refuses the call
+unfoldable pub made : Bytes → Bytes → Bytes → Bytes → Bytes → ℕ → List Visit
+made log waiting date score second n =
+    cond (copyAllowed (length log) (length waiting) (length second)) (cond (isDate date) (taken date (postOrderOf log waiting score n .visits) second) []) []
+
+-- a beginning of a walk, `before`, is what a copy wrote, and the whole of it where the answer is the walk's; in the end too the second log has all that the blocks
+-- of these visits link to
+pub record OnlyWrites (first date : Bytes) (p : PostOrder) (before : List Visit) (second : Bytes) (c : Copied) : Type 0 where
+  pub rest : List Visit
+  pub beginning : p .visits ≡ before ++ rest
+  pub whole : c .answer ≡ p .answer → rest ≡ []
+  pub writes : Writes first date before second
+  pub behind : c .second ≡ wroteAll date before second
+  pub linked : (v : Visit) → List·Memᴰ v before → Linked (c .second) (v .role) (v .bytes)
+
+-- "appended to that log itself": the second log is what a list of writes leaves, one after the other, each settled at once: those of the visits made
 abbrev pub CopyIsWrites : Type 0
 CopyIsWrites = (log waiting date score second : Bytes) (n : ℕ)
-    → OnlyWrites (tape log waiting) date second (copyOf log waiting date score second n .second)
+    → OnlyWrites (tape log waiting) date (postOrderOf log waiting score n) (made log waiting date score second n) second (copyOf log waiting date score second n)
 
 -- why a log refuses a block: 14, it holds none of this type and score and has too few sectors left; 15, it holds one of other bytes
 pub data Refuses (s date : Bytes) (t : ℕ) (b : Bytes) : End → Type 0 where
@@ -157,15 +174,24 @@ pub record Stays (date second second′ : Bytes) : Type 0 where
 abbrev pub CopiedStays : Type 0
 CopiedStays = (log waiting date score second : Bytes) (n : ℕ) → Stays date second (copyOf log waiting date score second n .second)
 
--- a row is the block of one of the walk's visits, and all that it links to as what it was visited is in a log
-abbrev pub LinkedAs : List Visit → Bytes → Row → Type 0
-LinkedAs vs log x = (v : Visit) × List·Memᴰ v vs × (typeOf (v .role) ≡ x .kind) × (v .bytes ≡ x .bytes) × Linked log (v .role) (x .bytes)
+-- a visit whose block a row is
+abbrev pub OfRow : Row → Visit → Type 0
+OfRow x v = (typeOf (v .role) ≡ x .kind) × (v .bytes ≡ x .bytes)
 
--- "no block copied by this call points, by a link followed in the visit that copied it, to one that the second log lacks"
+-- a row is the block of one of these visits
+abbrev pub VisitedIn : List Visit → Row → Type 0
+VisitedIn vs x = (v : Visit) × List·Memᴰ v vs × OfRow x v
+
+-- and all that it links to is in a log, as what any of them visited it
+abbrev pub LinkedAs : List Visit → Bytes → Row → Type 0
+LinkedAs vs log x = VisitedIn vs x × ((v : Visit) → List·Memᴰ v vs → OfRow x v → Linked log (v .role) (x .bytes))
+
+-- "no block copied by this call points, by a link followed in the visit that copied it, to one that the second log lacks": nor by one followed in another visit
+-- that the copy made
 abbrev pub NoDangling : Type 0
 NoDangling = (log waiting date score second : Bytes) (n : ℕ) (new : List Row)
     → blocks (copyOf log waiting date score second n .second) ≡ blocks second ++ new
-    → (x : Row) → List·Memᴰ x new → LinkedAs (postOrderOf log waiting score n .visits) (copyOf log waiting date score second n .second) x
+    → (x : Row) → List·Memᴰ x new → LinkedAs (made log waiting date score second n) (copyOf log waiting date score second n .second) x
 
 -- ---- the walk
 
