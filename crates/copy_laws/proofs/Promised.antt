@@ -104,5 +104,6 @@ copy-is-events h log waiting date score n buffer lent l d room =
         possible = along-append (recountEvent archive) (Possible archive) _ (h .events) (copyEvents qs lent) (h .possible) (possible-events (books-then archive h) qs lent (R .0));
       },
       refl,
+      refl,
       ap (λ (x : Standing archive). x .log) (left-append (happen archive) _ (h .events) (copyEvents qs lent)) ∙ events-leave S qs lent ∙ ap (relent lent) (R .1),
     )

@@ -73,4 +73,5 @@ abbrev pub CopyIsEvents : Type 0
 CopyIsEvents = (h : Past) (log waiting date score : Bytes) (n : ℕ) (buffer : Bytes) (lent : Option ℕ) → let second = logThen h .log in
     copyAllowed (length log) (length waiting) (length second) ≡ true → isDate date ≡ true → replyRoom ≤ length buffer
     → (h′ : Past) × (h′ .events ≡ h .events ++ copyEvents (copyRequests log waiting date score second n buffer (log-then archive h .past)) lent)
+    × (h′ .size ≡ h .size)
     × (logThen h′ ≡ relent lent (alone (copyOf log waiting date score second n .second)))
