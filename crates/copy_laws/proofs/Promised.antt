@@ -28,7 +28,7 @@ use Rattle.copying.specs.PostOrder.{typeOf, Visit, postOrderOf}
 use Rattle.copying.specs.Promises.{HoldsAll}
 use Rattle.copying.proofs.InPostOrder.{copy-is-stores}
 use Rattle.copying.proofs.Promised.{second-allowed}
-use Rattle.copying.proofs.Tour.{tests-tour, post-order-is-walk}
+use Rattle.copying.proofs.WalkInPostOrder.{tests-post-order, post-order-is-walk}
 use Rattle.copying.proofs.Writes.{shown-writable}
 use Rattle.copy_laws.specs.Requests.{WritesAreRequests, typed, copyBlocks, copyRequests, CopyIsRequests, NumbersAreItsOwn, copyEvents, CopyIsEvents}
 use Rattle.copy_laws.proofs.Messages.{greets, any-write}
@@ -54,7 +54,7 @@ unfolding Same
 copy-is-requests log waiting date score second n buffer past l d room =
     let p = postOrderOf log waiting score n in
     let xs = copyBlocks log waiting score n in
-    let A = writable (tape log waiting) (p .visits) (tests-tour (lentAllowed (length log) (length waiting)) score n .shown (tape log waiting)) in
+    let A = writable (tape log waiting) (p .visits) (tests-post-order (lentAllowed (length log) (length waiting)) score n .shown (tape log waiting)) in
     let al = second-allowed (length log) (length waiting) (length second) l in
     let L = alone second in
     let o = steps.step Fresh helloMessage (some date) L buffer in
@@ -81,16 +81,13 @@ numbers-are-its-own log waiting date score second n l d =
 -- ---- as events
 
 possible-events : (b : Books archive) (qs : List (Item archive)) (lent : Option ℕ) → AllOfBytes archive qs → Along (Possible archive) (recountEvent archive) b (copyEvents qs lent)
-possible-events b qs lent ok =
-    let b′ = recountEvent archive b (stop none) .state in
-    (tt, along-append (recountEvent archive) (Possible archive) b′ (map ask qs) (stop lent ∷ []) (possible-asks archive b′ qs ok) (tt, tt))
+possible-events b qs lent ok = (tt, along-append (recountEvent archive) (Possible archive) _ (map ask qs) (stop lent ∷ []) (possible-asks archive _ qs ok) (tt, tt))
 
 events-leave : (S : Standing archive) (qs : List (Item archive)) (lent : Option ℕ)
     → trace (happen archive) S (copyEvents qs lent) .left .log ≡ relent lent (afterwards (alone (S .log .log)) (S .past) qs)
 events-leave S qs lent =
-    let S′ = happen archive S (stop none) .state in
-    ap (λ (x : Standing archive). x .log) (left-append (happen archive) S′ (map ask qs) (stop lent ∷ []))
-    ∙ ap (λ (x : Standing archive). relent lent (x .log)) (happen-left archive S′ qs)
+    ap (λ (x : Standing archive). x .log) (left-append (happen archive) _ (map ask qs) (stop lent ∷ []))
+    ∙ ap (λ (x : Standing archive). relent lent (x .log)) (happen-left archive _ qs)
 
 pub copy-is-events : CopyIsEvents
 copy-is-events h log waiting date score n buffer lent l d room =

@@ -9,6 +9,6 @@ pub mod OneVisit
 pub mod Promised
 pub mod SameSectors
 pub mod Stored
-pub mod Tour
 pub mod Visited
+pub mod WalkInPostOrder
 pub mod Writes

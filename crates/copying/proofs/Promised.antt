@@ -36,7 +36,7 @@ use Rattle.copying.proofs.InPostOrder.{parts-allowed, copy-is-stores}
 use Rattle.copying.proofs.Made.{all-taken, taken-before, unspent}
 use Rattle.copying.proofs.OneVisit.{of-first}
 use Rattle.copying.proofs.Visited.{OfFirst}
-use Rattle.copying.proofs.Tour.{tests-tour, post-order-is-walk}
+use Rattle.copying.proofs.WalkInPostOrder.{tests-post-order, post-order-is-walk}
 
 -- ---- the tests
 
@@ -98,7 +98,7 @@ module _ (log waiting date score second : Bytes) (n : ℕ) where
 
   pub stops : lent ≡ true → isDate date ≡ true → StopsAt (tape log waiting) date reached second outcome
   stops l d =
-      let T = tests-tour (lentAllowed (length log) (length waiting)) score n in
+      let T = tests-post-order (lentAllowed (length log) (length waiting)) score n in
       let L = tape log waiting in
       subst (StopsAt L date reached second) (sym (copy-is-stores log waiting date score second n l d))
       (stops-at L date d (reached .visits) (reached .answer) second (fits l) (λ x. Unit {0}) (λ x y h q. tt) tt (T .links L) (T .shown L) (T .within L))
@@ -125,7 +125,7 @@ module _ (log waiting date score second : Bytes) (n : ℕ) where
   written l d (ended W e a) =
       subst Wrote (sym (all-taken (tape log waiting) date (reached .visits) second W)) (begun l d (reached .visits) [] (sym (append-nil (reached .visits))) (λ z. refl) W e)
   written l d (refused before after v q W e _ _ R _ _) =
-      let o = tests-tour (lentAllowed (length log) (length waiting)) score n .first (tape log waiting) in
+      let o = tests-post-order (lentAllowed (length log) (length waiting)) score n .first (tape log waiting) in
       let t = taken-before (tape log waiting) date before after v second (outcome .answer .end) W
       (subst (λ (s : Bytes). Refuses s date (typeOf (v .role)) (v .bytes) (outcome .answer .end)) e R) in
       subst Wrote (sym (ap (λ (vs : List Visit). taken date vs second) q ∙ t))
@@ -199,7 +199,7 @@ module _ (log waiting date score second : Bytes) (n : ℕ) where
       lent-alone (length s) ∙ second-allowed (length log) (length waiting) (length s) (still-lent (W .0)) in
       let b = parts-allowed (length log) (length waiting) (length second) (W .0) in
       ap (λ (t : Bool). postOrderIn t (tape s []) score n) (a ∙ sym b)
-      ∙ tests-tour (lentAllowed (length log) (length waiting)) score n .again (tape log waiting) (tape s []) (ap (λ (w : Walked). w .end) (W .1))
+      ∙ tests-post-order (lentAllowed (length log) (length waiting)) score n .again (tape log waiting) (tape s []) (ap (λ (w : Walked). w .end) (W .1))
       (holds-along s (tape s []) (λ t x r p. held-alone s t x ∙ p) (reached .visits) (W .2))
 
 pub copy-stops-at : CopyStopsAt
@@ -221,7 +221,7 @@ only-where-refused log waiting date score second n o = go (tested (tape log wait
     go (failed why _ f e) = absurd (f (subst (λ (c : Copied). OfSecond (c .answer .end)) e o))
     go (passed l d a e) =
         room-and-no-clash log waiting date score second n l d
-        (λ q. tests-tour (lentAllowed (length log) (length waiting)) score n .first (tape log waiting)
+        (λ q. tests-post-order (lentAllowed (length log) (length waiting)) score n .first (tape log waiting)
         (subst (λ (w : Walked). OfSecond (w .end)) (q ∙ sym (post-order-is-walk log waiting score n)) o))
 
 pub copy-is-writes : CopyIsWrites
