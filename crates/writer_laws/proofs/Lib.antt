@@ -12,3 +12,4 @@ pub mod Tests
 pub mod Visits
 pub mod FileVisits
 pub mod Reached
+pub mod Visited

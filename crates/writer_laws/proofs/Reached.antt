@@ -14,12 +14,12 @@ use Rattle.buffer.proofs.Bytes.{same-refl}
 use Rattle.sha1.specs.Sha1.{sha1Of}
 use Rattle.kind.specs.Kind.{lawful, isPointer, zeroScore, longest}
 use Rattle.kind.proofs.Types.{pointer-lawful}
-use Rattle.block.specs.Block.{Row, partsOf}
+use Rattle.block.specs.Block.{partsOf}
 use Rattle.append.proofs.Images.{part-start}
 use Rattle.log.specs.LookUp.{held}
 use Rattle.entry.specs.declared.Entry.{Entry}
 use Rattle.entry.specs.Entry.{pointers}
-use Rattle.tree.specs.Tree.{piece, pointer, typeAt}
+use Rattle.tree.specs.Tree.{piece, typeAt}
 use Rattle.tree.proofs.Pointers.{pointer-past}
 use Rattle.walk_laws.proofs.Found.{type-above}
 use Rattle.writer.specs.Blocks.{Typed, cutBlock, blocksFrom, level, leaves, scoresOf, scoresAt, pointerBlocks, widthOf, fileBlocks, topOf, topScore}

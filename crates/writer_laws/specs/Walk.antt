@@ -78,6 +78,12 @@ pub data ComesTo (log : Bytes) (e : Entry) (top : Bytes) : ℕ → Bytes → Typ
   below : {k : ℕ} {s : Bytes} (r : Row) → ComesTo log e top (suc k) s → held log (2 + suc k) s ≡ some r → (i : ℕ) → i < length (r .bytes) / 20
       → ComesTo log e top k (piece 20 i (r .bytes))
 
+-- and each of them it visits, on any log: where the visit of the entry's score ends, with calls enough, so does that of each, with no more of the allowance
+abbrev pub ComesToVisits : Type 0
+ComesToVisits = (log : Bytes) (e : Entry) (top : Bytes) (k : ℕ) (s : Bytes) → ComesTo log e top k s → (calls nest left : ℕ) → left + left + 1 ≤ calls
+    → visitEntry calls log e (e .depth) nest top left .end ≡ visit.Done
+    → (c a : ℕ) × (a + a + 1 ≤ c) × (a ≤ left) × (visitEntry c log e k nest s a .end ≡ visit.Done)
+
 -- each block of the file that is not empty is held, and a walk comes to its score at a level that has its type. An empty one has the zero score, and
 -- zero scores at a pointer block's end are cut off
 abbrev pub ReachesFile : Bytes → ℕ → ℕ → Bytes → Bytes → Type 0
