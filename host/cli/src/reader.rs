@@ -85,7 +85,8 @@ impl Reader {
             return Ok(());
         }
         if !(same && self.extend(mark)) {
-            self.bytes = Vec::new(); // two of them may be too much
+            // Two of them may be too much. Where the opening fails, the server ends: nobody asks the empty one.
+            self.bytes = Vec::new();
             *self = Reader::open(&self.path, streams)?;
         }
         Ok(())
