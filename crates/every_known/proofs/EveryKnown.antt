@@ -20,10 +20,10 @@ use Rattle.block.specs.Log.{used}
 use Rattle.ledger.specs.Archive.{Seen}
 use Rattle.ledger.specs.Trace.{Turn, trace, Along}
 use Rattle.ledger.specs.History.{Item, given, Standing, answer, Books, recount, blank-log, blank-books}
-use Rattle.ledger.specs.Events.{Shown, Event, ask, harm, stop, crash, grow, answered, happen, recountEvent}
+use Rattle.ledger.specs.Events.{Shown, Event, ask, harm, stop, crash, grow, answered, happen, recountEvent, EventHistory, log-then, books-then}
 use Rattle.ledger.proofs.Trace.{Agree}
 use Rattle.ledger.proofs.Lists.{Stands}
-use Rattle.ledger.proofs.Happens.{begins-blank, follows-all}
+use Rattle.ledger.proofs.Happens.{begins-blank, follows-all, stands-then}
 use Rattle.demands.specs.Ledger.{Asked, Answer, Extent}
 use Rattle.demands.specs.Instance.{grown, archive}
 use Rattle.demands.proofs.Lawful.{lawful}
@@ -31,7 +31,7 @@ use Rattle.demands.proofs.LogLaws.{used-grown}
 use Rattle.demands.proofs.LentLaws.{tape-grown}
 use Rattle.every_index.specs.EveryIndex.{seenOf, answerBy, Agreeing, Unhealed}
 use Rattle.every_index.proofs.EveryIndex.{as-scan, unhealed-agrees}
-use Rattle.every_known.specs.EveryKnown.{Serving, opened, learning, askKnown, answerKnown, happensKnown, Moment, taking, happenKnown, eventsIn, EveryKnown, EveryKnownUnhealed, GrowthLeavesKnown}
+use Rattle.every_known.specs.EveryKnown.{Serving, opened, learning, askKnown, answerKnown, happensKnown, Moment, taking, happenKnown, eventsIn, EveryKnown, EveryKnownUnhealed, EveryKnownFrom, GrowthLeavesKnown}
 
 -- ---- one request
 
@@ -170,3 +170,8 @@ every-known x index ms ok =
 
 pub every-known-unhealed : EveryKnownUnhealed
 every-known-unhealed x index ms ok = every-known x index ms (unhealed-agrees x (eventsIn ms) ok)
+
+pub every-known-from : EveryKnownFrom
+every-known-from h index ms ok =
+    let all = goes (opened (log-then archive h) index) (books-then archive h) ms ok (record { follows = stands-then archive lawful h; learnt = refl }) in
+    (all .seen, all .left .learnt)

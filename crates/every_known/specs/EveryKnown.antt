@@ -19,7 +19,7 @@ use Rattle.indexed.specs.Indexed.{Indexed, stepBy}
 use Rattle.ledger.specs.Archive.{Seen}
 use Rattle.ledger.specs.Trace.{Turn, trace, Along}
 use Rattle.ledger.specs.History.{Item, given, Standing, Books, blank-log, blank-books}
-use Rattle.ledger.specs.Events.{Shown, Event, ask, harm, stop, crash, grow, answered, happen, recountEvent}
+use Rattle.ledger.specs.Events.{Shown, Event, ask, harm, stop, crash, grow, answered, happen, recountEvent, EventHistory, log-then, books-then}
 use Rattle.demands.specs.Ledger.{Asked, Answer, Extent}
 use Rattle.demands.specs.Instance.{grown, archive}
 use Rattle.every_index.specs.EveryIndex.{seenOf, Agreeing, Unhealed}
@@ -96,6 +96,13 @@ EveryKnown = EveryKnownSuch Agreeing
 -- and with no such premise where nothing is healed
 abbrev pub EveryKnownUnhealed : Type 0
 EveryKnownUnhealed = EveryKnownSuch Unhealed
+
+-- and from any past on, in which there may have been anything that leaves what events leave, such as writing calls and copies: a server that opens the log then
+abbrev pub EveryKnownFrom : Type 0
+EveryKnownFrom = (h : EventHistory archive) (index : Bytes) (ms : List Moment) → Along Agreeing (recountEvent archive) (books-then archive h) (eventsIn ms)
+    → let t = trace happenKnown (opened (log-then archive h) index) ms in
+    (t .seen ≡ trace (recountEvent archive) (books-then archive h) (eventsIn ms) .seen)
+    × (t .left .known ≡ learnedOf (t .left .standing .log) (t .left .index))
 
 -- a log of whole sectors that grows by blank ones: what is known of it stays
 abbrev pub GrowthLeavesKnown : Type 0
