@@ -56,7 +56,7 @@ fn is_function(line: &str) -> bool {
 }
 
 /// All files below a folder; none where it is missing.
-fn files(dir: &Path) -> io::Result<Vec<std::path::PathBuf>> {
+pub fn files(dir: &Path) -> io::Result<Vec<std::path::PathBuf>> {
     let mut found = Vec::new();
     if dir.is_dir() {
         for entry in fs::read_dir(dir)? {

@@ -1,4 +1,5 @@
-//! Writes docs/crates.svg, the picture of the crates, and the table of docs/BENCHMARKS.md with their sizes, edits and times.
+//! Writes docs/crates.svg, the picture of the crates, the table of docs/BENCHMARKS.md with their sizes, edits and times, and
+//! that of docs/DESIGN.md with how much there is to read.
 //!
 //! ```text
 //! cargo run --release --offline --manifest-path host/Cargo.toml -p figures
@@ -8,6 +9,7 @@
 
 mod crates;
 mod picture;
+mod reading;
 mod table;
 
 use std::path::Path;
@@ -30,12 +32,21 @@ fn main() -> ExitCode {
 fn write(root: &Path) -> io::Result<()> {
     let crates = crates::read(root)?;
     fs::write(root.join("docs/crates.svg"), picture::of(&crates))?;
-    let benchmarks = root.join("docs/BENCHMARKS.md");
-    let text = fs::read_to_string(&benchmarks)?;
-    let table = table::of(&crates);
-    let text = between(&text, "<!-- crates -->\n", "<!-- end of crates -->", &table)
-        .ok_or_else(|| io::Error::other("docs/BENCHMARKS.md has no place for the table"))?;
-    fs::write(&benchmarks, text)
+    put(root, "docs/BENCHMARKS.md", "crates", &table::of(&crates))?;
+    put(root, "docs/DESIGN.md", "reading", &reading::of(root)?)
+}
+
+/// Puts a table where a document has its marks.
+fn put(root: &Path, document: &str, mark: &str, table: &str) -> io::Result<()> {
+    let file = root.join(document);
+    let text = fs::read_to_string(&file)?;
+    let (begin, end) = (
+        format!("<!-- {mark} -->\n"),
+        format!("<!-- end of {mark} -->"),
+    );
+    let text = between(&text, &begin, &end, table)
+        .ok_or_else(|| io::Error::other(format!("{document} has no place for its table")))?;
+    fs::write(&file, text)
 }
 
 /// The text with what stands between two marks replaced.
