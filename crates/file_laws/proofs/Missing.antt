@@ -1,9 +1,12 @@
--- "A missing block is refused, never zero": reading answers, zeros or stored bytes, only where no block on the path is missing.
-use mathlib.Core.Path.{_≡_, refl}
+-- "A missing block is refused, never zero": reading answers, zeros or stored bytes, only where no block on the path is missing; where one is, it is the refusal of
+-- that block.
+use mathlib.Core.Path.{_≡_, refl, sym, _∙_}
 use mathlib.Core.Bool.{Bool, true, false, cond, true≢false}
+use mathlib.Core.Logic.{⊎-elim}
 use mathlib.Core.Option.{Option, none, some}
-use Prim.Native.Nat.{ℕ, zero, suc, _+_, _%_}
+use Prim.Native.Nat.{ℕ, zero, suc, _+_, _%_, _≤_}
 use lib.Dec.{leb, eqb}
+use borrow.Author.Tests.{le-leb, eq-eqb}
 use lib.ListN.{length}
 use Rattle.ground.specs.Choice.{on}
 use Rattle.buffer.specs.Bytes.{Bytes, same}
@@ -20,8 +23,8 @@ use Rattle.leaf.specs.declared.Extent.the-variants.{Refused}
 use Rattle.tree.specs.Tree.{pointer, typeAt}
 use Rattle.leaf.specs.Leaf.{zeroRun, leafRun, fetched, pointerIndex, under}
 use Rattle.file.specs.File.{test, extentAt}
-use Rattle.file.proofs.Tests.{extent-ind}
-use Rattle.file_laws.specs.Path.{Whole, ReadsWhole}
+use Rattle.file.proofs.Tests.{extent-ind, goes-down, shown}
+use Rattle.file_laws.specs.Path.{Whole, Lacks, ReadsWhole, MissingIsRefused}
 use Rattle.file_laws.proofs.Extents.{Reads, shown-reads}
 
 -- a test that answers was passed
@@ -66,3 +69,30 @@ whole-in lent log page b offset =
 pub read-whole : ReadsWhole
 read-whole log waiting page b offset a =
     whole-in (lentAllowed (length log) (length waiting)) (tape log waiting) page b offset (shown-reads log waiting page b offset a)
+
+-- ---- a block that is missing
+
+-- a block that is not held is refused
+absent : (log : Bytes) (t : ℕ) (s : Bytes) (count : ℕ) (f : Row → Extent) → held log t s ≡ none → fetched log t s count f ≡ Refused (absence log)
+absent log t s count f e = rw e
+
+-- one that is, and is no longer than the count, is looked into
+present : (log : Bytes) (t : ℕ) (s : Bytes) (count : ℕ) (f : Row → Extent) (r : Row) → held log t s ≡ some r → length (r .bytes) ≤ count → fetched log t s count f ≡ f r
+present log t s count f r e h = rw (e, le-leb (length (r .bytes)) count h)
+
+pub under-lacks : (log : Bytes) (page : ℕ) (e : Entry) (offset level : ℕ) (s : Bytes) → Lacks log e offset level s → under log page e offset level s ≡ Refused (absence log)
+unfolding under Lacks
+under-lacks log page e offset zero s l = rw (l .0) (absent log (typeAt e 0) s (e .dsize) (λ (r : Row). leafRun page e offset (placeOf r)) (l .1))
+under-lacks log page e offset (suc d) s l =
+    let f : Row → Extent = λ r. cond (eqb (length (r .bytes) % 20) 0) (under log page e offset d (pointer (r .bytes) (pointerIndex e offset d))) (Refused why.Pointers) in
+    rw (l .0) (⊎-elim (absent log (2 + suc d) s (e .psize) f)
+    (λ p. present log (2 + suc d) s (e .psize) f (p .0) (p .1) (p .2)
+    ∙ rw (eq-eqb (length ((p .0) .bytes) % 20) 0 (p .3)) (under-lacks log page e offset d (pointer ((p .0) .bytes) (pointerIndex e offset d)) (p .4)))
+    (l .1))
+
+pub missing-is-refused : MissingIsRefused
+missing-is-refused log waiting page b offset a p r h l =
+    let lent = lentAllowed (length log) (length waiting) in
+    let both = tape log waiting in
+    let down = goes-down lent both page b offset true (sym a) refl true (sym p) refl true (sym r) refl (entryOf b) refl h in
+    sym (shown log waiting page b offset (Refused (absence both)) (sym (under-lacks both (length page) (entryOf b) offset ((entryOf b) .depth) (scoreOf b) l) ∙ down))
