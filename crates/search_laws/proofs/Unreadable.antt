@@ -9,7 +9,7 @@ use lib.ListN.{length}
 use Rattle.buffer.specs.Bytes.{Bytes}
 use Rattle.refusal.specs.declared.Refusal.{Refusal}
 use Rattle.refusal.specs.declared.Refusal.the-variants as why
-use Rattle.log.specs.LookUp.{lentAllowed}
+use Rattle.log.specs.LookUp.{absence, lentAllowed}
 use Rattle.log.specs.Parts.{tape}
 use Rattle.entry.specs.Entry.{entryOf}
 use Rattle.file.specs.File.{extentAt, located}
@@ -18,12 +18,12 @@ use Rattle.file.specs.declared.Located.{Located}
 use Rattle.file.specs.declared.Located.the-variants as run
 use Rattle.file.proofs.Tests.{stops-log, stops-page, stops-entry, shown}
 use Rattle.file_laws.specs.Path.{Answers}
-use Rattle.file_laws.proofs.Missing.{read-whole}
+use Rattle.file_laws.proofs.Missing.{read-whole, missing-is-refused}
 use Rattle.fill.specs.declared.Stop.{Stop}
 use Rattle.fill.specs.declared.Stop.the-variants as stop
 use Rattle.evaluate.specs.declared.Answer.the-variants.{Refused}
 use Rattle.search.specs.Search.{longestCard, cardOf, onceRead, searchOf}
-use Rattle.search_laws.specs.Promises.{UnreadableIsRefused, UnreadableHasNoValue, EveryBlockHeld}
+use Rattle.search_laws.specs.Promises.{UnreadableIsRefused, MissingIsItsNumber, UnreadableHasNoValue, EveryBlockHeld}
 use Rattle.search_laws.proofs.Course.{Open, Course, bad-log, bad-page, bad-entry, long, through, course, opened}
 use Rattle.search_laws.proofs.Whole.{front-answers, stop-refused, done-answers, only-of-a-card}
 
@@ -76,6 +76,10 @@ module _ (log waiting page entry query : Bytes) (o : ℕ) (w : Refusal) (h : o <
 
 pub unreadable-is-refused : UnreadableIsRefused
 unreadable-is-refused log waiting page entry query o w s h f e = unreadable log waiting page entry query o w h f e s (course log waiting page entry query)
+
+pub missing-is-its-number : MissingIsItsNumber
+missing-is-its-number log waiting page entry query o a g r s h f l =
+    unreadable-is-refused log waiting page entry query o (absence (tape log waiting)) s h f (missing-is-refused log waiting page entry o a g r h l)
 
 pub unreadable-has-no-value : UnreadableHasNoValue
 unreadable-has-no-value log waiting page entry query o w v h e q = no-answer (located log waiting page entry o) w e (only-of-a-card log waiting page entry query v q .1 .reads o h)

@@ -10,7 +10,7 @@ use lib.ListN.{length, getD}
 use Rattle.buffer.specs.Bytes.{Bytes}
 use Rattle.refusal.specs.declared.Refusal.{Refusal}
 use Rattle.refusal.specs.declared.Refusal.the-variants as why
-use Rattle.log.specs.LookUp.{lentAllowed}
+use Rattle.log.specs.LookUp.{absence, lentAllowed}
 use Rattle.log.specs.Parts.{tape, Lent}
 use Rattle.request.specs.declared.Session.{Session}
 use Rattle.ledger.specs.History.{Item, AllOfBytes}
@@ -19,7 +19,7 @@ use Rattle.promises.specs.Histories.{afterwards}
 use Rattle.entry.specs.Entry.{entryOf, scoreOf}
 use Rattle.file.specs.File.{pageAllowed, entryReadable, located}
 use Rattle.file.specs.declared.Located.the-variants as run
-use Rattle.file_laws.specs.Path.{Answers, Whole}
+use Rattle.file_laws.specs.Path.{Answers, Whole, Lacks}
 use Rattle.file_laws.specs.Bytes.{fileByte}
 use Rattle.file_laws.specs.Elsewhere.{BlocksHeldBy}
 use Rattle.trees.specs.Again.{waitingOf}
@@ -81,6 +81,12 @@ AnsweredElsewhere = (log waiting log′ waiting′ page entry query : Bytes) →
 abbrev pub UnreadableIsRefused : Type 0
 UnreadableIsRefused = (log waiting page entry query : Bytes) (o : ℕ) (w : Refusal) → entryOf entry .size ≤ longestCard → o < entryOf entry .size
     → ((p : ℕ) → p < o → Answers (located log waiting page entry p)) → located log waiting page entry o ≡ run.Refused w → searchOf log waiting page entry query ≡ Refused w
+
+-- a card of which a block is missing is refused as look-up refuses that block, with 12 and its sector or with 11: at the first offset that is refused
+abbrev pub MissingIsItsNumber : Type 0
+MissingIsItsNumber = (log waiting page entry query : Bytes) (o : ℕ) → lentAllowed (length log) (length waiting) ≡ true → pageAllowed page ≡ true → entryReadable entry ≡ true
+    → entryOf entry .size ≤ longestCard → o < entryOf entry .size → ((p : ℕ) → p < o → Answers (located log waiting page entry p))
+    → Lacks (tape log waiting) (entryOf entry) o (entryOf entry .depth) (scoreOf entry) → searchOf log waiting page entry query ≡ Refused (absence (tape log waiting))
 
 -- a refused offset anywhere in the card: no value
 abbrev pub UnreadableHasNoValue : Type 0
