@@ -5,6 +5,7 @@ use mathlib.Core.Bool.{Bool, true, false, cond, true≢false}
 use mathlib.Core.Logic.{⊎-elim}
 use mathlib.Core.Option.{Option, none, some}
 use Prim.Native.Nat.{ℕ, zero, suc, _+_, _%_, _≤_}
+use native.Mathlib.Omega.{arith}
 use lib.Dec.{leb, eqb}
 use borrow.Author.Tests.{le-leb, eq-eqb}
 use lib.ListN.{length}
@@ -89,6 +90,12 @@ under-lacks log page e offset (suc d) s l =
     (λ p. present log (2 + suc d) s (e .psize) f (p .0) (p .1) (p .2)
     ∙ rw (eq-eqb (length ((p .0) .bytes) % 20) 0 (p .3)) (under-lacks log page e offset d (pointer ((p .0) .bytes) (pointerIndex e offset d)) (p .4)))
     (l .1))
+
+-- a file of one leaf lacks it
+pub leaf-lacks : (log : Bytes) (e : Entry) (offset level : ℕ) (s : Bytes) → level ≡ 0 → same s zeroScore ≡ false → held log (typeAt e 0) s ≡ none → Lacks log e offset level s
+unfolding Lacks
+leaf-lacks log e offset zero s z q n = (q, n)
+leaf-lacks log e offset (suc d) s z q n = absurd (omega arith)
 
 pub missing-is-refused : MissingIsRefused
 missing-is-refused log waiting page b offset a p r h l =

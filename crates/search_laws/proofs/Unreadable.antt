@@ -23,7 +23,7 @@ use Rattle.fill.specs.declared.Stop.{Stop}
 use Rattle.fill.specs.declared.Stop.the-variants as stop
 use Rattle.evaluate.specs.declared.Answer.the-variants.{Refused}
 use Rattle.search.specs.Search.{longestCard, cardOf, onceRead, searchOf}
-use Rattle.search_laws.specs.Promises.{UnreadableIsRefused, MissingIsItsNumber, UnreadableHasNoValue, EveryBlockHeld}
+use Rattle.search_laws.specs.Promises.{UnreadableIsRefused, MissingIsItsNumber, UnreadableHasNoValue, MissingHasNoValue, EveryBlockHeld}
 use Rattle.search_laws.proofs.Course.{Open, Course, bad-log, bad-page, bad-entry, long, through, course, opened}
 use Rattle.search_laws.proofs.Whole.{front-answers, stop-refused, done-answers, only-of-a-card}
 
@@ -83,6 +83,12 @@ missing-is-its-number log waiting page entry query o a g r s h f l =
 
 pub unreadable-has-no-value : UnreadableHasNoValue
 unreadable-has-no-value log waiting page entry query o w v h e q = no-answer (located log waiting page entry o) w e (only-of-a-card log waiting page entry query v q .1 .reads o h)
+
+pub missing-has-no-value : MissingHasNoValue
+missing-has-no-value log waiting page entry query o v h l q =
+    let r = only-of-a-card log waiting page entry query v q .1 in
+    no-answer (located log waiting page entry o) (absence (tape log waiting))
+    (missing-is-refused log waiting page entry o (r .log-allowed) (r .page-allowed) (r .entry-readable) h l) (r .reads o h)
 
 pub every-block-held : EveryBlockHeld
 every-block-held log waiting page entry query v q o h = read-whole log waiting page entry o (only-of-a-card log waiting page entry query v q .1 .reads o h)

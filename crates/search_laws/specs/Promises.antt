@@ -93,6 +93,11 @@ abbrev pub UnreadableHasNoValue : Type 0
 UnreadableHasNoValue = (log waiting page entry query : Bytes) (o : ℕ) (w : Refusal) (v : Value) → o < entryOf entry .size → located log waiting page entry o ≡ run.Refused w
     → searchOf log waiting page entry query ≢ Told v
 
+-- a block missing anywhere in the card: no value
+abbrev pub MissingHasNoValue : Type 0
+MissingHasNoValue = (log waiting page entry query : Bytes) (o : ℕ) (v : Value) → o < entryOf entry .size
+    → Lacks (tape log waiting) (entryOf entry) o (entryOf entry .depth) (scoreOf entry) → searchOf log waiting page entry query ≢ Told v
+
 -- a value comes only where every block of the card is held, down to the leaf of each offset or to a zero score
 abbrev pub EveryBlockHeld : Type 0
 EveryBlockHeld = (log waiting page entry query : Bytes) (v : Value) → searchOf log waiting page entry query ≡ Told v

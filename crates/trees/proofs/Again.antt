@@ -6,9 +6,9 @@ use lib.ListN.{length}
 use Rattle.ground.specs.Choice.{on}
 use Rattle.buffer.specs.Bytes.{Bytes}
 use Rattle.block.specs.Block.{Row}
-use Rattle.log.specs.LookUp.{held, lentAllowed}
+use Rattle.log.specs.LookUp.{held, absence, lentAllowed}
 use Rattle.log.specs.Parts.{tape, Lent, oneLog}
-use Rattle.log.proofs.Parts.{held-alone}
+use Rattle.log.proofs.Parts.{held-alone, absence-alone}
 use Rattle.request.specs.Step.{step}
 use Rattle.demands.specs.Ledger.{Extent}
 use Rattle.demands.specs.Instance.{lengthOf, extentOf}
@@ -27,9 +27,14 @@ length-waiting : (log : Bytes) (o : Option Bytes) → length (waitingOf (record 
 length-waiting log none = refl
 length-waiting log (some w) = refl
 
-held-one : (log : Bytes) (o : Option Bytes) (t : ℕ) (s : Bytes) → let L : Lent = record { log = log; waiting = o } in held (tape log (waitingOf L)) t s ≡ held (oneLog L) t s
+-- with an empty waiting part where none is lent, look-up and its refusal are those of what is lent
+pub held-one : (log : Bytes) (o : Option Bytes) (t : ℕ) (s : Bytes) → let L : Lent = record { log = log; waiting = o } in held (tape log (waitingOf L)) t s ≡ held (oneLog L) t s
 held-one log none t s = held-alone log t s
 held-one log (some w) t s = refl
+
+pub absence-one : (log : Bytes) (o : Option Bytes) → let L : Lent = record { log = log; waiting = o } in absence (tape log (waitingOf L)) ≡ absence (oneLog L)
+absence-one log none = absence-alone log
+absence-one log (some w) = refl
 
 module _ (L later : Lent) (k : Keeps L later) where
   pub same-lent : lentAllowed (length (later .log)) (length (waitingOf later)) ≡ lentAllowed (length (L .log)) (length (waitingOf L))

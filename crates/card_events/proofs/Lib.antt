@@ -1,0 +1,2 @@
+-- The laws of damaged cards: `Damaged`.
+pub mod Damaged

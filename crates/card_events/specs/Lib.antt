@@ -1,0 +1,2 @@
+-- What the card search answers at each moment of whatever happens to a log.
+pub mod Damaged
