@@ -12,7 +12,7 @@ use Rattle.query.specs.Examples.{Valued, values}
 use Rattle.evaluate.specs.declared.Answer.{Answer}
 use Rattle.search.specs.Search.{judged}
 use Rattle.card_written.specs.Written.{answerOf}
-use Rattle.card_written.specs.Donor.{Answers, Donor, ValuesOfWritten}
+use Rattle.card_written.specs.Donor.{Answers, Donor, ValuesOfWritten, counted, Border}
 use Rattle.card_written.proofs.Written.{search-of-written, search-of-written-later}
 
 answers : (slice query : Bytes) (answer : Answer) → small slice ≡ true → answerOf slice query ≡ answer → Answers slice query answer
@@ -34,3 +34,15 @@ pub values-of-written : ValuesOfWritten
 unfolding letterOrDigit reserved isName before text goodFrom upToEquals lineWith linesAt frontLines wellFormed say valueIn words after nameAt listAt readingOf valueOf judged
 values-of-written log waiting date dsize psize entry scores page p done =
     (λ i. map (λ (e : Valued). search-of-written log waiting date _ dsize psize entry scores page (e .text) refl p done i) values)
+
+pub border : Border
+unfolding counted letterOrDigit reserved isName before text goodFrom upToEquals lineWith linesAt frontLines wellFormed say valueIn words after nameAt listAt readingOf valueOf judged
+border = record {
+  sizes = (refl, refl, refl);
+  first = answers _ _ _ refl refl;
+  last = answers _ _ _ refl refl;
+  untested = answers _ _ _ refl refl;
+  lines = (refl, refl);
+  byte-more = answers _ _ _ refl refl;
+  line-more = answers _ _ _ refl refl;
+}

@@ -1,8 +1,9 @@
--- Cards that were written, and what a search answers of them: the donor with A and without B whom nobody tested for C.
+-- Cards that were written, and what a search answers of them: the donor with A and without B whom nobody tested for C; a card of 4,096 bytes.
 use mathlib.Core.Path.{_≡_}
 use mathlib.Core.Bool.{true, false}
 use mathlib.Core.List.{List, [], _∷_, _++_, map}
-use Prim.Native.Nat.{ℕ}
+use Prim.Native.Nat.{ℕ, zero, suc, _+_, _/_, _%_}
+use lib.ListN.{length, replicate}
 use Rattle.ground.specs.Choice.{on}
 use Rattle.buffer.specs.Bytes.{Bytes}
 use Rattle.refusal.specs.declared.Refusal.the-variants as why
@@ -15,7 +16,7 @@ use Rattle.file.specs.File.{pageAllowed}
 use Rattle.writer.specs.WriteFile.{writeFile}
 use Rattle.writer.specs.declared.End.the-variants.{Done}
 use Rattle.kleene.specs.declared.Value.the-variants.{Yes, No, NotKnown}
-use Rattle.card.specs.Card.{line, lineText}
+use Rattle.card.specs.Card.{Line, line, lineText, text, wellFormed}
 use Rattle.query.specs.Reading.{notWord}
 use Rattle.query.specs.Examples.{Valued, values}
 use Rattle.evaluate.specs.declared.Answer.{Answer}
@@ -53,3 +54,35 @@ ValuesOfWritten = (log waiting date : Bytes) (dsize psize : ℕ) (entry scores p
     → let o = writeFile log waiting date tested dsize psize entry scores in
     o .end ≡ Done
     → map (λ (e : Valued). searchOf (o .lent .log) (waitingOf (o .lent)) page (o .entry) (e .text)) values ≡ map (λ (e : Valued). on (e .value) (Refused why.Query) (λ v. Told v)) values
+
+-- ---- "at most 4,096 bytes"
+
+-- a name of 8 letters: six A, then two that count by sixteens
+abbrev pub countedName : ℕ → Bytes
+countedName k = replicate 6 0x41 ++ ((0x41 + k / 16) ∷ (0x41 + k % 16) ∷ [])
+
+-- n lines of 16 bytes, of the names from k on: "AAAAAAAA=absent", "AAAAAAAB=absent" and so on
+unfoldable pub counted : ℕ → ℕ → List Line
+counted zero k = []
+counted (suc n) k = line (countedName k) false ∷ counted n (suc k)
+
+-- a card of 4,096 bytes; the same with "present" for "absent" in its last line, which is one byte more; and with a line more
+abbrev pub full : Bytes
+full = text (counted 256 0)
+
+abbrev pub byteMore : Bytes
+byteMore = text (counted 255 0) ++ lineText (line (countedName 255) true)
+
+abbrev pub lineMore : Bytes
+lineMore = text (counted 257 0)
+
+pub record Border : Type 0 where
+  pub sizes : (length full ≡ 4096) × (length byteMore ≡ 4097) × (length lineMore ≡ 4112)
+  -- it is read and judged to its last line
+  pub first : Answers full (countedName 0) (Told No)
+  pub last : Answers full (countedName 255) (Told No)
+  pub untested : Answers full (0x43 ∷ []) (Told NotKnown)
+  -- the longer ones are 25, though they are cards but for their length
+  pub lines : (wellFormed byteMore ≡ true) × (wellFormed lineMore ≡ true)
+  pub byte-more : Answers byteMore (countedName 255) (Refused why.Card)
+  pub line-more : Answers lineMore (countedName 255) (Refused why.Card)
