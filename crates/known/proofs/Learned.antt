@@ -7,7 +7,6 @@ use Prim.Native.Nat.{ℕ, _+_, _*_, _≤_}
 use native.Mathlib.Nat.{le-antisymm}
 use native.Mathlib.Omega.{arith}
 use lib.Dec.{leb}
-use borrow.Author.Tests.{le-leb}
 use lib.ListN.{length, take, replicate}
 use Rattle.ground.specs.Choice.{on}
 use Rattle.buffer.specs.Bytes.{Bytes, same, zeros, put}
@@ -33,15 +32,11 @@ use Rattle.hint.specs.Promises.{Appends, Exact}
 use Rattle.hint.proofs.Alike.{hint-alike}
 use Rattle.known.specs.declared.Doubt.{Doubt}
 use Rattle.known.specs.declared.Known.{Known}
-use Rattle.known.specs.Known.{doubtOf, leads, allLead, exactly, learned, belongs, heldKnown, owner, roomKnown, appendedKnown, storeKnown, listed, canSettleKnown, settledKnown, afterNew, afterSync}
-use Rattle.known.specs.Promises.{LearnedBelongs, LearnedFinds, LearnedStores, LearnedSettles, KnownAfterNew, KnownAfterSync}
+use Rattle.known.specs.Known.{doubtOf, leads, allLead, exactly, learned, heldKnown, owner, roomKnown, appendedKnown, storeKnown, listed, canSettleKnown, settledKnown, afterNew, afterSync}
+use Rattle.known.specs.Promises.{LearnedFinds, LearnedStores, LearnedSettles, KnownAfterNew, KnownAfterSync}
 use Rattle.known.proofs.Exact.{exactly-exact}
 use Rattle.known.proofs.Written.{all-same, exactly-written}
 use Rattle.known.proofs.Doubts.{used-written, doubt-written, doubt-by-absence}
-
-pub learned-belongs : LearnedBelongs
-unfolding learned belongs
-learned-belongs log waiting index = rw (le-leb (used log) (sectors (length log)) (used-le-sectors log), le-leb (used waiting) (sectors (length waiting)) (used-le-sectors waiting))
 
 module _ (log waiting index : Bytes) where
   abbrev one : Bytes

@@ -1,3 +1,4 @@
+pub mod Belongs
 pub mod Exact
 pub mod Written
 pub mod Doubts

@@ -4,7 +4,7 @@ use mathlib.Core.Bool.{Bool, true, false, cond, _&&_, _||_}
 use mathlib.Core.List.{List, [], _∷_}
 use mathlib.Core.Option.{Option, none, some}
 use Prim.Native.Nat.{ℕ, zero, suc, _+_, _-_, _*_}
-use lib.Dec.{eqb, leb}
+use lib.Dec.{eqb, leb, ltb}
 use lib.ListN.{length, take, replicate}
 use Rattle.ground.specs.Choice.{on}
 use Rattle.buffer.specs.Bytes.{Bytes, same, put}
@@ -60,9 +60,15 @@ learned log waiting index =
 
 -- ---- what is done with it
 
+-- "A doubtful sector is in the used part": the one that is told, if any is, lies before the end
+abbrev pub doubtBefore : Doubt → ℕ → Bool
+doubtBefore Clear end = true
+doubtBefore (At n) end = ltb (n .0) end
+
 -- what can be known of a log and a waiting part of these lengths: "one that cannot belong to these lengths is learned anew"
 unfoldable pub belongs : Known → ℕ → ℕ → Bool
-belongs k m w = leb (k .used .0) (sectors m) && leb (k .waits .0) (sectors w)
+belongs k m w =
+    leb (k .used .0) (sectors m) && (leb (k .waits .0) (sectors w) && doubtBefore (k .doubt) (k .used .0 + k .waits .0))
 
 -- both as one log, by the end that is known
 abbrev pub knownLog : Known → Bytes → Bytes → Bytes

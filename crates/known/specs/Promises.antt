@@ -3,19 +3,21 @@
 use mathlib.Core.Path.{_≡_}
 use mathlib.Core.Bool.{Bool, true, false, _&&_}
 use mathlib.Core.Option.{Option, none}
-use Prim.Native.Nat.{ℕ, _+_}
+use Prim.Native.Nat.{ℕ, _+_, _≤_, _<_}
 use lib.ListN.{length, replicate}
 use Rattle.buffer.specs.Bytes.{Bytes}
+use Rattle.sector_number.specs.declared.SectorNumber.{SectorNumber}
 use Rattle.sha1.specs.Sha1.{sha1Of}
 use Rattle.kind.specs.Kind.{longest}
 use Rattle.block.specs.Block.{Row, valid, written}
-use Rattle.block.specs.Log.{used}
+use Rattle.block.specs.Log.{sectors, used}
 use Rattle.log.specs.LookUp.{blocks, firstOf, held, absence}
 use Rattle.log.specs.Parts.{tape, beside, writtenFrom, moved, roomFor, canSettle, settled}
 use Rattle.log.specs.Store.{store, newRow, partsFor}
 use Rattle.hint.specs.Hint.{heldBy}
 use Rattle.hint.specs.Rebuilt.{enteredRow}
 use Rattle.hint.specs.Promises.{Exact, Appends}
+use Rattle.known.specs.declared.Doubt.the-variants.{At}
 use Rattle.known.specs.declared.Known.{Known}
 use Rattle.known.specs.Known.{doubtOf, missing, leads, exactly, learned, belongs, heldKnown, owner, storeKnown, listed, afterNew, canSettleKnown, settledKnown, afterSync}
 
@@ -32,10 +34,16 @@ ExactlyWritten = (log index : Bytes) (r : Row) → Appends log r → firstOf (r 
 abbrev pub DoubtWritten : Type 0
 DoubtWritten = (log : Bytes) (r : Row) → Appends log r → doubtOf (written log r) ≡ doubtOf log
 
--- what was learned belongs; a block that is missing is refused alike
+-- what was learned belongs
 abbrev pub LearnedBelongs : Type 0
 LearnedBelongs = (log waiting index : Bytes) → belongs (learned log waiting index) (length log) (length waiting) ≡ true
 
+-- and what belongs has its ends within these lengths, and no doubt behind them
+abbrev pub BelongsWithin : Type 0
+BelongsWithin = (k : Known) (m w : ℕ) → belongs k m w ≡ true
+    → (k .used .0 ≤ sectors m) × (k .waits .0 ≤ sectors w) × ((n : SectorNumber) → k .doubt ≡ At n → n .0 < k .used .0 + k .waits .0)
+
+-- a block that is missing is refused alike
 abbrev pub MissingIsAbsence : Type 0
 MissingIsAbsence = (log : Bytes) → missing (doubtOf log) ≡ absence log
 

@@ -25,8 +25,9 @@ use Rattle.log.specs.Parts.{Lent, tape, beside, canSettle, settled, moved}
 use Rattle.hint.specs.Hint.{heldBy}
 use Rattle.known.specs.declared.Known.{Known}
 use Rattle.known.specs.Known.{missing, doubtOf, learned, belongs, heldKnown, canSettleKnown, settledKnown, afterSync}
+use Rattle.known.proofs.Belongs.{learned-belongs}
 use Rattle.known.proofs.Doubts.{missing-is-absence}
-use Rattle.known.proofs.Learned.{learned-belongs, learned-finds, learned-settles, known-after-sync}
+use Rattle.known.proofs.Learned.{learned-finds, learned-settles, known-after-sync}
 use Rattle.request.specs.Step.{Outcome, refused, granted, version, replyRoom, allowed, readOf, sync, fresh, greeted, inSession}
 use Rattle.request.specs.declared.Session.{Session}
 use Rattle.request.specs.declared.Session.the-variants.{Fresh, Greeted, Closed as Shut}

@@ -2,14 +2,14 @@
 use mathlib.Core.Path.{_≡_, refl, sym, ap, ap₂, _∙_}
 use mathlib.Core.Bool.{Bool, true, false, cond, _&&_}
 use mathlib.Core.Option.{Option, none, some}
-use Prim.Native.Nat.{ℕ, _≤_, _<_}
+use Prim.Native.Nat.{ℕ, _+_, _≤_, _<_}
 use native.Mathlib.Omega.{arith}
-use lib.Dec.{leb}
+use lib.Dec.{ltb}
 use lib.ListN.{length}
-use borrow.Author.Tests.{le-leb, lt-leb, leb-true}
+use borrow.Author.Tests.{le-leb, lt-leb}
 use Rattle.ground.specs.Choice.{on}
-use Rattle.ground.proofs.Choices.{and-true}
 use Rattle.buffer.specs.Bytes.{Bytes, same}
+use Rattle.sector_number.specs.declared.SectorNumber.{SectorNumber}
 use Rattle.kind.specs.Kind.{lawful, longest, zeroScore}
 use Rattle.block.specs.Block.{Row, placeOf, Inside}
 use Rattle.block.specs.declared.Block.{Block}
@@ -22,8 +22,10 @@ use Rattle.lookup.proofs.Held.{Stands, held-stands}
 use Rattle.lookup.proofs.Outcomes.{placed-some, placed-none}
 use Rattle.hint.specs.Hint.{hint, heldBy}
 use Rattle.index_lookup.proofs.Held.{held-by-stands}
+use Rattle.known.specs.declared.Doubt.{Doubt}
+use Rattle.known.specs.declared.Doubt.the-variants.{Clear, At as Doubtful}
 use Rattle.known.specs.declared.Known.{Known}
-use Rattle.known.specs.Known.{belongs, knownLog, heldKnown, owner}
+use Rattle.known.specs.Known.{doubtBefore, belongs, knownLog, heldKnown, owner}
 
 -- ---- what can belong
 
@@ -32,13 +34,21 @@ module _ (k : Known) (m w : ℕ) where
   unfolding belongs
   too-long h = rw (lt-leb (k .used .0) (sectors m) h)
 
-  pub belongs-by : k .used .0 ≤ sectors m → leb (k .waits .0) (sectors w) ≡ belongs k m w
-  unfolding belongs
-  belongs-by h = rw (le-leb (k .used .0) (sectors m) h)
+  module _ (h : k .used .0 ≤ sectors m) where
+    pub too-many : sectors w < k .waits .0 → false ≡ belongs k m w
+    unfolding belongs
+    too-many g = rw (le-leb (k .used .0) (sectors m) h, lt-leb (k .waits .0) (sectors w) g)
 
-  pub belongs-reads : belongs k m w ≡ true → (k .used .0 ≤ sectors m) × (k .waits .0 ≤ sectors w)
-  unfolding belongs
-  belongs-reads e = let p = and-true (leb (k .used .0) (sectors m)) (leb (k .waits .0) (sectors w)) e in (leb-true _ _ (p .0), leb-true _ _ (p .1))
+    module _ (g : k .waits .0 ≤ sectors w) where
+      by-doubt : doubtBefore (k .doubt) (k .used .0 + k .waits .0) ≡ belongs k m w
+      unfolding belongs
+      by-doubt = rw (le-leb (k .used .0) (sectors m) h, le-leb (k .waits .0) (sectors w) g)
+
+      pub belongs-clear : k .doubt ≡ Clear → true ≡ belongs k m w
+      belongs-clear e = sym (ap (λ (d : Doubt). doubtBefore d (k .used .0 + k .waits .0)) e) ∙ by-doubt
+
+      pub belongs-doubtful : (n : SectorNumber) → k .doubt ≡ Doubtful n → ltb (n .0) (k .used .0 + k .waits .0) ≡ belongs k m w
+      belongs-doubtful n e = sym (ap (λ (d : Doubt). doubtBefore d (k .used .0 + k .waits .0)) e) ∙ by-doubt
 
 -- ---- what is found
 

@@ -32,7 +32,14 @@ pub fn belongs(known: Known, log: usize, waiting: usize) -> bool
     if log / SECTOR < used.0 {
         return false;
     }
-    waits.0 <= waiting / SECTOR
+    if waiting / SECTOR < waits.0 {
+        return false;
+    }
+    let doubt = known.doubt;
+    let Doubt::At(n) = doubt else {
+        return true;
+    };
+    n.0 < used.0 + waits.0
 }
 
 // The refusal of a block that is not found.

@@ -15,7 +15,7 @@ use Rattle.log.specs.LookUp.{lentAllowed}
 use Rattle.log.specs.Parts.{beside}
 use Rattle.known.specs.declared.Known.{Known}
 use Rattle.known.specs.Known.{learned, belongs}
-use Rattle.known.proofs.Learned.{learned-belongs}
+use Rattle.known.proofs.Belongs.{learned-belongs}
 use Rattle.message.specs.Message.{framed, tagOf, scoreOf, dataOf, requestOf}
 use Rattle.message.specs.declared.Request.{Request}
 use Rattle.message.proofs.Request.{the-type}

@@ -2,7 +2,7 @@
 use Prim.Native.Nat.{_*_}
 use native.Mathlib.Omega.{arith}
 use lib.ListN.{length, length-take}
-use Rattle.known_store.proofs.Found.{belongs-reads}
+use Rattle.known.proofs.Belongs.{belongs-within}
 use Rattle.known_store.proofs.Stored.{cannot-settle, can-settle, nothing-moved, all-moved}
 use borrow.Author.Needs.{needs}
 use Rattle.known_store.proofs.settle_known.Statement.{statement}
@@ -11,7 +11,7 @@ use Rattle.known_store.proofs.settle_known.Tie as tie
 add-if1 : tie.Need-add-if1
 add-if1 c =
     let a = (c .before .before .before .before .before .before .args) in
-    let b = belongs-reads (a .known) (length (a .log .now)) (length (a .waiting .now)) (c .before .before .before .before .before .before .pre) in
+    let b = belongs-within (a .known) (length (a .log .now)) (length (a .waiting .now)) (c .before .before .before .before .before .before .pre) in
     omega (arith, b .0, b .1)
 
 returns : tie.Need-returns
@@ -28,13 +28,13 @@ mul-to c = search needs
 slice-reshare-prefix-copy-at : tie.Need-slice-reshare-prefix-copy-at
 slice-reshare-prefix-copy-at c =
     let a = (c .before .before .before .before .before .before .before .before .before .before .args) in
-    let b = belongs-reads (a .known) (length (a .log .now)) (length (a .waiting .now)) (c .before .before .before .before .before .before .before .before .before .before .pre) in
+    let b = belongs-within (a .known) (length (a .log .now)) (length (a .waiting .now)) (c .before .before .before .before .before .before .before .before .before .before .pre) in
     omega (arith, b .1)
 
 slice-aggregate-copy-at : tie.Need-slice-aggregate-copy-at
 slice-aggregate-copy-at c =
     let a = (c .before .before .before .before .before .before .before .before .before .before .before .args) in
-    let b = belongs-reads (a .known) (length (a .log .now)) (length (a .waiting .now)) (c .before .before .before .before .before .before .before .before .before .before .before .pre) in
+    let b = belongs-within (a .known) (length (a .log .now)) (length (a .waiting .now)) (c .before .before .before .before .before .before .before .before .before .before .before .pre) in
     omega (arith, b .1, length-take (512 * a .known .waits .0) (a .waiting .now))
 
 copy-at-requires : tie.Need-copy-at-requires

@@ -5,7 +5,8 @@ use lib.ListN.{length}
 use Rattle.block.proofs.Joined.{sectors-joined}
 use Rattle.sha1.proofs.Digest.{digest-length}
 use Rattle.log.specs.Parts.{beside}
-use Rattle.known_store.proofs.Found.{belongs-reads, owner-within}
+use Rattle.known.proofs.Belongs.{belongs-within}
+use Rattle.known_store.proofs.Found.{owner-within}
 use Rattle.known_store.proofs.Stored.{store-found, store-new}
 use borrow.Author.Needs.{needs}
 use Rattle.known_store.proofs.store_known.Statement.{statement}
@@ -20,7 +21,7 @@ slice-aggregate-find-owner c = search needs
 find-owner-requires : tie.Need-find-owner-requires
 find-owner-requires c κs =
     let a = (c .before .before .before .before .before .before .before .before .args) in
-    let b = belongs-reads (a .known) (length (a .log .now)) (length (a .waiting .now)) (c .before .before .before .before .before .before .before .before .pre .0) in
+    let b = belongs-within (a .known) (length (a .log .now)) (length (a .waiting .now)) (c .before .before .before .before .before .before .before .before .pre .0) in
     (b .0, search needs)
 
 enum-known-place : tie.Need-enum-known-place
@@ -32,7 +33,7 @@ enum-told c = search needs
 append-known-requires : tie.Need-append-known-requires
 append-known-requires c κs =
     let a = (c .before .before .before .before .before .before .before .before .before .before .before .before .before .args) in
-    let b = belongs-reads (a .known) (length (a .log .now)) (length (a .waiting .now)) (c .before .before .before .before .before .before .before .before .before .before .before .before .before .pre .0) in
+    let b = belongs-within (a .known) (length (a .log .now)) (length (a .waiting .now)) (c .before .before .before .before .before .before .before .before .before .before .before .before .before .pre .0) in
     ((c .before .before .before .before .before .before .before .before .before .before .before .before .before .pre .1), (c .before .before .before .before .before .before .before .before .before .before .before .before .before .pre .2), (c .before .before .before .before .before .before .before .sha1 .ensures), b .0, search needs, b .1)
 
 same-length : tie.Need-same-length
@@ -47,7 +48,7 @@ returns c =
 compare-requires : tie.Need-compare-requires
 compare-requires c κs =
     let a = (c .before .before .before .before .before .before .before .before .before .before .before .before .before .before .args) in
-    let b = belongs-reads (a .known) (length (a .log .now)) (length (a .waiting .now)) (c .before .before .before .before .before .before .before .before .before .before .before .before .before .before .pre .0) in (
+    let b = belongs-within (a .known) (length (a .log .now)) (length (a .waiting .now)) (c .before .before .before .before .before .before .before .before .before .before .before .before .before .before .pre .0) in (
       b .0,
       owner-within (a .known) (a .log .now) (a .waiting .now) (a .index .now) (a .kind) _ _ _ _ (c .before .before .before .before .before .find-owner .ensures) (c .before .before .before .place .given .1)
           (sectors-joined (a .known .used .0) (a .log .now) (a .waiting .now) (b .0)),

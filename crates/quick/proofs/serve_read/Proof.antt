@@ -4,7 +4,8 @@ use native.Mathlib.Omega.{arith}
 use lib.ListN.{length}
 use borrow.Author.Tests.{not-true, not-false}
 use Rattle.block.proofs.Joined.{sectors-joined}
-use Rattle.known_store.proofs.Found.{belongs-reads, read-within, read-most}
+use Rattle.known.proofs.Belongs.{belongs-within}
+use Rattle.known_store.proofs.Found.{read-within, read-most}
 use Rattle.message.proofs.Requests.{read-length, read-score}
 use Rattle.quick.proofs.Reading.{read-kind, read-missing, read-over, read-granted, read-as}
 use borrow.Author.Needs.{needs}
@@ -46,7 +47,7 @@ find-known-requires c κs =
     let start = c .before .before .before .before .before .before .before .before .before in
     let score-of = c .score-of in
     let a = start .args in
-    let b = belongs-reads (a .known) (length (a .log .now)) (length (a .waiting .now)) (start .pre .0) in
+    let b = belongs-within (a .known) (length (a .log .now)) (length (a .waiting .now)) (start .pre .0) in
     (b .0, ap length (score-of .ensures) ∙ read-score _ _ _ (start .pre .1))
 
 enum-known-place : tie.Need-enum-known-place
@@ -111,7 +112,7 @@ answer-read-requires c κs =
     let place = c .before .before .before .before .before .place in
     let a = start .args in
     let s = (score-of .result .now) in
-    let b = belongs-reads (a .known) (length (a .log .now)) (length (a .waiting .now)) (start .pre .0) in
+    let b = belongs-within (a .known) (length (a .log .now)) (length (a .waiting .now)) (start .pre .0) in
     let n = sectors-joined (a .known .used .0) (a .log .now) (a .waiting .now) (b .0) in (
       b .0,
       read-within (a .known) (a .log .now) (a .waiting .now) (a .index .now) (a .kind) s _ _ (find-known .ensures) (place .given .1) _ n,

@@ -2,7 +2,7 @@
 use native.Mathlib.Omega.{arith}
 use lib.ListN.{length}
 use borrow.Author.Tests.{not-true, not-false}
-use Rattle.known_store.proofs.Found.{belongs-reads}
+use Rattle.known.proofs.Belongs.{belongs-within}
 use Rattle.quick.proofs.Syncing.{sync-refused, sync-moved}
 use borrow.Author.Needs.{needs}
 use Rattle.quick.proofs.serve_sync.Statement.{statement}
@@ -40,7 +40,7 @@ after-sync-requires : tie.Need-after-sync-requires
 after-sync-requires c κs =
     let start = c .before .before .before .before .before .before .before .before .before .before .before .before .before .before .before in
     let a = start .args in
-    let b = belongs-reads (a .known) (length (a .log .now)) (length (a .waiting .now)) (start .pre .0) in
+    let b = belongs-within (a .known) (length (a .log .now)) (length (a .waiting .now)) (start .pre .0) in
     omega (arith, b .0, b .1)
 
 same-length-4 : tie.Need-same-length-4

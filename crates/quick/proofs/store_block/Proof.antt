@@ -4,7 +4,7 @@ use native.Mathlib.Omega.{arith}
 use lib.ListN.{length}
 use Rattle.block.proofs.Facts.{parts-bounds}
 use Rattle.store.proofs.Outcomes.{parts-dated}
-use Rattle.known_store.proofs.Found.{belongs-reads}
+use Rattle.known.proofs.Belongs.{belongs-within}
 use Rattle.quick.proofs.Writing.{stored-answered}
 use borrow.Author.Needs.{needs}
 use Rattle.quick.proofs.store_block.Statement.{statement}
@@ -28,7 +28,7 @@ known-after-requires c κs =
     let start = before .before .before .before .before .before in
     let parts-of = c .before .before .before .before .parts-of in
     let a = start .args in
-    let b = belongs-reads (a .known) (length (a .log .now)) (length (a .waiting .now)) (start .pre .0) in
+    let b = belongs-within (a .known) (length (a .log .now)) (length (a .waiting .now)) (start .pre .0) in
     let u : a .known .used .0 + a .known .waits .0 < 2 ^ 64 = omega (arith, b .0, b .1, (start .good)) in
     let v : a .known .waits .0 + (parts-of .result) < 2 ^ 64 = omega (arith, b .1, (start .good), (parts-of .ensures), parts-bounds 389 (omega arith) (length (a .«data» .now)), (start .pre .1)) in
     (search needs, u, v)
