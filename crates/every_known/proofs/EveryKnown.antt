@@ -42,8 +42,8 @@ asks-right : (k : Known) (s : Session) (m buffer : Bytes) (date : Option Bytes) 
 asks-right k s m buffer none index log waiting e sm = refl
 asks-right k s m buffer (some date) index log none e sm = refl
 asks-right k s m buffer (some date) index log (some w) e sm =
-    let q = quick-is-serve k s m date index log w buffer e sm in
-    let known = q .1 ∙ ap (λ (x : Indexed). learnedOf (x .outcome .lent) (x .index)) (q .0) in
+    let q = quick-is-serve k s m date index log w buffer e in
+    let known = q .1 sm ∙ ap (λ (x : Indexed). learnedOf (x .outcome .lent) (x .index)) (q .0) in
     λ i. record { indexed = q .0 i; known = known i }
 
 -- the server follows the ledger, and knows what it would learn

@@ -45,9 +45,9 @@ module _ (session : ℕ) (m date index log w reply known : Bytes) (s : Session) 
 
 pub call-is-serve : CallIsServe
 unfolding serveAsked
-call-is-serve session m date index log w reply h g sm =
+call-is-serve session m date index log w reply h g =
     let K = learned log w index in
     let e : knownOf (knownBytes K) ≡ K = reads-back K (learned-fits log w index h g) in
-    let q = quick-is-serve (knownOf (knownBytes K)) (sessionOf session) m date index log w reply e sm in
+    let q = quick-is-serve (knownOf (knownBytes K)) (sessionOf session) m date index log w reply e in
     rw (eq-eqb (length (knownBytes K)) 25 (has-length K))
-    (ap servedOf (q .0), ap knownBytes (q .1 ∙ ap (λ (x : Indexed). learnedOf (x .outcome .lent) (x .index)) (q .0)))
+    (ap servedOf (q .0), λ sm. ap knownBytes (q .1 sm ∙ ap (λ (x : Indexed). learnedOf (x .outcome .lent) (x .index)) (q .0)))

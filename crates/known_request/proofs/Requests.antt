@@ -44,8 +44,8 @@ module _ (date index log w buffer : Bytes) where
   K = learned log w index
 
   -- an outcome that leaves all as it was
-  same-right : (o : Outcome) → o .lent ≡ L → Right (knowing K (keeping index o)) (keeping index o)
-  same-right o e = (refl, ap (λ (l : Lent). learnedOf l index) (sym e))
+  same-right : (m : Bytes) (o : Outcome) → o .lent ≡ L → Right m (knowing K (keeping index o)) (keeping index o)
+  same-right m o e = (refl, λ _. ap (λ (l : Lent). learnedOf l index) (sym e))
 
   -- ---- a read
 
@@ -62,23 +62,23 @@ module _ (date index log w buffer : Bytes) where
       (λ (r : Row). cond (ltb count (length (r .bytes))) (refused OverCount tag Greeted L buffer) (granted (readReply tag (r .bytes)) Greeted L buffer)))
       (missing-is-absence (tape log w)) (learned-finds log w index kind score .0)
 
-  read-right : (kind count tag : ℕ) (score : Bytes) → Right (readKnown K kind count tag score index log w buffer) (readBy kind count tag score index L buffer)
+  read-right : (m : Bytes) (kind count tag : ℕ) (score : Bytes) → Right m (readKnown K kind count tag score index log w buffer) (readBy kind count tag score index L buffer)
   unfolding readKnown readBy
-  read-right kind count tag score = rw (read-same kind count tag score) (same-right _
+  read-right m kind count tag score = rw (read-same kind count tag score) (same-right m _
       (cond-ind (λ (o : Outcome). o .lent ≡ L) (not (lawful kind)) _ _ (λ _. refl) (λ _. reads-lent (heldBy (tape log w) index kind score) count tag)))
 
   -- ---- a sync
 
-  sync-right : (tag : ℕ) → Right (syncKnown K tag index log w buffer) (keeping index (sync tag L buffer))
+  sync-right : (m : Bytes) (tag : ℕ) → Right m (syncKnown K tag index log w buffer) (keeping index (sync tag L buffer))
   unfolding syncKnown sync settled
-  sync-right tag = go (canSettle L) refl
+  sync-right m tag = go (canSettle L) refl
     where
       s : (canSettleKnown K (length log) ≡ canSettle L) × (settledKnown K log w ≡ settled L)
       s = learned-settles log w index
 
-      go : (b : Bool) → canSettle L ≡ b → Right (syncKnown K tag index log w buffer) (keeping index (sync tag L buffer))
-      go true q = rw (s .0, s .1, q) (refl, sym (known-after-sync log w index q))
-      go false q = rw (s .0, q) (refl, refl)
+      go : (b : Bool) → canSettle L ≡ b → Right m (syncKnown K tag index log w buffer) (keeping index (sync tag L buffer))
+      go true q = rw (s .0, s .1, q) (refl, λ _. sym (known-after-sync log w index q))
+      go false q = rw (s .0, q) (refl, λ _. refl)
 
   -- ---- every request
 
@@ -93,40 +93,42 @@ module _ (date index log w buffer : Bytes) where
   fresh-lent (Read kind count) tag m = refl
   fresh-lent (Write kind) tag m = refl
 
-  module _ (m : Bytes) (sm : small m ≡ true) (ok : allowed L ≡ true) where
-    greeted-right : isDate date ≡ true → (q : Request) (tag : ℕ) → Right (greetedKnown K date q tag m index log w buffer) (greetedBy date q tag m index L buffer)
+  module _ (m : Bytes) (ok : allowed L ≡ true) where
+    greeted-right : isDate date ≡ true → (q : Request) (tag : ℕ) → Right m (greetedKnown K date q tag m index log w buffer) (greetedBy date q tag m index L buffer)
     unfolding greetedKnown greetedBy greeted
-    greeted-right d (Read kind count) tag = rw (learned-belongs log w index) (read-right kind count tag (scoreOf m))
-    greeted-right d (Write kind) tag = rw (learned-belongs log w index) (write-right date index log w buffer kind tag (dataOf m) d ok (small-drop 8 m sm))
-    greeted-right d Sync tag = rw (learned-belongs log w index) (sync-right tag)
-    greeted-right d Unknown tag = (refl, refl)
-    greeted-right d Ill tag = (refl, refl)
-    greeted-right d Goodbye tag = (refl, refl)
-    greeted-right d Hello tag = (refl, refl)
-    greeted-right d Ping tag = (refl, refl)
+    greeted-right d (Read kind count) tag = rw (learned-belongs log w index) (read-right m kind count tag (scoreOf m))
+    greeted-right d (Write kind) tag =
+        let r = write-right date index log w buffer kind tag (dataOf m) d ok in
+        rw (learned-belongs log w index) (r .0, λ sm. r .1 (small-drop 8 m sm))
+    greeted-right d Sync tag = rw (learned-belongs log w index) (sync-right m tag)
+    greeted-right d Unknown tag = (refl, λ _. refl)
+    greeted-right d Ill tag = (refl, λ _. refl)
+    greeted-right d Goodbye tag = (refl, λ _. refl)
+    greeted-right d Hello tag = (refl, λ _. refl)
+    greeted-right d Ping tag = (refl, λ _. refl)
 
-    session-right : (s : Session) → Right (inSessionKnown K s m date index log w buffer) (inSessionBy s m (some date) index L buffer)
+    session-right : (s : Session) → Right m (inSessionKnown K s m date index log w buffer) (inSessionBy s m (some date) index L buffer)
     unfolding inSessionKnown inSessionBy inSession
-    session-right Shut = (refl, refl)
-    session-right Fresh = same-right _ (cond-ind (λ (o : Outcome). o .lent ≡ L) (isDate date) _ _ (λ _. fresh-lent (requestOf m) (tagOf m) m) (λ _. refl))
+    session-right Shut = (refl, λ _. refl)
+    session-right Fresh = same-right m _ (cond-ind (λ (o : Outcome). o .lent ≡ L) (isDate date) _ _ (λ _. fresh-lent (requestOf m) (tagOf m) m) (λ _. refl))
     session-right Greeted = go (isDate date) refl
       where
-        go : (b : Bool) → isDate date ≡ b → Right (inSessionKnown K Greeted m date index log w buffer) (inSessionBy Greeted m (some date) index L buffer)
+        go : (b : Bool) → isDate date ≡ b → Right m (inSessionKnown K Greeted m date index log w buffer) (inSessionBy Greeted m (some date) index L buffer)
         go true q = rw q (greeted-right q (requestOf m) (tagOf m))
-        go false q = rw q (refl, refl)
+        go false q = rw q (refl, λ _. refl)
 
-  step-right : (s : Session) (m : Bytes) → small m ≡ true → Right (stepKnown K s m date index log w buffer) (stepBy s m (some date) index L buffer)
+  step-right : (s : Session) (m : Bytes) → Right m (stepKnown K s m date index log w buffer) (stepBy s m (some date) index L buffer)
   unfolding stepKnown stepBy
-  step-right s m sm = go (not (framed m)) refl (ltb (length buffer) replyRoom) refl (not (allowed L)) refl
+  step-right s m = go (not (framed m)) refl (ltb (length buffer) replyRoom) refl (not (allowed L)) refl
     where
       go : (a : Bool) → not (framed m) ≡ a → (b : Bool) → ltb (length buffer) replyRoom ≡ b → (c : Bool) → not (allowed L) ≡ c
-          → Right (stepKnown K s m date index log w buffer) (stepBy s m (some date) index L buffer)
-      go true p b q c r = rw p (refl, refl)
-      go false p true q c r = rw (p, q) (refl, refl)
-      go false p false q true r = rw (p, q, r) (refl, refl)
-      go false p false q false r = rw (p, q, r) (session-right m sm (not-false (allowed L) r) s)
+          → Right m (stepKnown K s m date index log w buffer) (stepBy s m (some date) index L buffer)
+      go true p b q c r = rw p (refl, λ _. refl)
+      go false p true q c r = rw (p, q) (refl, λ _. refl)
+      go false p false q true r = rw (p, q, r) (refl, λ _. refl)
+      go false p false q false r = rw (p, q, r) (session-right m (not-false (allowed L) r) s)
 
 pub quick-is-serve : QuickIsServe
-quick-is-serve k s m date index log w buffer e sm =
-    subst (λ (x : Known). Right (stepKnown x s m date index log w buffer) (stepBy s m (some date) index (beside log w) buffer)) (sym e)
-    (step-right date index log w buffer s m sm)
+quick-is-serve k s m date index log w buffer e =
+    subst (λ (x : Known). Right m (stepKnown x s m date index log w buffer) (stepBy s m (some date) index (beside log w) buffer)) (sym e)
+    (step-right date index log w buffer s m)

@@ -36,9 +36,13 @@ use Rattle.indexed.specs.Indexed.{Indexed, keeping, enteredBy, indexAfter, writ
 use Rattle.known_request.specs.Quick.{Quick, knowing, storedKnown, writeKnown}
 use Rattle.known_request.specs.Promises.{learnedOf}
 
--- the outcome is the one that is asked for, and what is known is what would be learned then
-abbrev pub Right : Quick → Indexed → Type 0
-Right q x = (q .indexed ≡ x) × (q .known ≡ learnedOf (q .indexed .outcome .lent) (q .indexed .index))
+-- what is known is what would be learned then
+abbrev pub Knows : Quick → Type 0
+Knows q = q .known ≡ learnedOf (q .indexed .outcome .lent) (q .indexed .index)
+
+-- the outcome is the one that is asked for, and what is known after a message of bytes is what would be learned then
+abbrev pub Right : Bytes → Quick → Indexed → Type 0
+Right m q x = (q .indexed ≡ x) × (small m ≡ true → Knows q)
 
 log-allowed : (m : ℕ) → logAllowed m ≡ true → sectors m ≤ mostSectors
 unfolding logAllowed
@@ -82,8 +86,7 @@ module _ (date index log w buffer : Bytes) (kind tag : ℕ) (d : Bytes) where
 
   -- what was done by what is stored
   abbrev Done : AfterStore → Type 0
-  Done a = storedKnown K date kind tag d index a buffer .known
-      ≡ learnedOf (storedKnown K date kind tag d index a buffer .indexed .outcome .lent) (storedKnown K date kind tag d index a buffer .indexed .index)
+  Done a = Knows (storedKnown K date kind tag d index a buffer)
 
   module _ (dated : isDate date ≡ true) (ok : allowed L ≡ true) (l : lawful kind ≡ true) (le : length d ≤ longest) (sm : small d ≡ true) where
     row-valid : 1 ≤ length d → roomFor L (partsFor date d) ≡ true → valid (newRow L date kind d) ≡ true
@@ -128,13 +131,14 @@ module _ (date index log w buffer : Bytes) (kind tag : ℕ) (d : Bytes) where
     unfolding store
     store-right = stored (held (tape log w) kind (sha1Of d)) refl
 
-  pub write-right : isDate date ≡ true → allowed L ≡ true → small d ≡ true → Right (writeKnown K date kind tag d index log w buffer) (writeBy date kind tag d index L buffer)
+  pub write-right : isDate date ≡ true → allowed L ≡ true → Right d (writeKnown K date kind tag d index log w buffer) (writeBy date kind tag d index L buffer)
   unfolding writeKnown writeBy write indexAfter storedKnown
-  write-right dated ok sm = go (not (lawful kind)) refl (ltb longest (length d)) refl
+  write-right dated ok = go (not (lawful kind)) refl (ltb longest (length d)) refl
     where
-      go : (a : Bool) → not (lawful kind) ≡ a → (b : Bool) → ltb longest (length d) ≡ b → Right (writeKnown K date kind tag d index log w buffer) (writeBy date kind tag d index L buffer)
-      go true p b q = rw p (refl, refl)
-      go false p true q = rw (p, q) (refl, refl)
+      go : (a : Bool) → not (lawful kind) ≡ a → (b : Bool) → ltb longest (length d) ≡ b
+          → Right d (writeKnown K date kind tag d index log w buffer) (writeBy date kind tag d index L buffer)
+      go true p b q = rw p (refl, λ _. refl)
+      go false p true q = rw (p, q) (refl, λ _. refl)
       go false p false q =
           rw (p, q, learned-stores log w index date kind d)
-          (refl, store-right dated ok (not-false (lawful kind) p) (ltb-false longest (length d) q) sm)
+          (refl, store-right dated ok (not-false (lawful kind) p) (ltb-false longest (length d) q))

@@ -18,9 +18,9 @@ abbrev pub learnedOf : Lent → Bytes → Known
 learnedOf L index = learned (L .log) (on (L .waiting) [] (λ w. w)) index
 
 -- "if the `Known` is what `learn` would say of this log, waiting part and index, then number, reply, session, log, waiting part and index are exactly those of
--- `serve`, and the new `Known` is again what `learn` would say"
+-- `serve`, and the new `Known` is again what `learn` would say": the latter of a message of bytes, since a block of anything else is not sound
 abbrev pub QuickIsServe : Type 0
-QuickIsServe = (k : Known) (s : Session) (m date index log waiting buffer : Bytes) → k ≡ learned log waiting index → small m ≡ true
+QuickIsServe = (k : Known) (s : Session) (m date index log waiting buffer : Bytes) → k ≡ learned log waiting index
     → let q = stepKnown k s m date index log waiting buffer in
     (q .indexed ≡ stepBy s m (some date) index (beside log waiting) buffer)
-    × (q .known ≡ learnedOf (q .indexed .outcome .lent) (q .indexed .index))
+    × (small m ≡ true → q .known ≡ learnedOf (q .indexed .outcome .lent) (q .indexed .index))
