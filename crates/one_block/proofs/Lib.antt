@@ -1,1 +1,3 @@
 pub mod OneBlock
+pub mod Messages
+pub mod Parts
