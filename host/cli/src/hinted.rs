@@ -2,9 +2,10 @@
 //!
 //! A read by index looks first at the sectors that the index names for the block, and answers with the first
 //! block there that is sound. So the proved call is lent a log that has the first of these places as it is on
-//! disk and is blank elsewhere: where it answers, it answers as with the whole log and the same hints
-//! (`OneBlockSuffices` in `crates/one_block`). Where it does not, nothing is said: then the whole log is to be
-//! read, and its sectors that cannot be.
+//! disk and is blank elsewhere. Where the block is sound at that place, the answer is that of the whole log
+//! with the same hints (`ReadSuffices` in `crates/one_block`); where only a copy behind it is, it is so if sound
+//! blocks of one score and type have the same bytes (`PartSuffices`). Where it does not answer, nothing is
+//! said: then the whole log is to be read, and its sectors that cannot be.
 
 use std::fs::File;
 use std::path::Path;
