@@ -3,9 +3,8 @@
 //! A read by index looks first at the sectors that the index names for the block, and answers with the first
 //! block there that is sound. So the proved call is lent a log that has the first of these places as it is on
 //! disk and is blank elsewhere. Where the block is sound at that place, the answer is that of the whole log
-//! with the same hints (`ReadSuffices` in `crates/one_block`); where only a copy behind it is, it is so if sound
-//! blocks of one score and type have the same bytes (`PartSuffices`). Where it does not answer, nothing is
-//! said: then the whole log is to be read, and its sectors that cannot be.
+//! with the same hints (`ReadSuffices` in `crates/one_block`). Where it is not, nothing is said: then the whole
+//! log is to be read, and its sectors that cannot be.
 
 use std::fs::File;
 use std::path::Path;
@@ -33,6 +32,11 @@ pub fn read(path: &Path, kind: u8, score: &Score, count: u16) -> Option<Vec<u8>>
     let block = load(&file, first, end)?;
     let mut log = vec![0; end * SECTOR];
     log[first * SECTOR..].copy_from_slice(&block);
+    // At that very place: a copy behind it might not be what the whole log finds.
+    let found = boundary::look_up_by(&log, &[], &hints, kind, score).ok()?;
+    if found.sector != first {
+        return None;
+    }
     let mut client = Client::greet(&mut log).ok()?.with_hints(hints);
     let read = client.read(&mut log, kind, score, count);
     read.ok().map(<[u8]>::to_vec)
