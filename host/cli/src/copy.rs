@@ -10,7 +10,8 @@ use boundary::{walk, Refusal, Walked};
 use crate::arguments::Arguments;
 use crate::block_store::{BlockStore, Subject};
 use crate::blocks::{self, Block, Piece};
-use crate::clock;
+use crate::clock::{self, Told};
+use crate::date::Dates;
 use crate::escape;
 use crate::format::{sectors_of, Score, MOST_SECTORS, SECTOR};
 use crate::init;
@@ -96,7 +97,9 @@ fn copy_tree(
     to: &Path,
     streams: &mut Streams,
 ) -> Result<u8, Failure> {
-    let (root, dates) = (arguments.score(1)?, arguments.dates()?);
+    let root = arguments.score(1)?;
+    // One date for all rounds, though a day may end between two: together they are one copy.
+    let dates = Dates::Fixed(arguments.dates()?.now()?);
     let allowance = arguments.number("--allowance")?.unwrap_or(ALLOWANCE);
     if allowance > ALLOWANCE {
         return Err(Failure::refused(Refusal::Allowance));
@@ -114,8 +117,15 @@ fn copy_tree(
     let mut second = Writer::open(to, adopt, streams)?.dated(dates);
     second.open_index(streams);
     let before = second.sectors().1;
-    let copied = watched("copying", streams, || {
-        in_rounds(&mut second, &log, &root, allowance)
+    let visits = streams
+        .err_terminal
+        .then(|| follow(&log, &root, allowance))
+        .flatten()
+        .map(|trail| trail.walked.visits);
+    let copied = watched("copying", streams, |told| {
+        in_rounds(&mut second, &log, &root, allowance, |round, used| {
+            told.come(so_far(round, visits, used - before));
+        })
     })?;
     let (sectors, used) = second.sectors();
     let visits = copied.visits;
@@ -134,7 +144,7 @@ fn copy_tree(
     }
     drop(second);
     let second = reader::read(to, false, streams)?;
-    let found = watched("checking the copy", streams, || {
+    let found = watched("checking the copy", streams, |_| {
         walk(&second, &[], &root, allowance)
     });
     if found != copied {
@@ -161,12 +171,14 @@ fn stopped(
     refused("copying", refusal, copied.visits, stop, streams)
 }
 
-/// Copies with an ever larger allowance. Where a long copy is ended, what the rounds so far settled stays.
+/// Copies with an ever larger allowance. Where a long copy is ended, what the rounds so far settled stays. After
+/// each of them its visits and the sectors used are told.
 fn in_rounds(
     second: &mut Writer,
     log: &[u8],
     root: &Score,
     allowance: u64,
+    mut tell: impl FnMut(u64, usize),
 ) -> Result<Walked, Failure> {
     let mut round = FIRST_ROUND.min(allowance);
     loop {
@@ -174,15 +186,22 @@ fn in_rounds(
         if copied.outcome != Err(Refusal::Spent) || round == allowance {
             return Ok(copied);
         }
+        tell(copied.visits, second.sectors().1);
         round = allowance.min(round * LONGER);
     }
 }
 
+/// How far a copy has come after a round: of how many visits, where that could be counted.
+fn so_far(round: u64, visits: Option<u64>, sectors: usize) -> String {
+    let of = visits.map_or(String::new(), |visits| format!(" of {visits}"));
+    format!("{round}{of} visits, {sectors} sectors on disk")
+}
+
 /// Does the work, with a clock at a terminal.
-fn watched<R>(doing: &str, streams: &Streams, work: impl FnOnce() -> R) -> R {
+fn watched<R>(doing: &str, streams: &Streams, work: impl FnOnce(&Told) -> R) -> R {
     match streams.err_terminal {
-        true => clock::with_clock(doing, |_| work()),
-        false => work(),
+        true => clock::with_clock(doing, work),
+        false => work(&Told::default()),
     }
 }
 

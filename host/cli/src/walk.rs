@@ -1,6 +1,5 @@
 //! `walk`: visits every block below a root.
 
-use std::sync::atomic::Ordering;
 use std::time::{Duration, Instant};
 
 use boundary::{walk, Refusal};
@@ -25,10 +24,10 @@ pub fn run(arguments: &Arguments, streams: &mut Streams) -> Result<u8, Failure> 
     let mut log = reader::read(arguments.path(0), arguments.flag("--adopt"), streams)?;
     let mut trail = None;
     let walked = if streams.err_terminal {
-        clock::with_clock("walking", |expected| {
+        clock::with_clock("walking", |told| {
             trail = follow(&log, &score, allowance);
             if let Some(time) = trail.as_ref().and_then(|trail| estimate(&mut log, trail)) {
-                expected.store(time.as_secs() + 1, Ordering::Relaxed);
+                told.expect(time);
             }
             walk(&log, &[], &score, allowance)
         })
