@@ -11,7 +11,7 @@ use Rattle.refusal.specs.declared.Refusal.the-variants as why
 use Rattle.entry.specs.Entry.{entryOf}
 use Rattle.file.specs.File.{pageAllowed}
 use Rattle.writer_laws.specs.ReadBack.{Reads}
-use Rattle.writer_laws.proofs.ReadBack.{reads-back, reads-later}
+use Rattle.writer_laws.proofs.ReadBack.{reads-back, reads-back-later}
 use Rattle.search.specs.Search.{longestCard, test, judged, searchOf}
 use Rattle.search.proofs.Tests.{search-long}
 use Rattle.search_laws.proofs.Elsewhere.{judged-by-its-bytes}
@@ -34,4 +34,4 @@ search-of-written log waiting date slice dsize psize entry scores page query sm 
 
 pub search-of-written-later : SearchOfWrittenLater
 search-of-written-later log waiting date slice dsize psize entry scores page query sm p done past qs b =
-    reads-answered _ _ page _ slice query p (reads-later log waiting date slice dsize psize entry scores page sm p done past qs b)
+    reads-answered _ _ page _ slice query p (reads-back-later log waiting date slice dsize psize entry scores page sm p done past qs b)

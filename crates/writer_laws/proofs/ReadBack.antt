@@ -183,7 +183,7 @@ module _ (slice : Bytes) (dsize psize depth : ℕ) (d-from : 1 ≤ dsize) (d-to 
 -- ---- the call
 
 -- nothing left out
-all-before : (xs before rest : List Typed) → xs ≡ before ++ rest → rest ≡ [] → xs ≡ before
+pub all-before : (xs before rest : List Typed) → xs ≡ before ++ rest → rest ≡ [] → xs ≡ before
 all-before xs before rest split none-out = split ∙ ap (λ ys. before ++ ys) none-out ∙ append-nil before
 
 -- what a call that succeeds leaves: the entry, in a log that holds the file's blocks
@@ -235,8 +235,8 @@ holds-later log later [] k H = tt
 holds-later log later (x ∷ xs) k H =
     let h = H .0 in ((h .0, k (x .kind) (sha1Of (x .bytes)) (h .0) (h .1), h .2), holds-later log later xs k (H .1))
 
-pub reads-later : ReadsBackLater
-reads-later log w date slice dsize psize entry scores page sm zeros done past qs small-qs =
+pub reads-back-later : ReadsBackLater
+reads-back-later log w date slice dsize psize entry scores page sm zeros done past qs small-qs =
     let D = done-with log w date slice dsize psize entry scores sm done in
     let keeps = list-keeps (record { log = writeFile log w date slice dsize psize entry scores .lent; past = past }) qs small-qs in
     rw (D .handed) (go D (afterwards (writeFile log w date slice dsize psize entry scores .lent) past qs)

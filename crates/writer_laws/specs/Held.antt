@@ -4,7 +4,7 @@ use mathlib.Core.Bool.{true}
 use mathlib.Core.List.{List, [], _∷_, _++_}
 use mathlib.Core.Logic.{_⊎_}
 use mathlib.Core.Option.{some}
-use Prim.Native.Nat.{ℕ, _≤_}
+use Prim.Native.Nat.{ℕ, _*_, _≤_}
 use lib.ListN.{length}
 use Rattle.buffer.specs.Bytes.{Bytes}
 use Rattle.word.specs.Number.{small}
@@ -13,13 +13,15 @@ use Rattle.refusal.specs.declared.Refusal.{Refusal}
 use Rattle.refusal.specs.declared.Refusal.the-variants.{NoRoom, Clash}
 use Rattle.kind.specs.Kind.{lawful, longest}
 use Rattle.sector.specs.Sector.{isDate}
-use Rattle.block.specs.Block.{Row}
-use Rattle.log.specs.Parts.{beside, tape}
+use Rattle.block.specs.Block.{Row, partsOf}
+use Rattle.log.specs.Parts.{beside, tape, canSettle, settled}
 use Rattle.log.specs.LookUp.{held, lentAllowed}
 use Rattle.log.specs.Store.{store}
 use Rattle.log.specs.declared.Stored.the-variants.{Refused as NotStored}
-use Rattle.writer.specs.Blocks.{Typed}
-use Rattle.writer.specs.WriteFile.{AfterAll, afterAll, storeAll}
+use Rattle.trees.specs.Again.{waitingOf}
+use Rattle.writer.specs.Blocks.{Typed, fileBlocks}
+use Rattle.writer.specs.Depth.{depthOf}
+use Rattle.writer.specs.WriteFile.{AfterAll, afterAll, storeAll, outcome, entryAfter, clearedTo, entryOver, scoreRoom, writeFile}
 use Rattle.writer.specs.declared.End.the-variants.{Done, Refused}
 
 -- look-up finds a block with these very bytes
@@ -56,3 +58,29 @@ StaysIn log w date xs a =
 abbrev pub Stays : Type 0
 Stays = (log w date : Bytes) (xs : List Typed) → lentAllowed (length log) (length w) ≡ true → isDate date ≡ true → AllWritable xs
     → StaysIn log w date xs (storeAll (beside log w) date xs)
+
+-- and so of the call, where its tests let it through
+abbrev pub FileStays : Type 0
+FileStays = (log w date slice : Bytes) (dsize psize : ℕ) (entry scores : Bytes) (depth : ℕ) → small slice ≡ true
+    → length entry ≡ 40 → scoreRoom ≤ length scores → lentAllowed (length log) (length w) ≡ true → isDate date ≡ true → length slice ≤ longest
+    → depthOf (length slice) dsize psize ≡ some depth
+    → let o = writeFile log w date slice dsize psize entry scores in StaysIn log w date (fileBlocks slice dsize psize depth) (afterAll (o .end) (o .lent))
+
+-- "After a sync the same call finds the first blocks as duplicates and goes on": where all that waits is settled, storing the same blocks again is storing those that
+-- were left out
+abbrev pub WritesOn : Type 0
+WritesOn = (log w date : Bytes) (xs : List Typed) → lentAllowed (length log) (length w) ≡ true → isDate date ≡ true → AllWritable xs
+    → let a = storeAll (beside log w) date xs in let M = settled (a .lent) in canSettle (a .lent) ≡ true
+    → (before rest : List Typed) → xs ≡ before ++ rest → storeAll (beside log w) date before ≡ afterAll Done (a .lent)
+    → storeAll M date xs ≡ storeAll M date rest
+
+-- and so of the call, in any buffers: it leaves and answers what storing the rest does, and the entry over the whole file where that is done
+abbrev pub FileWritesOn : Type 0
+FileWritesOn = (log w date slice : Bytes) (dsize psize : ℕ) (entry scores : Bytes) (depth : ℕ) → small slice ≡ true
+    → length entry ≡ 40 → scoreRoom ≤ length scores → lentAllowed (length log) (length w) ≡ true → isDate date ≡ true → length slice ≤ longest
+    → depthOf (length slice) dsize psize ≡ some depth
+    → let o = writeFile log w date slice dsize psize entry scores in let M = settled (o .lent) in canSettle (o .lent) ≡ true
+    → (before rest : List Typed) → fileBlocks slice dsize psize depth ≡ before ++ rest → storeAll (beside log w) date before ≡ afterAll Done (o .lent)
+    → (entry′ scores′ : Bytes) → length entry′ ≡ 40 → scoreRoom ≤ length scores′ → let a = storeAll M date rest in
+    writeFile (M .log) (waitingOf M) date slice dsize psize entry′ scores′
+    ≡ outcome (a .end) (a .lent) (entryAfter (a .end) entry′ (entryOver slice dsize psize depth)) (clearedTo (20 * partsOf dsize (length slice)) scores′)
