@@ -15,7 +15,7 @@ use Rattle.request.specs.Step.{replyRoom}
 use Rattle.request.specs.declared.Session.{Session}
 use Rattle.ledger.specs.Trace.{trace, Along}
 use Rattle.ledger.specs.History.{Item, AllOfBytes, Standing, overlaid, Books, recount, blank-log, blank-books}
-use Rattle.ledger.specs.Events.{Shown, stands, Event, recountEvent, Possible}
+use Rattle.ledger.specs.Events.{Shown, stands, Event, recountEvent, Possible, log-then, books-then}
 use Rattle.ledger.proofs.Trace.{Agree, along-agrees, along-append, left-append}
 use Rattle.ledger.proofs.Asks.{recount-left, possible-asks}
 use Rattle.ledger.proofs.Lists.{Stands}
@@ -26,7 +26,7 @@ use Rattle.demands.proofs.Lawful.{lawful}
 use Rattle.events.specs.Events.{Past}
 use Rattle.writer_laws.proofs.Asking.{requests-of-bytes}
 use Rattle.writer_events.specs.Happenings.{Call, Happening, event, call, happened, Verdict, refusedBy, passesAt, verdict, blocksAt, happenOrWrite, upToRefused, messagesBy}
-use Rattle.writer_events.specs.Happenings.{recountCall, verdictIn, recountOrWrite, May, WritingAmongEvents, callEvents, expanded, WrittenIsPast}
+use Rattle.writer_events.specs.Happenings.{recountCall, verdictIn, recountOrWrite, May, WritingAmongEvents, WritingFrom, callEvents, expanded, WrittenIsPast}
 use Rattle.writer_events.proofs.Verdicts.{passes}
 use Rattle.writer_events.proofs.Calls.{writable-call, call-alike}
 
@@ -65,12 +65,19 @@ unfolding Goes
 alike s b (event e) ok S = event-alike s b e ok S
 alike s b (call c) ok S = lent-alike (s .log .log) (s .log .waiting) (s .past) b c ok S
 
+agree-on : (s : Standing archive) (b : Books archive) (hs : List Happening) → Along May recountOrWrite b hs → Stands archive s b
+    → Agree (Stands archive) (trace happenOrWrite s hs) (trace recountOrWrite b hs)
+agree-on = along-agrees happenOrWrite recountOrWrite (Stands archive) May alike
+
 agree : (x : Extent) (hs : List Happening) → Along May recountOrWrite (blank-books archive x) hs
     → Agree (Stands archive) (trace happenOrWrite (blank-log archive x) hs) (trace recountOrWrite (blank-books archive x) hs)
-agree x hs ok = along-agrees happenOrWrite recountOrWrite (Stands archive) May alike (blank-log archive x) (blank-books archive x) hs ok (begins-blank archive lawful x)
+agree x hs ok = agree-on (blank-log archive x) (blank-books archive x) hs ok (begins-blank archive lawful x)
 
 pub writing-among-events : WritingAmongEvents
 writing-among-events x hs ok = agree x hs ok .seen
+
+pub writing-from : WritingFrom
+writing-from h hs ok = agree-on (log-then archive h) (books-then archive h) hs ok (stands-then archive lawful h) .seen
 
 -- ---- a history of events
 

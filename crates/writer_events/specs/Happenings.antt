@@ -125,6 +125,11 @@ abbrev pub WritingAmongEvents : Type 0
 WritingAmongEvents = (x : Extent) (hs : List Happening) → Along May recountOrWrite (blank-books archive x) hs
     → trace happenOrWrite (blank-log archive x) hs .seen ≡ trace recountOrWrite (blank-books archive x) hs .seen
 
+-- and so from any history of events on, such as one that ends with a copy (`CopyIsEvents`)
+abbrev pub WritingFrom : Type 0
+WritingFrom = (h : Past) (hs : List Happening) → Along May recountOrWrite (books-then archive h) hs
+    → trace happenOrWrite (log-then archive h) hs .seen ≡ trace recountOrWrite (books-then archive h) hs .seen
+
 -- ---- and so whatever is said of a history of events holds where writing calls stand in it
 
 -- the messages of a call as events; none where its tests refuse it
