@@ -26,7 +26,7 @@ use Rattle.walk.specs.Walk.{walkTop, walkRoot, walkIn, mostAllowance}
 use Rattle.walk_laws.proofs.Found.{not-done}
 use Rattle.copying.specs.PostOrder.{Role, root, top, ofEntry, typeOf, Visit, PostOrder, postOrder, later, goOn, followedBy, visitLast, eachInOrder, judgedLast, directoryLast}
 use Rattle.copying.specs.PostOrder.{entryLast, topLast, rootLast, postOrderIn, postOrderOf}
-use Rattle.copying.specs.Promises.{HoldsAll, Linked, PostOrderIsWalk, EachVisitOnce}
+use Rattle.copying.specs.Promises.{HoldsAll, Linked, PostOrderIsWalk, DirectoryIsWalk, EachVisitOnce}
 use Rattle.copying.proofs.Below.{below-entry, below-a-root, below-a-top}
 use Rattle.copying.proofs.OneVisit.{of-first, absence-first, walks-by, within-by, shown-by, again-by, links-by, counted-by, first-by}
 use Rattle.copying.proofs.Visited.{OfFirst, done-first, first-on, holds-later, holds-on, SpentWithin, within-later, within-on, LinksFirst, links-later, links-on, Any}
@@ -184,6 +184,9 @@ tests-post-order lent score n =
 
 pub post-order-is-walk : PostOrderIsWalk
 post-order-is-walk log waiting score n = tests-post-order (lentAllowed (length log) (length waiting)) score n .walks (tape log waiting)
+
+pub directory-is-walk : DirectoryIsWalk
+directory-is-walk calls log nest b left h = directory-post-order calls nest b left h .walks log
 
 pub each-visit-once : EachVisitOnce
 each-visit-once log waiting score n v e =

@@ -4,7 +4,7 @@ use mathlib.Core.Bool.{true, false, cond}
 use mathlib.Core.List.{List, [], _∷_, _++_, List·Memᴰ}
 use mathlib.Core.Logic.{_≢_, _⊎_}
 use mathlib.Core.Option.{some, none as nothing}
-use Prim.Native.Nat.{ℕ, zero, suc, _/_, _%_, _≤_, _<_}
+use Prim.Native.Nat.{ℕ, zero, suc, _+_, _/_, _%_, _≤_, _<_}
 use lib.ListN.{length}
 use Rattle.buffer.specs.Bytes.{Bytes}
 use Rattle.sha1.specs.Sha1.{sha1Of}
@@ -22,17 +22,22 @@ use Rattle.visit.specs.declared.End.{End}
 use Rattle.visit.specs.declared.End.the-variants.{Done, Refused}
 use Rattle.visit.specs.declared.Walked.{Walked}
 use Rattle.visit.specs.Visit.{walked}
-use Rattle.descent.specs.Descent.{paddedTo}
+use Rattle.descent.specs.Descent.{paddedTo, visitDirectory}
 use Rattle.walk.specs.Walk.{mostAllowance, walkOf}
 use Rattle.walk_laws.specs.Found.{Found, FoundEntries, FoundRoot}
 use Rattle.copying.specs.Copy.{Copied, storeEnd, copyAllowed, copyOf}
-use Rattle.copying.specs.PostOrder.{Role, root, top, ofEntry, typeOf, Visit, PostOrder, postOrderOf, stored, storeVisits}
+use Rattle.copying.specs.PostOrder.{Role, root, top, ofEntry, typeOf, Visit, PostOrder, directoryLast, postOrderOf, stored, storeVisits}
 
 -- ---- what it stores
 
 -- the walk in post-order answers as the walk does
 abbrev pub PostOrderIsWalk : Type 0
 PostOrderIsWalk = (log waiting score : Bytes) (n : ℕ) → postOrderOf log waiting score n .answer ≡ walkOf log waiting score n
+
+-- and so does the part of it below a directory block's bytes, at any nest and with calls enough
+abbrev pub DirectoryIsWalk : Type 0
+DirectoryIsWalk = (calls : ℕ) (log : Bytes) (nest : ℕ) (b : Bytes) (left : ℕ) → left + left + 2 ≤ calls
+    → directoryLast calls log nest b left .answer ≡ visitDirectory calls log nest b left
 
 -- and where the walk ends, it has a block for each visit
 abbrev pub EachVisitOnce : Type 0
