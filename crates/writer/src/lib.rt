@@ -18,7 +18,7 @@ ghost use Rattle.cut.specs.Cut.{unitOf, cutLength, wholeUnits};
 ghost use Rattle.entry.specs.Made.{madeEntry};
 ghost use Rattle.writer.specs.Blocks.{cutBlock, level, leaves, scoresOf, scoresAt, pointerBlocks, widthOf, fileBlocks, topOf, topScore};
 ghost use Rattle.writer.specs.Depth.{leastDepth, depthOf};
-ghost use Rattle.writer.specs.WriteFile.{endOf, endNumber, afterAll, storeAll, outcome, wrote, writeFile};
+ghost use Rattle.writer.specs.WriteFile.{endOf, afterAll, storeAll, outcome, wrote, writeFile};
 ghost use Rattle.writer.specs.declared.End.the-variants.{Done};
 
 // How writing a file ended: all of its blocks are stored, or the refusal.
@@ -32,16 +32,6 @@ pub const ENTRY: usize = 40;
 
 // How long the lent buffer of scores is at least: a score for each of the most leaves.
 pub const SCORES: usize = 1146880;
-
-// The number of how writing ended: 0 for done.
-pub fn number(end: End) -> u8
-    ensures { λ r. ⌜ r ≡ endNumber end ⌝ }
-{
-    match end {
-        End::Done => 0,
-        End::Refused(why) => refusal::number(why),
-    }
-}
 
 // The smaller of two numbers.
 fn smaller(a: usize, b: usize) -> usize

@@ -4,8 +4,8 @@ use Prim.Native.Nat.{ℕ}
 use Rattle.buffer.specs.Bytes.{Bytes}
 use Rattle.log.specs.Parts.{Lent}
 use Rattle.writer.specs.declared.End.{End}
-use Rattle.writer.specs.WriteFile.{Outcome, outcome}
-use Rattle.writer_calls.specs.Wrote.{endNumber, wroteFile, wroteResult}
+use Rattle.writer.specs.WriteFile.{endNumber, Outcome, outcome}
+use Rattle.writer_calls.specs.Wrote.{wroteFile, wroteResult}
 
 pub wrote-so : (e : End) (L : Lent) (entry scores : Bytes) (o : Outcome) (k : ℕ) → outcome e L entry scores ≡ o → k ≡ endNumber e
     → wroteFile k L entry scores ≡ wroteResult o

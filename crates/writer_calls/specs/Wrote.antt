@@ -1,18 +1,10 @@
 -- A file written, in numbers and byte strings.
 use Prim.Native.Nat.{ℕ}
 use Rattle.buffer.specs.Bytes.{Bytes}
-use Rattle.refusal.specs.Number.{numberOf}
 use Rattle.log.specs.Parts.{Lent}
-use Rattle.writer.specs.declared.End.{End}
-use Rattle.writer.specs.declared.End.the-variants.{Done, Refused}
-use Rattle.writer.specs.WriteFile.{Outcome}
+use Rattle.writer.specs.WriteFile.{endNumber, Outcome}
 
--- "Outside messages 10, 14 and 15 too are the number only"; 0 for none
-abbrev pub endNumber : End → ℕ
-endNumber Done = 0
-endNumber (Refused w) = numberOf w
-
--- what a call gives: its number, what is lent as a log, the entry and the buffer of scores afterwards
+-- what a call gives: its number ("Outside messages 10, 14 and 15 too are the number only"; 0 for none), what is lent as a log, the entry and the buffer of scores afterwards
 pub record WroteFile : Type 0 where
   pub result : ℕ
   pub lent : Lent

@@ -2,8 +2,8 @@
 use writer::End;
 ghost use mathlib.Core.Path.{_≡_};
 ghost use Rattle.log.specs.Parts.{beside};
-ghost use Rattle.writer.specs.WriteFile.{writeFile};
-ghost use Rattle.writer_calls.specs.Wrote.{endNumber, wroteFile, wroteResult};
+ghost use Rattle.writer.specs.WriteFile.{endNumber, writeFile};
+ghost use Rattle.writer_calls.specs.Wrote.{wroteFile, wroteResult};
 
 // The number of how writing ended: 0 where all blocks are stored.
 fn end_number(end: End) -> u32

@@ -1,5 +1,5 @@
 use mathlib.Core.Path.{sym, ap, _∙_}
-use Rattle.writer_calls.specs.Wrote.{endNumber}
+use Rattle.writer.specs.WriteFile.{endNumber}
 use borrow.Author.Needs.{needs}
 use Rattle.writer_calls.proofs.end_number.Statement.{statement}
 use Rattle.writer_calls.proofs.end_number.Tie as tie
