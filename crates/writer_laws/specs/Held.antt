@@ -66,7 +66,7 @@ FileStays = (log w date slice : Bytes) (dsize psize : ℕ) (entry scores : Bytes
     → depthOf (length slice) dsize psize ≡ some depth
     → let o = writeFile log w date slice dsize psize entry scores in StaysIn log w date (fileBlocks slice dsize psize depth) (afterAll (o .end) (o .lent))
 
--- "After a sync the same call finds the first blocks as duplicates and goes on": where all that waits is settled, storing the same blocks again is storing those that
+-- "after a sync the same call finds the first blocks as duplicates and goes on": where all that waits is settled, storing the same blocks again is storing those that
 -- were left out
 abbrev pub WritesOn : Type 0
 WritesOn = (log w date : Bytes) (xs : List Typed) → lentAllowed (length log) (length w) ≡ true → isDate date ≡ true → AllWritable xs
