@@ -44,8 +44,15 @@ slice-aggregate-write-parts c = search needs
 
 -- src/lib.rt:94:5
 write-parts-requires : tie.Need-write-parts-requires
-write-parts-requires c κs =
-    ((c .before .before .before .before .before .before .before .before .before .before .before .pre .0), (c .before .before .before .before .before .before .before .before .before .before .before .pre .1), front-short ((c .before .before .before .before .before .before .before .before .before .before .before .args .date .now)) _ ((c .before .before .before .before .before .before .before .before .before .before .before .args) .«data» .now) ((c .before .before .before .before .before .before .before .before .before .before .before .args .part .now)) 0 ((c .before .before .before .before .before .before .before .before .before .before .before .pre .2)) ((c .before .before .before .before .before .write-front .ensures)), room-behind ((c .before .before .before .before .before .before .before .before .before .before .before .args .date .now)) _ ((c .before .before .before .before .before .before .before .before .before .before .before .args) .«data» .now) ((c .before .before .before .before .before .before .before .before .before .before .before .args .part .now)) ((c .before .before .before .before .before .before .before .before .before .before .before .args .first .0) - (c .before .before .before .before .before .before .before .before .before .before .before .args .from .0)) ((c .before .before .before .before .before .before .before .before .before .before .before .pre .2)) ((c .before .before .before .before .before .write-front .ensures)) ((c .before .before .before .before .before .before .before .before .before .before .before .pre .4)))
+write-parts-requires c κs = let a = c .before .before .before .before .before .before .before .before .before .before .before .args in
+    let given = c .before .before .before .before .before .before .before .before .before .before .before .pre in
+    let write-front = c .before .before .before .before .before .write-front in (
+      (given .0),
+      (given .1),
+      front-short (a .date .now) _ (a .«data» .now) (a .part .now) 0 (given .2) (write-front .ensures),
+      room-behind (a .date .now) _ (a .«data» .now) (a .part .now)
+          ((a .first .0) - (a .from .0)) (given .2) (write-front .ensures) (given .4),
+    )
 
 -- src/lib.rt:79:1
 same-length : tie.Need-same-length
@@ -53,8 +60,11 @@ same-length c = search needs
 
 -- src/lib.rt:79:1
 returns : tie.Need-returns
-returns c =
-    dated-written ((c .before .before .before .before .before .before .before .before .before .before .before .before .before .before .args .from .0)) ((c .before .before .before .before .before .before .before .before .before .before .before .before .before .before .args .kind)) ((c .before .before .before .before .before .before .before .before .before .before .before .before .before .before .args .first .0)) ((c .before .before .before .before .before .before .before .before .before .before .before .before .before .before .args .part .now)) _ ((c .before .before .before .before .before .before .before .before .before .before .before .before .before .before .args .score .now)) ((c .before .before .before .before .before .before .before .before .before .before .before .before .before .before .args) .«data» .now) ((c .before .before .before .before .before .before .before .before .before .before .before .before .before .before .args .date .now)) _ ((c .before .before .before .before .before .before .before .before .before .before .before .before .before .before .pre .2)) ((c .before .before .before .before .before .before .before .before .write-front .ensures)) ((c .before .before .before .before .before .before .before .before .before .before .before .before .before .before .pre .1)) ((c .before .before .before .before .before .before .before .before .before .before .before .before .before .before .pre .4)) ((c .before .before .write-parts .ensures))
+returns c = let a = c .before .before .before .before .before .before .before .before .before .before .before .before .before .before .args in
+    let given = c .before .before .before .before .before .before .before .before .before .before .before .before .before .before .pre in
+    let write-front = c .before .before .before .before .before .before .before .before .write-front in
+    let write-parts = c .before .before .write-parts in
+    dated-written (a .from .0) (a .kind) (a .first .0) (a .part .now) _ (a .score .now) (a .«data» .now) (a .date .now) _ (given .2) (write-front .ensures) (given .1) (given .4) (write-parts .ensures)
 
 pub append-block-spec : {M : Type 1} → statement M
 append-block-spec =

@@ -25,15 +25,17 @@ payload-of-requires c κs = search needs
 
 -- src/lib.rt:41:16
 mul-from : tie.Need-mul-from
-mul-from c =
-    let b = start-behind ((c .before .before .before .before .before .args .front .now)) ((c .before .before .before .before .before .args) .«data» .now) ((c .before .before .before .before .before .args .k)) _ ((c .before .before .before .before .before .pre .2)) ((c .before .before .before .before .before .pre .4)) ((c .payload-of .ensures)) in
-    omega (arith, (c .before .before .before .before .before .pre .0))
+mul-from c = let a = c .before .before .before .before .before .args in
+    let given = c .before .before .before .before .before .pre in
+    let b = start-behind (a .front .now) (a .«data» .now) (a .k) _ (given .2) (given .4) ((c .payload-of .ensures)) in
+    omega (arith, (given .0))
 
 -- src/lib.rt:42:22
 add-smaller : tie.Need-add-smaller
-add-smaller c =
-    let b = start-behind ((c .before .before .before .before .before .args .front .now)) ((c .before .before .before .before .before .args) .«data» .now) ((c .before .before .before .before .before .args .k)) _ ((c .before .before .before .before .before .pre .2)) ((c .before .before .before .before .before .pre .4)) ((c .payload-of .ensures)) in
-    omega (arith, (c .before .before .before .before .before .pre .0), (c .payload-of .ensures))
+add-smaller c = let a = c .before .before .before .before .before .args in
+    let given = c .before .before .before .before .before .pre in
+    let b = start-behind (a .front .now) (a .«data» .now) (a .k) _ (given .2) (given .4) ((c .payload-of .ensures)) in
+    omega (arith, (given .0), (c .payload-of .ensures))
 
 -- src/lib.rt:42:9
 smaller-requires : tie.Need-smaller-requires
@@ -41,14 +43,16 @@ smaller-requires c κs = search needs
 
 -- src/lib.rt:43:17
 sub-piece : tie.Need-sub-piece
-sub-piece c =
-    let b = start-behind ((c .before .before .before .before .before .before .args .front .now)) ((c .before .before .before .before .before .before .args) .«data» .now) ((c .before .before .before .before .before .before .args .k)) _ ((c .before .before .before .before .before .before .pre .2)) ((c .before .before .before .before .before .before .pre .4)) ((c .before .payload-of .ensures)) in
+sub-piece c = let a = c .before .before .before .before .before .before .args in
+    let given = c .before .before .before .before .before .before .pre in
+    let b = start-behind (a .front .now) (a .«data» .now) (a .k) _ (given .2) (given .4) ((c .before .payload-of .ensures)) in
     omega (arith, (c .smaller .ensures))
 
 -- src/lib.rt:43:17
 part-piece-start : tie.Need-part-piece-start
-part-piece-start c =
-    let b = start-behind ((c .before .before .before .before .before .before .args .front .now)) ((c .before .before .before .before .before .before .args) .«data» .now) ((c .before .before .before .before .before .before .args .k)) _ ((c .before .before .before .before .before .before .pre .2)) ((c .before .before .before .before .before .before .pre .4)) ((c .before .payload-of .ensures)) in
+part-piece-start c = let a = c .before .before .before .before .before .before .args in
+    let given = c .before .before .before .before .before .before .pre in
+    let b = start-behind (a .front .now) (a .«data» .now) (a .k) _ (given .2) (given .4) ((c .before .payload-of .ensures)) in
     omega (arith, (c .smaller .ensures))
 
 -- src/lib.rt:43:17
@@ -89,8 +93,14 @@ same-length c = search needs
 
 -- src/lib.rt:27:1
 returns : tie.Need-returns
-returns c =
-    λ date f. sector-made (rowOf ((c .before .before .before .before .before .before .before .before .before .before .before .before .args .kind)) ((c .before .before .before .before .before .before .before .before .before .before .before .before .args .score .now)) ((c .before .before .before .before .before .before .before .before .before .before .before .before .args) .«data» .now) ((c .before .before .before .before .before .before .before .before .before .before .before .before .args .first .0)) date) ((c .before .before .before .before .before .before .before .before .before .before .before .before .args .part .now)) ((c .before .before .before .before .before .before .before .before .before .before .before .before .args .front .now)) ((c .before .before .before .before .before .before .before .before .before .before .before .before .args .k)) f ((c .before .before .before .before .before .before .before .before .before .before .before .before .pre .1)) ((c .before .before .before .before .before .before .before .before .before .before .before .before .pre .2)) ((c .before .before .before .before .before .before .before .before .before .before .before .before .pre .3)) ((c .before .before .before .before .before .before .before .before .before .before .before .before .pre .4)) _ _ _ _ ((c .before .before .before .before .before .before .before .payload-of .ensures)) ((c .before .before .before .before .parts-of .ensures)) ((c .before .before .before .before .before .before .smaller .ensures)) ((c .before .before .write-sector .ensures))
+returns c = let a = c .before .before .before .before .before .before .before .before .before .before .before .before .args in
+    let parts-of = c .before .before .before .before .parts-of in
+    let payload-of = c .before .before .before .before .before .before .before .payload-of in
+    let given = c .before .before .before .before .before .before .before .before .before .before .before .before .pre in
+    let smaller = c .before .before .before .before .before .before .smaller in
+    let write-sector = c .before .before .write-sector in
+    λ date f. sector-made (rowOf (a .kind) (a .score .now) (a .«data» .now) (a .first .0) date) (a .part .now) (a .front .now) (a .k) f (given .1) (given .2) (given .3) (given .4) _ _ _ _
+    (payload-of .ensures) (parts-of .ensures) (smaller .ensures) (write-sector .ensures)
 
 pub write-part-spec : {M : Type 1} → statement M
 write-part-spec =

@@ -52,8 +52,15 @@ loop-less c = search needs
 
 -- src/lib.rt:71:5
 loop-again : tie.Need-loop-again Inv-loop μ-loop
-loop-again c =
-    (omega arith, search needs, λ date f. sectors-more (rowOf ((c .before .before .before .before .before .before .before .before .before .before .before .args .kind)) ((c .before .before .before .before .before .before .before .before .before .before .before .args .score .now)) ((c .before .before .before .before .before .before .before .before .before .before .before .args) .«data» .now) ((c .before .before .before .before .before .before .before .before .before .before .before .args .first .0)) date) ((c .before .before .before .before .before .before .before .before .before .before .before .args .part .now)) ((c .before .before .before .before .before .before .before .before .before .before .before .args .front .now)) ((c .before .before .before .before .before .loop .k)) f ((c .before .before .before .before .before .before .before .before .before .before .before .pre .1)) ((c .before .before .before .before .before .before .before .before .before .before .before .pre .2)) ((c .before .before .before .before .before .before .before .before .before .before .before .pre .3)) (omega (arith, (c .before .before .before .before .before .before .parts-of .ensures))) _ _ ((c .before .before .before .before .before .loop .inv .2) date f) ((c .before .before .write-part .ensures) date f))
+loop-again c = let a = c .before .before .before .before .before .before .before .before .before .before .before .args in
+    let l = c .before .before .before .before .before .loop in
+    let parts-of = c .before .before .before .before .before .before .parts-of in
+    let given = c .before .before .before .before .before .before .before .before .before .before .before .pre in (
+      omega arith,
+      search needs,
+      λ date f. sectors-more (rowOf (a .kind) (a .score .now) (a .«data» .now) (a .first .0) date) (a .part .now) (a .front .now) (l .k) f (given .1) (given .2) (given .3)
+          (omega (arith, (parts-of .ensures))) _ _ ((l .inv .2) date f) ((c .before .before .write-part .ensures) date f),
+    )
 
 -- src/lib.rt:58:1
 same-length : tie.Need-same-length Inv-loop μ-loop

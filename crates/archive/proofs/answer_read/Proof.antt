@@ -36,9 +36,11 @@ same-length c = search needs
 
 -- src/lib.rt:112:1
 returns : tie.Need-returns
-returns c =
+returns c = let a = c .before .before .before .before .before .before .before .before .before .before .before .args in
+    let given = c .before .before .before .before .before .before .before .before .before .before .before .pre in
+    let write-head = c .before .before .before .before .before .before .write-head in
     outcome _ _ _ _ _ _ _ refl
-    (head-block ((c .before .before .before .before .before .before .before .before .before .before .before .args .reply .now)) _ _ (joined ((c .before .before .before .before .before .before .before .before .before .before .before .args .end .0)) ((c .before .before .before .before .before .before .before .before .before .before .before .args .log .now)) ((c .before .before .before .before .before .before .before .before .before .before .before .args .waiting .now))) ((c .before .before .before .before .before .before .before .before .before .before .before .args .tag)) ((c .before .before .before .before .before .before .before .before .before .before .before .args .b)) ((c .before .before .before .before .before .before .before .before .before .before .before .pre .1 .1)) ((c .before .before .before .before .before .before .write-head .ensures)) ((c .before .before .copy-out .ensures)))
+    (head-block (a .reply .now) _ _ (joined (a .end .0) (a .log .now) (a .waiting .now)) (a .tag) (a .b) (given .1 .1) (write-head .ensures) ((c .before .before .copy-out .ensures)))
 
 pub answer-read-spec : {M : Type 1} → statement M
 answer-read-spec =

@@ -66,52 +66,75 @@ same-length c = search needs
 
 returns : tie.Need-returns
 unfolding fresh
-returns c = λ log w. fresh-as _ (beside log w) _ _ _ _ _ (c .before .before .before .before .before .before .parse .ensures) (c .before .before .before .before .enum-told .given .1) (c .before .before .before .before .before .before .before .tag-of .ensures) ((c .before .before .refuse .ensures) log w)
+returns c = let enum-told-here = c .before .before .before .before .enum-told in
+    let parse = c .before .before .before .before .before .before .parse in
+    let tag-of = c .before .before .before .before .before .before .before .tag-of in
+    λ log w. fresh-as _ (beside log w) _ _ _ _ _ (parse .ensures) (enum-told-here .given .1) (tag-of .ensures) ((c .before .before .refuse .ensures) log w)
 
 same-length-2 : tie.Need-same-length-2
 same-length-2 c = search needs
 
 returns-2 : tie.Need-returns-2
 unfolding fresh
-returns-2 c = λ log w. fresh-as _ (beside log w) _ _ _ _ _ (c .before .before .before .before .before .before .parse .ensures) (c .before .before .before .before .enum-told2 .given .1) (c .before .before .before .before .before .before .before .tag-of .ensures) ((c .before .before .refuse2 .ensures) log w)
+returns-2 c = let enum-told2 = c .before .before .before .before .enum-told2 in
+    let parse = c .before .before .before .before .before .before .parse in
+    let tag-of = c .before .before .before .before .before .before .before .tag-of in
+    λ log w. fresh-as _ (beside log w) _ _ _ _ _ (parse .ensures) (enum-told2 .given .1) (tag-of .ensures) ((c .before .before .refuse2 .ensures) log w)
 
 returns-3 : tie.Need-returns-3
 unfolding fresh
-returns-3 c = λ log w. fresh-as _ (beside log w) _ _ _ _ _ (c .before .before .before .parse .ensures) (c .before .enum-told3 .given .1) (c .before .before .before .before .tag-of .ensures) ((c .close .ensures) log w (c .before .before .before .before .before .before .before .args .reply .now))
+returns-3 c = let args = c .before .before .before .before .before .before .before .args in
+    let parse = c .before .before .before .parse in
+    let tag-of = c .before .before .before .before .tag-of in
+    λ log w. fresh-as _ (beside log w) _ _ _ _ _ (parse .ensures) (c .before .enum-told3 .given .1) (tag-of .ensures) ((c .close .ensures) log w (args .reply .now))
 
 same-length-3 : tie.Need-same-length-3
 same-length-3 c = search needs
 
 returns-4 : tie.Need-returns-4
-returns-4 c = λ log w. fresh-as _ (beside log w) _ _ _ _ _ (c .before .before .before .before .before .before .parse .ensures) (c .before .before .before .before .enum-told4 .given .1) refl ((c .before .before .greet .ensures) log w)
+returns-4 c = let enum-told4 = c .before .before .before .before .enum-told4 in
+    let parse = c .before .before .before .before .before .before .parse in
+    λ log w. fresh-as _ (beside log w) _ _ _ _ _ (parse .ensures) (enum-told4 .given .1) refl ((c .before .before .greet .ensures) log w)
 
 same-length-4 : tie.Need-same-length-4
 same-length-4 c = search needs
 
 returns-5 : tie.Need-returns-5
 unfolding fresh
-returns-5 c = λ log w. fresh-as _ (beside log w) _ _ _ _ _ (c .before .before .before .before .before .before .parse .ensures) (c .before .before .before .before .enum-told5 .given .1) (c .before .before .before .before .before .before .before .tag-of .ensures) ((c .before .before .refuse3 .ensures) log w)
+returns-5 c = let enum-told5 = c .before .before .before .before .enum-told5 in
+    let parse = c .before .before .before .before .before .before .parse in
+    let tag-of = c .before .before .before .before .before .before .before .tag-of in
+    λ log w. fresh-as _ (beside log w) _ _ _ _ _ (parse .ensures) (enum-told5 .given .1) (tag-of .ensures) ((c .before .before .refuse3 .ensures) log w)
 
 same-length-5 : tie.Need-same-length-5
 same-length-5 c = search needs
 
 returns-6 : tie.Need-returns-6
 unfolding fresh
-returns-6 c = λ log w. fresh-as _ (beside log w) _ _ _ _ _ (c .before .before .before .before .before .before .parse .ensures) (c .before .before .before .before .enum-told6 .given .1) (c .before .before .before .before .before .before .before .tag-of .ensures) ((c .before .before .refuse4 .ensures) log w)
+returns-6 c = let enum-told6 = c .before .before .before .before .enum-told6 in
+    let parse = c .before .before .before .before .before .before .parse in
+    let tag-of = c .before .before .before .before .before .before .before .tag-of in
+    λ log w. fresh-as _ (beside log w) _ _ _ _ _ (parse .ensures) (enum-told6 .given .1) (tag-of .ensures) ((c .before .before .refuse4 .ensures) log w)
 
 same-length-6 : tie.Need-same-length-6
 same-length-6 c = search needs
 
 returns-7 : tie.Need-returns-7
 unfolding fresh
-returns-7 c = λ log w. fresh-as _ (beside log w) _ _ _ _ _ (c .before .before .before .before .before .before .parse .ensures) (c .before .before .before .before .enum-told7 .given .1) (c .before .before .before .before .before .before .before .tag-of .ensures) ((c .before .before .refuse5 .ensures) log w)
+returns-7 c = let enum-told7 = c .before .before .before .before .enum-told7 in
+    let parse = c .before .before .before .before .before .before .parse in
+    let tag-of = c .before .before .before .before .before .before .before .tag-of in
+    λ log w. fresh-as _ (beside log w) _ _ _ _ _ (parse .ensures) (enum-told7 .given .1) (tag-of .ensures) ((c .before .before .refuse5 .ensures) log w)
 
 same-length-7 : tie.Need-same-length-7
 same-length-7 c = search needs
 
 returns-8 : tie.Need-returns-8
 unfolding fresh
-returns-8 c = λ log w. fresh-as _ (beside log w) _ _ _ _ _ (c .before .before .before .before .before .before .parse .ensures) (c .before .before .before .before .enum-told8 .given .1) (c .before .before .before .before .before .before .before .tag-of .ensures) ((c .before .before .refuse6 .ensures) log w)
+returns-8 c = let enum-told8 = c .before .before .before .before .enum-told8 in
+    let parse = c .before .before .before .before .before .before .parse in
+    let tag-of = c .before .before .before .before .before .before .before .tag-of in
+    λ log w. fresh-as _ (beside log w) _ _ _ _ _ (parse .ensures) (enum-told8 .given .1) (tag-of .ensures) ((c .before .before .refuse6 .ensures) log w)
 
 pub serve-fresh-spec : {M : Type 1} → statement M
 serve-fresh-spec =

@@ -54,24 +54,31 @@ enum-known-request : tie.Need-enum-known-request
 enum-known-request c = search needs
 
 serve-read-requires : tie.Need-serve-read-requires
-serve-read-requires c κs =
-    (sym (c .before .before .before .before .before .before .before .parse .ensures) ∙ (c .before .before .before .before .before .request .given .1), (c .before .before .before .before .before .before .before .before .before .before .before .before .before .before .before .pre .1))
+serve-read-requires c κs = let parse = c .before .before .before .before .before .before .before .parse in
+    let given = c .before .before .before .before .before .before .before .before .before .before .before .before .before .before .before .pre in
+    let request-here = c .before .before .before .before .before .request in
+    (sym (parse .ensures) ∙ (request-here .given .1), (given .1))
 
 enum-known-request-2 : tie.Need-enum-known-request-2
 enum-known-request-2 c = search needs
 
 serve-write-requires : tie.Need-serve-write-requires
-serve-write-requires c κs =
-    (sym (c .before .before .before .before .before .before .before .parse .ensures) ∙ (c .before .before .before .before .before .request2 .given .1), (c .before .before .before .before .before .before .before .before .before .before .before .before .before .before .before .pre .1), (c .before .before .before .before .before .before .before .before .before .before .before .before .before .before .before .pre .2))
+serve-write-requires c κs = let parse = c .before .before .before .before .before .before .before .parse in
+    let given = c .before .before .before .before .before .before .before .before .before .before .before .before .before .before .before .pre in
+    let request2 = c .before .before .before .before .before .request2 in
+    (sym (parse .ensures) ∙ (request2 .given .1), (given .1), (given .2))
 
 same-length : tie.Need-same-length
 same-length c = search needs
 
 returns : tie.Need-returns
 unfolding greetedBy greeted
-returns c =
-    let a = (c .before .before .before .before .before .before .before .before .before .before .before .before .before .before .args) in
-    greeted-as _ (a .date .now) (a .index .now) (beside (a .log .now) (a .waiting .now)) _ _ _ _ _ (c .before .before .before .before .before .before .parse .ensures) (c .before .before .before .before .enum-told .given .1) (c .before .before .before .before .before .before .before .tag-of .ensures)
+returns c = let args = c .before .before .before .before .before .before .before .before .before .before .before .before .before .before .args in
+    let enum-told-here = c .before .before .before .before .enum-told in
+    let parse = c .before .before .before .before .before .before .parse in
+    let tag-of = c .before .before .before .before .before .before .before .tag-of in
+    let a = args in
+    greeted-as _ (a .date .now) (a .index .now) (beside (a .log .now) (a .waiting .now)) _ _ _ _ _ (parse .ensures) (enum-told-here .given .1) (tag-of .ensures)
     (ap (keeping (a .index .now)) ((c .before .before .refuse .ensures) _ _))
 
 same-length-2 : tie.Need-same-length-2
@@ -79,16 +86,21 @@ same-length-2 c = search needs
 
 returns-2 : tie.Need-returns-2
 unfolding greetedBy greeted
-returns-2 c =
-    let a = (c .before .before .before .before .before .before .before .before .before .before .before .before .before .before .args) in
-    greeted-as _ (a .date .now) (a .index .now) (beside (a .log .now) (a .waiting .now)) _ _ _ _ _ (c .before .before .before .before .before .before .parse .ensures) (c .before .before .before .before .enum-told2 .given .1) (c .before .before .before .before .before .before .before .tag-of .ensures)
+returns-2 c = let args = c .before .before .before .before .before .before .before .before .before .before .before .before .before .before .args in
+    let enum-told2 = c .before .before .before .before .enum-told2 in
+    let parse = c .before .before .before .before .before .before .parse in
+    let tag-of = c .before .before .before .before .before .before .before .tag-of in
+    let a = args in
+    greeted-as _ (a .date .now) (a .index .now) (beside (a .log .now) (a .waiting .now)) _ _ _ _ _ (parse .ensures) (enum-told2 .given .1) (tag-of .ensures)
     (ap (keeping (a .index .now)) ((c .before .before .refuse2 .ensures) _ _))
 
 returns-3 : tie.Need-returns-3
 unfolding greetedBy greeted
-returns-3 c =
-    let a = (c .before .before .before .before .before .before .before .before .before .before .before .args) in
-    greeted-as _ (a .date .now) (a .index .now) (beside (a .log .now) (a .waiting .now)) _ _ _ _ _ (c .before .before .before .parse .ensures) (c .before .enum-told3 .given .1) (c .before .before .before .before .tag-of .ensures)
+returns-3 c = let args = c .before .before .before .before .before .before .before .before .before .before .before .args in
+    let parse = c .before .before .before .parse in
+    let tag-of = c .before .before .before .before .tag-of in
+    let a = args in
+    greeted-as _ (a .date .now) (a .index .now) (beside (a .log .now) (a .waiting .now)) _ _ _ _ _ (parse .ensures) (c .before .enum-told3 .given .1) (tag-of .ensures)
     (ap (keeping (a .index .now)) ((c .close .ensures) _ _ (a .reply .now)))
 
 same-length-3 : tie.Need-same-length-3
@@ -96,9 +108,12 @@ same-length-3 c = search needs
 
 returns-4 : tie.Need-returns-4
 unfolding greetedBy greeted
-returns-4 c =
-    let a = (c .before .before .before .before .before .before .before .before .before .before .before .before .before .before .args) in
-    greeted-as _ (a .date .now) (a .index .now) (beside (a .log .now) (a .waiting .now)) _ _ _ _ _ (c .before .before .before .before .before .before .parse .ensures) (c .before .before .before .before .enum-told4 .given .1) (c .before .before .before .before .before .before .before .tag-of .ensures)
+returns-4 c = let args = c .before .before .before .before .before .before .before .before .before .before .before .before .before .before .args in
+    let enum-told4 = c .before .before .before .before .enum-told4 in
+    let parse = c .before .before .before .before .before .before .parse in
+    let tag-of = c .before .before .before .before .before .before .before .tag-of in
+    let a = args in
+    greeted-as _ (a .date .now) (a .index .now) (beside (a .log .now) (a .waiting .now)) _ _ _ _ _ (parse .ensures) (enum-told4 .given .1) (tag-of .ensures)
     (ap (keeping (a .index .now)) ((c .before .before .refuse3 .ensures) _ _))
 
 same-length-4 : tie.Need-same-length-4
@@ -106,10 +121,14 @@ same-length-4 c = search needs
 
 returns-5 : tie.Need-returns-5
 unfolding greetedBy greeted
-returns-5 c =
-    let a = (c .before .before .before .before .before .before .before .before .before .before .before .before .before .before .args) in
-    greeted-as _ (a .date .now) (a .index .now) (beside (a .log .now) (a .waiting .now)) _ _ _ _ _ (c .before .before .before .before .before .before .parse .ensures) (c .before .before .before .before .enum-told5 .given .1) (c .before .before .before .before .before .before .before .tag-of .ensures)
-    (ap (keeping (a .index .now)) ((c .before .before .acknowledge .ensures) _ _))
+returns-5 c = let acknowledge = c .before .before .acknowledge in
+    let args = c .before .before .before .before .before .before .before .before .before .before .before .before .before .before .args in
+    let enum-told5 = c .before .before .before .before .enum-told5 in
+    let parse = c .before .before .before .before .before .before .parse in
+    let tag-of = c .before .before .before .before .before .before .before .tag-of in
+    let a = args in
+    greeted-as _ (a .date .now) (a .index .now) (beside (a .log .now) (a .waiting .now)) _ _ _ _ _ (parse .ensures) (enum-told5 .given .1) (tag-of .ensures)
+    (ap (keeping (a .index .now)) ((acknowledge .ensures) _ _))
 
 same-length-5 : tie.Need-same-length-5
 same-length-5 c = search needs
@@ -122,10 +141,14 @@ same-length-7 c = search needs
 
 returns-6 : tie.Need-returns-6
 unfolding greetedBy greeted
-returns-6 c =
-    let a = (c .before .before .before .before .before .before .before .before .before .before .before .before .before .before .before .before .before .before .before .before .args) in
-    greeted-as _ (a .date .now) (a .index .now) (beside (a .log .now) (a .waiting .now)) _ _ _ _ _ (c .before .before .before .before .before .before .before .before .before .before .before .before .parse .ensures) (c .before .before .before .before .before .before .before .before .before .before .enum-told6 .given .1) (c .before .before .before .before .before .before .before .before .before .before .before .before .before .tag-of .ensures)
-    (ap (keeping (a .index .now)) (c .before .before .before .before .before .before .serve-sync .ensures))
+returns-6 c = let args = c .before .before .before .before .before .before .before .before .before .before .before .before .before .before .before .before .before .before .before .before .args in
+    let enum-told6 = c .before .before .before .before .before .before .before .before .before .before .enum-told6 in
+    let parse = c .before .before .before .before .before .before .before .before .before .before .before .before .parse in
+    let serve-sync = c .before .before .before .before .before .before .serve-sync in
+    let tag-of = c .before .before .before .before .before .before .before .before .before .before .before .before .before .tag-of in
+    let a = args in
+    greeted-as _ (a .date .now) (a .index .now) (beside (a .log .now) (a .waiting .now)) _ _ _ _ _ (parse .ensures) (enum-told6 .given .1) (tag-of .ensures)
+    (ap (keeping (a .index .now)) (serve-sync .ensures))
 
 same-length-8 : tie.Need-same-length-8
 same-length-8 c = search needs
@@ -141,9 +164,11 @@ same-length-11 c = search needs
 
 returns-7 : tie.Need-returns-7
 unfolding greetedBy greeted
-returns-7 c =
-    let a = (c .before .before .before .before .before .before .before .before .before .before .before .before .before .before .before .before .before .before .args) in
-    greeted-as _ (a .date .now) (a .index .now) (beside (a .log .now) (a .waiting .now)) _ _ _ _ _ (c .before .before .before .before .before .before .before .before .before .before .parse .ensures) (c .before .before .before .before .before .before .before .before .request .given .1) refl
+returns-7 c = let args = c .before .before .before .before .before .before .before .before .before .before .before .before .before .before .before .before .before .before .args in
+    let parse = c .before .before .before .before .before .before .before .before .before .before .parse in
+    let request-here = c .before .before .before .before .before .before .before .before .request in
+    let a = args in
+    greeted-as _ (a .date .now) (a .index .now) (beside (a .log .now) (a .waiting .now)) _ _ _ _ _ (parse .ensures) (request-here .given .1) refl
     (c .before .before .serve-read .ensures)
 
 same-length-12 : tie.Need-same-length-12
@@ -160,10 +185,13 @@ same-length-15 c = search needs
 
 returns-8 : tie.Need-returns-8
 unfolding greetedBy greeted
-returns-8 c =
-    let a = (c .before .before .before .before .before .before .before .before .before .before .before .before .before .before .before .before .before .before .before .before .before .before .args) in
-    greeted-as _ (a .date .now) (a .index .now) (beside (a .log .now) (a .waiting .now)) _ _ _ _ _ (c .before .before .before .before .before .before .before .before .before .before .before .before .before .before .parse .ensures) (c .before .before .before .before .before .before .before .before .before .before .before .before .request2 .given .1) refl
-    (c .before .before .before .before .before .before .serve-write .ensures)
+returns-8 c = let args = c .before .before .before .before .before .before .before .before .before .before .before .before .before .before .before .before .before .before .before .before .before .before .args in
+    let parse = c .before .before .before .before .before .before .before .before .before .before .before .before .before .before .parse in
+    let request2 = c .before .before .before .before .before .before .before .before .before .before .before .before .request2 in
+    let serve-write = c .before .before .before .before .before .before .serve-write in
+    let a = args in
+    greeted-as _ (a .date .now) (a .index .now) (beside (a .log .now) (a .waiting .now)) _ _ _ _ _ (parse .ensures) (request2 .given .1) refl
+    (serve-write .ensures)
 
 pub serve-greeted-spec : {M : Type 1} → statement M
 serve-greeted-spec =

@@ -49,14 +49,18 @@ enum-known-look : tie.Need-enum-known-look
 enum-known-look c = search needs
 
 answer-read-requires : tie.Need-answer-read-requires
-answer-read-requires c κs =
-    let a = (c .before .before .before .before .before .before .before .before .before .before .before .before .before .before .before .args) in
-    let border = (c .before .before .before .before .before .before .border) in
-    let s = (c .before .before .before .before .before .score-of .result .now) in
+answer-read-requires c κs = let args = c .before .before .before .before .before .before .before .before .before .before .before .before .before .before .before .args in
+    let border-here = c .before .before .before .before .before .before .border in
+    let fetch-by = c .before .before .before .before .fetch-by in
+    let given = c .before .before .before .before .before .before .before .before .before .before .before .before .before .before .before .pre in
+    let score-of = c .before .before .before .before .before .score-of in
+    let a = args in
+    let border = border-here in
+    let s = (score-of .result .now) in
     let J = joined (border .result .0) (a .log .now) (a .waiting .now) in
-    let e = (counted-found (a .count) (lookUpBy J _ (a .kind) s) _ (sym (c .before .before .before .before .fetch-by .ensures) ∙ (c .before .before .look .given .1))) .0 in
+    let e = (counted-found (a .count) (lookUpBy J _ (a .kind) s) _ (sym (fetch-by .ensures) ∙ (c .before .before .look .given .1))) .0 in
     let n = sectors-joined (border .result .0) (a .log .now) (a .waiting .now) (border .ensures .0) in
-    (border .ensures .0, found-by-within J _ (a .kind) s _ e _ n, found-by-most J _ (a .kind) s _ e, (c .before .before .before .before .before .before .before .before .before .before .before .before .before .before .before .pre .1))
+    (border .ensures .0, found-by-within J _ (a .kind) s _ e _ n, found-by-most J _ (a .kind) s _ e, (given .1))
 
 enum-known-look-2 : tie.Need-enum-known-look-2
 enum-known-look-2 c = search needs
@@ -68,27 +72,42 @@ same-length-2 : tie.Need-same-length-2
 same-length-2 c = search needs
 
 returns-2 : tie.Need-returns-2
-returns-2 c =
-    let a = (c .before .before .before .before .before .before .before .before .before .before .before .before .before .before .before .before .before .before .args) in
-    let border = (c .before .before .before .before .before .before .before .before .before .border) in
+returns-2 c = let answer-read = c .before .before .answer-read in
+    let args = c .before .before .before .before .before .before .before .before .before .before .before .before .before .before .before .before .before .before .args in
+    let border-here = c .before .before .before .before .before .before .before .before .before .border in
+    let fetch-by = c .before .before .before .before .before .before .before .fetch-by in
+    let if1 = c .before .before .before .before .before .before .before .before .before .before .if1 in
+    let is-lawful = c .before .before .before .before .before .before .before .before .before .before .before .is-lawful in
+    let look = c .before .before .before .before .before .look in
+    let score-of = c .before .before .before .before .before .before .before .before .score-of in
+    let tag-of = c .before .before .before .before .before .before .before .before .before .before .before .before .tag-of in
+    let a = args in
+    let border = border-here in
     let L = beside (a .log .now) (a .waiting .now) in
     let J = joined (border .result .0) (a .log .now) (a .waiting .now) in
-    read-as (a .message .now) (a .index .now) L _ _ (c .before .before .before .before .before .before .before .before .before .before .before .before .tag-of .ensures) (a .kind) (a .count) _ _ (c .before .before .before .before .before .before .before .before .score-of .ensures)
-    ((c .before .before .answer-read .ensures)
-    ∙ read-found (a .kind) (a .count) _ _ (a .index .now) L _ _ (c .before .before .before .before .before .before .before .before .before .before .before .is-lawful .ensures) (not-false _ (c .before .before .before .before .before .before .before .before .before .before .if1 .left)) J (border .ensures .1) _ (c .before .before .before .before .before .before .before .fetch-by .ensures) _ (c .before .before .before .before .before .look .given .1))
+    read-as (a .message .now) (a .index .now) L _ _ (tag-of .ensures) (a .kind) (a .count) _ _ (score-of .ensures)
+    ((answer-read .ensures)
+    ∙ read-found (a .kind) (a .count) _ _ (a .index .now) L _ _ (is-lawful .ensures) (not-false _ (if1 .left)) J (border .ensures .1) _ (fetch-by .ensures) _ (look .given .1))
 
 same-length-3 : tie.Need-same-length-3
 same-length-3 c = search needs
 
 returns-3 : tie.Need-returns-3
-returns-3 c =
-    let a = (c .before .before .before .before .before .before .before .before .before .before .before .before .before .before .before .before .before .before .args) in
-    let border = (c .before .before .before .before .before .before .before .before .before .border) in
+returns-3 c = let args = c .before .before .before .before .before .before .before .before .before .before .before .before .before .before .before .before .before .before .args in
+    let border-here = c .before .before .before .before .before .before .before .before .before .border in
+    let fetch-by = c .before .before .before .before .before .before .before .fetch-by in
+    let if1 = c .before .before .before .before .before .before .before .before .before .before .if1 in
+    let is-lawful = c .before .before .before .before .before .before .before .before .before .before .before .is-lawful in
+    let look2 = c .before .before .before .before .before .look2 in
+    let score-of = c .before .before .before .before .before .before .before .before .score-of in
+    let tag-of = c .before .before .before .before .before .before .before .before .before .before .before .before .tag-of in
+    let a = args in
+    let border = border-here in
     let L = beside (a .log .now) (a .waiting .now) in
     let J = joined (border .result .0) (a .log .now) (a .waiting .now) in
-    read-as (a .message .now) (a .index .now) L _ _ (c .before .before .before .before .before .before .before .before .before .before .before .before .tag-of .ensures) (a .kind) (a .count) _ _ (c .before .before .before .before .before .before .before .before .score-of .ensures)
+    read-as (a .message .now) (a .index .now) L _ _ (tag-of .ensures) (a .kind) (a .count) _ _ (score-of .ensures)
     ((c .before .before .refuse2 .ensures) _ _
-    ∙ read-refused (a .kind) (a .count) _ _ (a .index .now) L _ _ (c .before .before .before .before .before .before .before .before .before .before .before .is-lawful .ensures) (not-false _ (c .before .before .before .before .before .before .before .before .before .before .if1 .left)) J (border .ensures .1) _ (c .before .before .before .before .before .before .before .fetch-by .ensures) _ (c .before .before .before .before .before .look2 .given .1))
+    ∙ read-refused (a .kind) (a .count) _ _ (a .index .now) L _ _ (is-lawful .ensures) (not-false _ (if1 .left)) J (border .ensures .1) _ (fetch-by .ensures) _ (look2 .given .1))
 
 pub serve-read-spec : {M : Type 1} → statement M
 serve-read-spec =

@@ -23,9 +23,11 @@ same-length-3 : tie.Need-same-length-3
 same-length-3 c = search needs
 
 returns : tie.Need-returns
-returns c =
-    let a = c .before .before .before .before .before .before .before .before .before .before .before .before .before .before .before .args in
-    c .before .before .refuse .ensures _ _ ∙ sync-refused (a .tag) (beside (a .log .now) (a .waiting .now)) _ (a .reply .now) _ (c .before .before .before .before .before .before .before .before .before .settle .ensures .0) (c .before .before .before .before .before .before .before .before .before .settle .ensures .1) (not-true _ (c .before .before .before .before .if1 .taken))
+returns c = let args = c .before .before .before .before .before .before .before .before .before .before .before .before .before .before .before .args in
+    let if1 = c .before .before .before .before .if1 in
+    let settle = c .before .before .before .before .before .before .before .before .before .settle in
+    let a = args in
+    c .before .before .refuse .ensures _ _ ∙ sync-refused (a .tag) (beside (a .log .now) (a .waiting .now)) _ (a .reply .now) _ (settle .ensures .0) (settle .ensures .1) (not-true _ (if1 .taken))
 
 acknowledge-requires : tie.Need-acknowledge-requires
 acknowledge-requires c κs = search needs
@@ -40,9 +42,12 @@ same-length-6 : tie.Need-same-length-6
 same-length-6 c = search needs
 
 returns-2 : tie.Need-returns-2
-returns-2 c =
-    let a = c .before .before .before .before .before .before .before .before .before .before .before .before .before .before .before .args in
-    c .before .before .acknowledge .ensures _ _ ∙ sync-moved (a .tag) (beside (a .log .now) (a .waiting .now)) _ (a .reply .now) _ (c .before .before .before .before .before .before .before .before .before .settle .ensures .0) (c .before .before .before .before .before .before .before .before .before .settle .ensures .1) (not-false _ (c .before .before .before .before .if1 .left))
+returns-2 c = let acknowledge = c .before .before .acknowledge in
+    let args = c .before .before .before .before .before .before .before .before .before .before .before .before .before .before .before .args in
+    let if1 = c .before .before .before .before .if1 in
+    let settle = c .before .before .before .before .before .before .before .before .before .settle in
+    let a = args in
+    acknowledge .ensures _ _ ∙ sync-moved (a .tag) (beside (a .log .now) (a .waiting .now)) _ (a .reply .now) _ (settle .ensures .0) (settle .ensures .1) (not-false _ (if1 .left))
 
 pub serve-sync-spec : {M : Type 1} → statement M
 serve-sync-spec =

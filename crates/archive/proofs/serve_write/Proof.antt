@@ -23,10 +23,13 @@ same-length : tie.Need-same-length
 same-length c = search needs
 
 returns : tie.Need-returns
-returns c =
-    let a = (c .before .before .before .before .before .before .before .before .before .before .before .before .before .args) in
-    write-as (a .message .now) (a .index .now) (beside (a .log .now) (a .waiting .now)) _ _ (c .before .before .before .before .before .before .tag-of .ensures) (a .date .now) (a .kind) _ _ refl
-    (write-kind _ _ _ _ _ _ _ _ (c .before .before .before .before .before .is-lawful .ensures) (not-true _ (c .before .before .before .before .if1 .taken)) _ ((c .before .before .refuse .ensures) _ _))
+returns c = let args = c .before .before .before .before .before .before .before .before .before .before .before .before .before .args in
+    let if1 = c .before .before .before .before .if1 in
+    let is-lawful = c .before .before .before .before .before .is-lawful in
+    let tag-of = c .before .before .before .before .before .before .tag-of in
+    let a = args in
+    write-as (a .message .now) (a .index .now) (beside (a .log .now) (a .waiting .now)) _ _ (tag-of .ensures) (a .date .now) (a .kind) _ _ refl
+    (write-kind _ _ _ _ _ _ _ _ (is-lawful .ensures) (not-true _ (if1 .taken)) _ ((c .before .before .refuse .ensures) _ _))
 
 data-of-requires : tie.Need-data-of-requires
 data-of-requires c κs =
@@ -39,10 +42,15 @@ same-length-2 : tie.Need-same-length-2
 same-length-2 c = search needs
 
 returns-2 : tie.Need-returns-2
-returns-2 c =
-    let a = (c .before .before .before .before .before .before .before .before .before .before .before .before .before .before .before .args) in
-    write-as (a .message .now) (a .index .now) (beside (a .log .now) (a .waiting .now)) _ _ (c .before .before .before .before .before .before .before .before .tag-of .ensures) (a .date .now) (a .kind) _ _ (c .before .before .before .before .before .data-of .ensures)
-    (write-long _ _ _ _ _ _ _ _ (c .before .before .before .before .before .before .before .is-lawful .ensures) (not-false _ (c .before .before .before .before .before .before .if1 .left)) (c .before .before .before .before .if2 .taken) _ ((c .before .before .refuse2 .ensures) _ _))
+returns-2 c = let args = c .before .before .before .before .before .before .before .before .before .before .before .before .before .before .before .args in
+    let data-of = c .before .before .before .before .before .data-of in
+    let if1 = c .before .before .before .before .before .before .if1 in
+    let if2 = c .before .before .before .before .if2 in
+    let is-lawful = c .before .before .before .before .before .before .before .is-lawful in
+    let tag-of = c .before .before .before .before .before .before .before .before .tag-of in
+    let a = args in
+    write-as (a .message .now) (a .index .now) (beside (a .log .now) (a .waiting .now)) _ _ (tag-of .ensures) (a .date .now) (a .kind) _ _ (data-of .ensures)
+    (write-long _ _ _ _ _ _ _ _ (is-lawful .ensures) (not-false _ (if1 .left)) (if2 .taken) _ ((c .before .before .refuse2 .ensures) _ _))
 
 store-requires : tie.Need-store-requires
 store-requires c κs = search needs
@@ -63,10 +71,18 @@ same-length-5 : tie.Need-same-length-5
 same-length-5 c = search needs
 
 returns-3 : tie.Need-returns-3
-returns-3 c =
-    let a = (c .before .before .before .before .before .before .before .before .before .before .before .before .before .before .before .before .before .before .before .before .before .before .before .before .before .before .args) in
-    write-as (a .message .now) (a .index .now) (beside (a .log .now) (a .waiting .now)) _ _ (c .before .before .before .before .before .before .before .before .before .before .before .before .before .before .before .before .before .before .before .tag-of .ensures) (a .date .now) (a .kind) _ _ (c .before .before .before .before .before .before .before .before .before .before .before .before .before .before .before .before .data-of .ensures)
-    (write-stored _ _ _ _ _ _ _ _ (c .before .before .before .before .before .before .before .before .before .before .before .before .before .before .before .before .before .before .is-lawful .ensures) (not-false _ (c .before .before .before .before .before .before .before .before .before .before .before .before .before .before .before .before .before .if1 .left)) _ _ _ _ (c .before .before .before .before .before .before .before .before .before .before .before .before .before .before .before .if2 .left) (c .before .before .before .before .before .before .before .before .before .before .before .before .before .store .ensures) ((c .before .before .answer-store .ensures) _ _) (c .before .before .before .before .before .before .enter-stored .ensures))
+returns-3 c = let answer-store = c .before .before .answer-store in
+    let args = c .before .before .before .before .before .before .before .before .before .before .before .before .before .before .before .before .before .before .before .before .before .before .before .before .before .before .args in
+    let data-of = c .before .before .before .before .before .before .before .before .before .before .before .before .before .before .before .before .data-of in
+    let enter-stored = c .before .before .before .before .before .before .enter-stored in
+    let if1 = c .before .before .before .before .before .before .before .before .before .before .before .before .before .before .before .before .before .if1 in
+    let if2 = c .before .before .before .before .before .before .before .before .before .before .before .before .before .before .before .if2 in
+    let is-lawful = c .before .before .before .before .before .before .before .before .before .before .before .before .before .before .before .before .before .before .is-lawful in
+    let store = c .before .before .before .before .before .before .before .before .before .before .before .before .before .store in
+    let tag-of = c .before .before .before .before .before .before .before .before .before .before .before .before .before .before .before .before .before .before .before .tag-of in
+    let a = args in
+    write-as (a .message .now) (a .index .now) (beside (a .log .now) (a .waiting .now)) _ _ (tag-of .ensures) (a .date .now) (a .kind) _ _ (data-of .ensures)
+    (write-stored _ _ _ _ _ _ _ _ (is-lawful .ensures) (not-false _ (if1 .left)) _ _ _ _ (if2 .left) (store .ensures) ((answer-store .ensures) _ _) (enter-stored .ensures))
 
 pub serve-write-spec : {M : Type 1} → statement M
 serve-write-spec =

@@ -29,7 +29,9 @@ returns : tie.Need-returns
 returns c = sym (ap (cutResult _) (sym (c .before .before .before .cut .ensures) ∙ c .before .kept .given .1))
 
 returns-2 : tie.Need-returns-2
-returns-2 c = let m = length (c .before .before .before .before .before .before .args .block .now) in ap (λ (x : ℕ). m + x) (c .number .ensures) ∙ sym (ap (cutResult m) (sym (c .before .before .before .before .cut .ensures) ∙ c .before .before .kept2 .given .1))
+returns-2 c = let a = c .before .before .before .before .before .before .args in
+    let cut-here = c .before .before .before .before .cut in
+    let m = length (a .block .now) in ap (λ (x : ℕ). m + x) (c .number .ensures) ∙ sym (ap (cutResult m) (sym (cut-here .ensures) ∙ c .before .before .kept2 .given .1))
 
 pub cut-spec : {M : Type 1} → statement M
 cut-spec =

@@ -22,7 +22,8 @@ refused : tie.Need-returns
 refused c =
     let v = c .before .before .before in
     let a = start v .args in
-    root-refused (joined (a .end .0) (a .log .now) (a .waiting .now)) (a .date .now) (a .score .now) (a .left) (a .second .now) _ (v .visit .ensures) _ (c .before .enum-told .given .1) _ (c .answer .ensures)
+    root-refused (joined (a .end .0) (a .log .now) (a .waiting .now)) (a .date .now) (a .score .now) (a .left) (a .second .now) _ (v .visit .ensures) _ (c .before .enum-told .given .1) _
+    (c .answer .ensures)
 
 root-bytes-requires : tie.Need-root-bytes-requires
 root-bytes-requires c κs =
@@ -44,13 +45,15 @@ keep-requires c κs =
     (f .pre .0, in-both (a .end .0) (a .log .now) (a .waiting .now) (f .pre .0) _ (found k .in-log), found k .not-many, f .pre .2, h)
 
 stored : tie.Need-returns-2
-stored c =
-    let w = c .before .before .before .before .before .before .below-root in
-    let x = c .before .before .before .before .before .before .before .before .before .root-bytes in
+stored c = let below-root = c .before .before .before .before .before .before .below-root in
+    let root-bytes = c .before .before .before .before .before .before .before .before .before .root-bytes in
+    let w = below-root in
+    let x = root-bytes in
     let k = c .before .before .before .before .before .before .before .before .before .before .before in
     let v = k .before .before in
     let a = start v .args in
-    root-kept (joined (a .end .0) (a .log .now) (a .waiting .now)) (a .date .now) (a .score .now) (a .left) (a .second .now) _ (v .visit .ensures) _ (k .look .given .1) _ (x .ensures) _ _ (w .ensures .1)
+    root-kept (joined (a .end .0) (a .log .now) (a .waiting .now)) (a .date .now) (a .score .now) (a .left) (a .second .now) _ (v .visit .ensures) _ (k .look .given .1) _ (x .ensures) _ _
+    (w .ensures .1)
     _ _ (c .before .before .keep .ensures .1)
 
 pub copy-root-spec : {M : Type 1} → statement M

@@ -23,7 +23,8 @@ refused : tie.Need-returns
 refused c =
     let v = c .before .before .before in
     let a = start v .args in
-    top-refused (joined (a .end .0) (a .log .now) (a .waiting .now)) (a .date .now) (a .score .now) (a .left) (a .second .now) _ (v .visit .ensures) _ (c .before .enum-told .given .1) _ (c .answer .ensures)
+    top-refused (joined (a .end .0) (a .log .now) (a .waiting .now)) (a .date .now) (a .score .now) (a .left) (a .second .now) _ (v .visit .ensures) _ (c .before .enum-told .given .1) _
+    (c .answer .ensures)
 
 some-left : tie.Need-sub-copy-directory
 some-left c = omega (arith, found (c .before .before) .some-left)
@@ -45,13 +46,14 @@ keep-requires c κs =
     (f .pre .0, in-both (a .end .0) (a .log .now) (a .waiting .now) (f .pre .0) _ (found k .in-log), found k .not-many, f .pre .2, h)
 
 stored : tie.Need-returns-2
-stored c =
-    let w = c .before .before .before .before .before .before .copy-directory in
+stored c = let copy-directory = c .before .before .before .before .before .before .copy-directory in
+    let w = copy-directory in
     let k = c .before .before .before .before .before .before .before .before .before in
     let v = k .before .before in
     let a = start v .args in
     let q = c .before .before .keep .ensures in
-    top-kept (joined (a .end .0) (a .log .now) (a .waiting .now)) (a .date .now) (a .score .now) (a .left) (a .second .now) _ (v .visit .ensures) _ (k .look .given .1) _ _ (w .ensures) _ _ (q .0) (q .1)
+    top-kept (joined (a .end .0) (a .log .now) (a .waiting .now)) (a .date .now) (a .score .now) (a .left) (a .second .now) _ (v .visit .ensures) _ (k .look .given .1) _ _ (w .ensures) _ _ (q .0)
+    (q .1)
 
 pub copy-top-spec : {M : Type 1} → statement M
 copy-top-spec =

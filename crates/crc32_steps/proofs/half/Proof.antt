@@ -43,10 +43,16 @@ cast-result-3 : tie.Need-cast-result-3
 cast-result-3 c = omega (arith, c .shared-slice-known3 .given (c .before .before .before .args .i + 1) .fits)
 
 add-result-5 : tie.Need-add-result-5
-add-result-5 c = omega (arith, c .before .before .shared-slice-known .given (c .before .before .before .args .i + 3) .fits, c .before .shared-slice-known2 .given (c .before .before .before .args .i + 2) .fits, c .shared-slice-known3 .given (c .before .before .before .args .i + 1) .fits)
+add-result-5 c = let a = c .before .before .before .args in
+    let shared-slice-known = c .before .before .shared-slice-known in
+    let shared-slice-known2 = c .before .shared-slice-known2 in
+    omega (arith, shared-slice-known .given (a .i + 3) .fits, shared-slice-known2 .given (a .i + 2) .fits, c .shared-slice-known3 .given (a .i + 1) .fits)
 
 mul-result-3 : tie.Need-mul-result-3
-mul-result-3 c = omega (arith, c .before .before .shared-slice-known .given (c .before .before .before .args .i + 3) .fits, c .before .shared-slice-known2 .given (c .before .before .before .args .i + 2) .fits, c .shared-slice-known3 .given (c .before .before .before .args .i + 1) .fits)
+mul-result-3 c = let a = c .before .before .before .args in
+    let shared-slice-known = c .before .before .shared-slice-known in
+    let shared-slice-known2 = c .before .shared-slice-known2 in
+    omega (arith, shared-slice-known .given (a .i + 3) .fits, shared-slice-known2 .given (a .i + 2) .fits, c .shared-slice-known3 .given (a .i + 1) .fits)
 
 shared-slice-read-result-4 : tie.Need-shared-slice-read-result-4
 shared-slice-read-result-4 c = search needs
@@ -55,7 +61,11 @@ cast-result-4 : tie.Need-cast-result-4
 cast-result-4 c = omega (arith, c .shared-slice-known4 .given (c .before .before .before .before .args .i) .fits)
 
 add-result-6 : tie.Need-add-result-6
-add-result-6 c = omega (arith, c .before .before .before .shared-slice-known .given (c .before .before .before .before .args .i + 3) .fits, c .before .before .shared-slice-known2 .given (c .before .before .before .before .args .i + 2) .fits, c .before .shared-slice-known3 .given (c .before .before .before .before .args .i + 1) .fits, c .shared-slice-known4 .given (c .before .before .before .before .args .i) .fits)
+add-result-6 c = let a = c .before .before .before .before .args in
+    let shared-slice-known = c .before .before .before .shared-slice-known in
+    let shared-slice-known2 = c .before .before .shared-slice-known2 in
+    let shared-slice-known3 = c .before .shared-slice-known3 in
+    omega (arith, shared-slice-known .given (a .i + 3) .fits, shared-slice-known2 .given (a .i + 2) .fits, shared-slice-known3 .given (a .i + 1) .fits, c .shared-slice-known4 .given (a .i) .fits)
 
 returns : tie.Need-returns
 returns c = half-at _ (c .before .before .before .before .args .i) (c .before .before .before .before .pre)

@@ -21,9 +21,10 @@ returns c =
     cut-unlawful (a .kind) (a .block .now) (sym (c .before .before .is-lawful .ensures) ∙ not-true _ (c .if1 .taken))
 
 returns-2 : tie.Need-returns-2
-returns-2 c =
-    let a = c .before .before .before .before .before .args in
-    cut-ragged (a .kind) (a .block .now) (sym (c .before .before .before .is-lawful .ensures) ∙ not-false _ (c .before .if1 .left)) (sym (c .before .before .is-whole .ensures) ∙ not-true _ (c .if2 .taken))
+returns-2 c = let args = c .before .before .before .before .before .args in
+    let is-lawful = c .before .before .before .is-lawful in
+    let a = args in
+    cut-ragged (a .kind) (a .block .now) (sym (is-lawful .ensures) ∙ not-false _ (c .before .if1 .left)) (sym (c .before .before .is-whole .ensures) ∙ not-true _ (c .if2 .taken))
 
 is-pointer-requires : tie.Need-is-pointer-requires
 is-pointer-requires c κs = search needs
@@ -35,18 +36,26 @@ cut-scores-requires c κs =
     ∙ (sym (c .before .before .before .before .is-whole .ensures) ∙ not-false _ (c .before .before .if2 .left))
 
 returns-3 : tie.Need-returns-3
-returns-3 c =
-    let a = c .before .before .before .before .before .before .before .before .args in
-    cut-done (a .kind) (a .block .now) (c .cut-scores .result) (sym (c .before .before .before .before .before .before .is-lawful .ensures) ∙ not-false _ (c .before .before .before .before .if1 .left)) (sym (c .before .before .before .before .before .is-whole .ensures) ∙ not-false _ (c .before .before .before .if2 .left))
+returns-3 c = let args = c .before .before .before .before .before .before .before .before .args in
+    let if1 = c .before .before .before .before .if1 in
+    let if2 = c .before .before .before .if2 in
+    let is-lawful = c .before .before .before .before .before .before .is-lawful in
+    let is-whole = c .before .before .before .before .before .is-whole in
+    let a = args in
+    cut-done (a .kind) (a .block .now) (c .cut-scores .result) (sym (is-lawful .ensures) ∙ not-false _ (if1 .left)) (sym (is-whole .ensures) ∙ not-false _ (if2 .left))
     (c .cut-scores .ensures ∙ ap (λ (u : Bytes). cutLength u (a .block .now)) (sym (unit-pointer (a .kind) (sym (c .before .before .is-pointer .ensures) ∙ c .before .if3 .taken))))
 
 cut-bytes-requires : tie.Need-cut-bytes-requires
 cut-bytes-requires c κs = search needs
 
 returns-4 : tie.Need-returns-4
-returns-4 c =
-    let a = c .before .before .before .before .before .before .before .before .args in
-    cut-done (a .kind) (a .block .now) (c .cut-bytes .result) (sym (c .before .before .before .before .before .before .is-lawful .ensures) ∙ not-false _ (c .before .before .before .before .if1 .left)) (sym (c .before .before .before .before .before .is-whole .ensures) ∙ not-false _ (c .before .before .before .if2 .left))
+returns-4 c = let args = c .before .before .before .before .before .before .before .before .args in
+    let if1 = c .before .before .before .before .if1 in
+    let if2 = c .before .before .before .if2 in
+    let is-lawful = c .before .before .before .before .before .before .is-lawful in
+    let is-whole = c .before .before .before .before .before .is-whole in
+    let a = args in
+    cut-done (a .kind) (a .block .now) (c .cut-bytes .result) (sym (is-lawful .ensures) ∙ not-false _ (if1 .left)) (sym (is-whole .ensures) ∙ not-false _ (if2 .left))
     (c .cut-bytes .ensures ∙ ap (λ (u : Bytes). cutLength u (a .block .now)) (sym (unit-other (a .kind) (sym (c .before .before .is-pointer .ensures) ∙ c .before .if3 .left))))
 
 pub cut-spec : {M : Type 1} → statement M

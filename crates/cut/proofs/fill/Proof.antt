@@ -19,22 +19,28 @@ same-length : tie.Need-same-length
 same-length c = search needs
 
 returns : tie.Need-returns
-returns c =
-    let a = c .before .before .before .before .before .before .before .args in
-    filled-bytes (a .kind) (length (a .d .now)) _ (sym (c .before .before .before .before .before .is-pointer .ensures) ∙ not-true _ (c .before .before .before .before .if1 .taken)) (c .before .before .clear .ensures)
+returns c = let args = c .before .before .before .before .before .before .before .args in
+    let if1 = c .before .before .before .before .if1 in
+    let is-pointer = c .before .before .before .before .before .is-pointer in
+    let a = args in
+    filled-bytes (a .kind) (length (a .d .now)) _ (sym (is-pointer .ensures) ∙ not-true _ (if1 .taken)) (c .before .before .clear .ensures)
 
 fill-scores-requires : tie.Need-fill-scores-requires
-fill-scores-requires c κs =
-    let a = c .before .before .before .before .args in
-    ap (λ (u : Bytes). wholeUnits u (length (a .d .now))) (sym (unit-pointer (a .kind) (sym (c .before .before .is-pointer .ensures) ∙ not-false _ (c .before .if1 .left)))) ∙ c .before .before .before .before .pre
+fill-scores-requires c κs = let args = c .before .before .before .before .args in
+    let given = c .before .before .before .before .pre in
+    let a = args in
+    ap (λ (u : Bytes). wholeUnits u (length (a .d .now))) (sym (unit-pointer (a .kind) (sym (c .before .before .is-pointer .ensures) ∙ not-false _ (c .before .if1 .left)))) ∙ given
 
 same-length-2 : tie.Need-same-length-2
 same-length-2 c = search needs
 
 returns-2 : tie.Need-returns-2
-returns-2 c =
-    let a = c .before .before .before .before .before .before .before .args in
-    filled-scores (a .kind) (length (a .d .now)) _ (sym (c .before .before .before .before .before .is-pointer .ensures) ∙ not-false _ (c .before .before .before .before .if1 .left)) (c .before .before .fill-scores .ensures)
+returns-2 c = let args = c .before .before .before .before .before .before .before .args in
+    let fill-scores = c .before .before .fill-scores in
+    let if1 = c .before .before .before .before .if1 in
+    let is-pointer = c .before .before .before .before .before .is-pointer in
+    let a = args in
+    filled-scores (a .kind) (length (a .d .now)) _ (sym (is-pointer .ensures) ∙ not-false _ (if1 .left)) (fill-scores .ensures)
 
 pub fill-spec : {M : Type 1} → statement M
 fill-spec =

@@ -26,10 +26,12 @@ slice-aggregate-copy-at : tie.Need-slice-aggregate-copy-at Inv-loop μ-loop
 slice-aggregate-copy-at c = search needs
 
 copy-at-requires : tie.Need-copy-at-requires Inv-loop μ-loop
-copy-at-requires c κs =
-    let a = c .before .before .before .before .before .before .args in
-    let l = c .before .before .before .loop in
-    let r = fill-room zeroScore (a .d .now) (l .d) 20 (l .at) length-zero-score (omega arith) (whole-units zeroScore (length (a .d .now)) (c .before .before .before .before .before .before .pre)) (l .inv .1) (omega (arith, l .inv .1 .same-length)) in
+copy-at-requires c κs = let args = c .before .before .before .before .before .before .args in
+    let turn = c .before .before .before .loop in
+    let given = c .before .before .before .before .before .before .pre in
+    let a = args in
+    let l = turn in
+    let r = fill-room zeroScore (a .d .now) (l .d) 20 (l .at) length-zero-score (omega arith) (whole-units zeroScore (length (a .d .now)) given) (l .inv .1) (omega (arith, l .inv .1 .same-length)) in
     omega (arith, r, length-zero-score, ap length (l .inv .0), l .inv .1 .same-length)
 
 add-at : tie.Need-add-at Inv-loop μ-loop
@@ -39,10 +41,16 @@ loop-less : tie.Need-loop-less Inv-loop μ-loop
 loop-less c = search needs
 
 loop-again : tie.Need-loop-again Inv-loop μ-loop
-loop-again c =
-    let a = c .before .before .before .before .before .before .before .before .before .args in
-    let l = c .before .before .before .before .before .before .loop in
-    (l .inv .0, fill-again zeroScore (a .d .now) (l .d) 20 (l .at) length-zero-score (omega arith) (whole-units zeroScore (length (a .d .now)) (c .before .before .before .before .before .before .before .before .before .pre)) (l .inv .1) _ _ (l .inv .0) (c .before .before .copy-at .ensures) (c .before .before .copy-at .kept .0) (omega (arith, l .inv .1 .same-length)))
+loop-again c = let args = c .before .before .before .before .before .before .before .before .before .args in
+    let copy-at = c .before .before .copy-at in
+    let turn = c .before .before .before .before .before .before .loop in
+    let given = c .before .before .before .before .before .before .before .before .before .pre in
+    let a = args in
+    let l = turn in (
+      l .inv .0,
+      fill-again zeroScore (a .d .now) (l .d) 20 (l .at) length-zero-score (omega arith) (whole-units zeroScore (length (a .d .now)) given) (l .inv .1) _ _ (l .inv .0) (copy-at .ensures)
+          (copy-at .kept .0) (omega (arith, l .inv .1 .same-length)),
+    )
 
 same-length : tie.Need-same-length Inv-loop μ-loop
 same-length c = search needs

@@ -29,9 +29,11 @@ is-whole-requires-2 : tie.Need-is-whole-requires-2
 is-whole-requires-2 c κs = search needs
 
 returns-4 : tie.Need-returns-4
-returns-4 c =
-    let a = c .before .before .before .before .before .args in
-    c .is-whole2 .ensures ∙ pad-units (unitOf (a .kind)) (a .size) (a .len) (a .target) (c .before .before .before .before .if1 .left) (c .before .before .before .if2 .left) (sym (c .before .before .is-whole .ensures) ∙ not-false _ (c .before .if3 .left))
+returns-4 c = let args = c .before .before .before .before .before .args in
+    let if1 = c .before .before .before .before .if1 in
+    let if2 = c .before .before .before .if2 in
+    let a = args in
+    c .is-whole2 .ensures ∙ pad-units (unitOf (a .kind)) (a .size) (a .len) (a .target) (if1 .left) (if2 .left) (sym (c .before .before .is-whole .ensures) ∙ not-false _ (c .before .if3 .left))
 
 pub may-pad-spec : {M : Type 1} → statement M
 may-pad-spec =

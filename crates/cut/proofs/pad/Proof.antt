@@ -23,9 +23,10 @@ returns c =
     pad-unlawful (a .kind) (a .buffer .now) (a .len) (a .target) (sym (c .before .before .is-lawful .ensures) ∙ not-true _ (c .if1 .taken))
 
 returns-2 : tie.Need-returns-2
-returns-2 c =
-    let a = c .before .before .before .before .before .args in
-    pad-refused (a .kind) (a .buffer .now) (a .len) (a .target) (sym (c .before .before .before .is-lawful .ensures) ∙ not-false _ (c .before .if1 .left)) (sym (c .before .before .may-pad .ensures) ∙ not-true _ (c .if2 .taken))
+returns-2 c = let args = c .before .before .before .before .before .args in
+    let is-lawful = c .before .before .before .is-lawful in
+    let a = args in
+    pad-refused (a .kind) (a .buffer .now) (a .len) (a .target) (sym (is-lawful .ensures) ∙ not-false _ (c .before .if1 .left)) (sym (c .before .before .may-pad .ensures) ∙ not-true _ (c .if2 .taken))
 
 sub-fill : tie.Need-sub-fill
 sub-fill c =
@@ -55,11 +56,15 @@ same-length : tie.Need-same-length
 same-length c = search needs
 
 returns-3 : tie.Need-returns-3
-returns-3 c =
-    let a = c .before .before .before .before .before .before .before .before .before .args in
-    let h = allowed (unitOf (a .kind)) (length (a .buffer .now)) (a .len) (a .target) (sym (c .before .before .before .before .before .before .may-pad .ensures) ∙ not-false _ (c .before .before .before .before .if2 .left)) in
+returns-3 c = let args = c .before .before .before .before .before .before .before .before .before .args in
+    let if1 = c .before .before .before .before .before .if1 in
+    let if2 = c .before .before .before .before .if2 in
+    let is-lawful = c .before .before .before .before .before .before .before .is-lawful in
+    let may-pad = c .before .before .before .before .before .before .may-pad in
+    let a = args in
+    let h = allowed (unitOf (a .kind)) (length (a .buffer .now)) (a .len) (a .target) (sym (may-pad .ensures) ∙ not-false _ (if2 .left)) in
     ap (afterPad Done) (part-filled (unitOf (a .kind)) (a .buffer .now) (a .len) (a .target) h _ (c .before .before .fill .ensures))
-    ∙ pad-done (a .kind) (a .buffer .now) (a .len) (a .target) (sym (c .before .before .before .before .before .before .before .is-lawful .ensures) ∙ not-false _ (c .before .before .before .before .before .if1 .left)) (sym (c .before .before .before .before .before .before .may-pad .ensures) ∙ not-false _ (c .before .before .before .before .if2 .left))
+    ∙ pad-done (a .kind) (a .buffer .now) (a .len) (a .target) (sym (is-lawful .ensures) ∙ not-false _ (if1 .left)) (sym (may-pad .ensures) ∙ not-false _ (if2 .left))
 
 pub pad-spec : {M : Type 1} → statement M
 pad-spec =

@@ -35,7 +35,8 @@ returns : tie.Need-returns
 returns c =
     let n = c .before in
     let a = n .before .before .before .before .before .args in
-    entry-fields (a .s .now) (a .at) (n .before .before .before .number-at .result) (n .before .before .number-at2 .result) (n .before .number-at3 .result) (n .number-at4 .result) (c .is-clean .result)
+    entry-fields (a .s .now) (a .at) (n .before .before .before .number-at .result) (n .before .before .number-at2 .result) (n .before .number-at3 .result) (n .number-at4 .result)
+    (c .is-clean .result)
     (n .before .before .before .number-at .ensures) (n .before .before .number-at2 .ensures) (n .before .number-at3 .ensures) (n .number-at4 .ensures) (c .is-clean .ensures)
 
 pub entry-at-spec : {M : Type 1} → statement M

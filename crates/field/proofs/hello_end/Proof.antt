@@ -53,20 +53,30 @@ enum-told-3 : tie.Need-enum-told-3
 enum-told-3 c = search needs
 
 returns-4 : tie.Need-returns-4
-returns-4 c =
-    let v = sym (c .before .before .before .before .before .before .before .before .before .before .before .text-end .ensures) ∙ (c .before .before .before .before .before .before .before .before .before .version .given .1) in
-    let u = sym (c .before .before .before .before .before .before .before .text-end2 .ensures) ∙ (c .before .before .before .before .before .uid .given .1) in
-    crypto-bad _ _ v _ u (c .before .before .before .if1 .left) (sym (c .before .before .counted-end .ensures) ∙ (c .enum-told3 .given .1))
+returns-4 c = let counted-end = c .before .before .counted-end in
+    let if1 = c .before .before .before .if1 in
+    let text-end = c .before .before .before .before .before .before .before .before .before .before .before .text-end in
+    let text-end2 = c .before .before .before .before .before .before .before .text-end2 in
+    let uid = c .before .before .before .before .before .uid in
+    let version = c .before .before .before .before .before .before .before .before .before .version in
+    let v = sym (text-end .ensures) ∙ (version .given .1) in
+    let u = sym (text-end2 .ensures) ∙ (uid .given .1) in
+    crypto-bad _ _ v _ u (if1 .left) (sym (counted-end .ensures) ∙ (c .enum-told3 .given .1))
 
 counted-end-requires-2 : tie.Need-counted-end-requires-2
 counted-end-requires-2 c κs = counted-within _ _ _ (sym (c .before .before .before .counted-end .ensures) ∙ (c .before .crypto .given .1))
 
 returns-5 : tie.Need-returns-5
-returns-5 c =
-    let v = sym (c .before .before .before .before .before .before .before .before .before .before .before .before .before .text-end .ensures) ∙ (c .before .before .before .before .before .before .before .before .before .before .before .version .given .1) in
-    let u = sym (c .before .before .before .before .before .before .before .before .before .text-end2 .ensures) ∙ (c .before .before .before .before .before .before .before .uid .given .1) in
-    let d = sym (c .before .before .before .before .counted-end .ensures) ∙ (c .before .before .crypto .given .1) in
-    codec-last _ _ v _ u (c .before .before .before .before .before .if1 .left) _ d _ (c .counted-end2 .ensures)
+returns-5 c = let counted-end = c .before .before .before .before .counted-end in
+    let if1 = c .before .before .before .before .before .if1 in
+    let text-end = c .before .before .before .before .before .before .before .before .before .before .before .before .before .text-end in
+    let text-end2 = c .before .before .before .before .before .before .before .before .before .text-end2 in
+    let uid = c .before .before .before .before .before .before .before .uid in
+    let version = c .before .before .before .before .before .before .before .before .before .before .before .version in
+    let v = sym (text-end .ensures) ∙ (version .given .1) in
+    let u = sym (text-end2 .ensures) ∙ (uid .given .1) in
+    let d = sym (counted-end .ensures) ∙ (c .before .before .crypto .given .1) in
+    codec-last _ _ v _ u (if1 .left) _ d _ (c .counted-end2 .ensures)
 
 pub hello-end-spec : {M : Type 1} → statement M
 hello-end-spec =

@@ -57,18 +57,22 @@ is-well-formed-requires : tie.Need-is-well-formed-requires
 is-well-formed-requires c κs = search needs
 
 returns-4 : tie.Need-returns-4
-returns-4 c =
+returns-4 c = let be-number = c .before .before .before .before .before .be-number in
+    let if1 = c .before .before .before .before .before .before .before .if1 in
+    let if2 = c .before .before .before .before .if2 in
     let s = c .before .before .before .before .before .before .before .before .before in
-    let n = c .before .before .before .before .before .be-number in
+    let n = be-number in
     let z = c .before .is-well-formed .ensures in
-    text-good _ (s .args .at) (s .pre) (n .result) (n .ensures) (c .before .before .before .before .before .before .before .if1 .left) (c .before .before .before .before .if2 .left) (omega arith) _ z (c .if4 .taken)
+    text-good _ (s .args .at) (s .pre) (n .result) (n .ensures) (if1 .left) (if2 .left) (omega arith) _ z (c .if4 .taken)
 
 returns-5 : tie.Need-returns-5
-returns-5 c =
+returns-5 c = let be-number = c .before .before .before .before .before .be-number in
+    let if1 = c .before .before .before .before .before .before .before .if1 in
+    let if2 = c .before .before .before .before .if2 in
     let s = c .before .before .before .before .before .before .before .before .before in
-    let n = c .before .before .before .before .before .be-number in
+    let n = be-number in
     let z = c .before .is-well-formed .ensures in
-    text-ill _ (s .args .at) (s .pre) (n .result) (n .ensures) (c .before .before .before .before .before .before .before .if1 .left) (c .before .before .before .before .if2 .left) (omega arith) _ z (c .if4 .left)
+    text-ill _ (s .args .at) (s .pre) (n .result) (n .ensures) (if1 .left) (if2 .left) (omega arith) _ z (c .if4 .left)
 
 pub text-end-spec : {M : Type 1} → statement M
 text-end-spec =

@@ -117,22 +117,32 @@ descend-requires c κs =
     )
 
 run-in-requires : tie.Need-run-in-requires
-run-in-requires c κs =
-    let a = c .before .before .before .before .before .before .before .before .before .before .before .before .before .before .before .before .args in
-    let is-readable = c .before .before .before .before .before .before .before .is-readable in
-    let if3 = c .before .before .before .before .before .before .if3 in
-    let entry-at = c .before .before .before .before .before .entry-at in
-    let if4 = c .before .before .before .if4 in
-    let are-allowed = c .before .before .before .before .before .before .before .before .before .before .before .are-allowed in
-    let if1 = c .before .before .before .before .before .before .before .before .before .before .if1 in
+run-in-requires c κs = let are-allowed-here = c .before .before .before .before .before .before .before .before .before .before .before .are-allowed in
+    let args = c .before .before .before .before .before .before .before .before .before .before .before .before .before .before .before .before .args in
+    let entry-at-here = c .before .before .before .before .before .entry-at in
+    let if1-here = c .before .before .before .before .before .before .before .before .before .before .if1 in
+    let if3-here = c .before .before .before .before .before .before .if3 in
+    let if4-here = c .before .before .before .if4 in
+    let is-readable-here = c .before .before .before .before .before .before .before .is-readable in
+    let a = args in
+    let is-readable = is-readable-here in
+    let if3 = if3-here in
+    let entry-at = entry-at-here in
+    let if4 = if4-here in
+    let are-allowed = are-allowed-here in
+    let if1 = if1-here in
     let border = c .before .before .border in
     let descend = c .descend in
     let readable = is-readable .ensures in
     let yes = not-false _ (if3 .left) in
     let l = readable-length (a .entry .now) _ readable yes in
     let o = opened (a .entry .now) _ (a .offset) _ readable yes (entry-whole (a .entry .now) _ l (entry-at .ensures)) (if4 .left) in
-    let few = lent-sectors (length (a .log .now)) (length (a .waiting .now)) _ (are-allowed .ensures) (not-false _ (if1 .left)) in
-    (o .dsize-from, o .inside, lies-more _ _ (descend .result) (few-sectors (border .result .0) (length (a .log .now)) (length (a .waiting .now)) (border .ensures .0) (few .0) (few .1)) (descend .ensures .0))
+    let few = lent-sectors (length (a .log .now)) (length (a .waiting .now)) _ (are-allowed .ensures) (not-false _ (if1 .left)) in (
+      o .dsize-from,
+      o .inside,
+      lies-more _ _ (descend .result) (few-sectors (border .result .0) (length (a .log .now)) (length (a .waiting .now)) (border .ensures .0) (few .0) (few .1))
+          (descend .ensures .0),
+    )
 
 split-requires : tie.Need-split-requires
 split-requires c κs =

@@ -35,11 +35,16 @@ same-length : tie.Need-same-length
 same-length c = search needs
 
 returns : tie.Need-returns
-returns c =
-    let a = c .before .before .before .before .before .before .before .before .before .before .before .before .args in
-    let b = c .before .before .before .before .before .before .before .before .bucket-of in
-    let w = c .before .before .write-entry in
-    entered-free (a .index .now) (a .score .now) (a .kind) (a .first .0) (b .result) (b .ensures .0) _ (c .before .before .before .before .before .before .first-free .ensures) _ (b .ensures .1 .1) (c .before .before .before .before .if1 .taken) (c .before .before .before .before .before .before .before .before .before .before .before .before .pre) (w .ensures)
+returns c = let args = c .before .before .before .before .before .before .before .before .before .before .before .before .args in
+    let bucket-of = c .before .before .before .before .before .before .before .before .bucket-of in
+    let first-free = c .before .before .before .before .before .before .first-free in
+    let if1 = c .before .before .before .before .if1 in
+    let given = c .before .before .before .before .before .before .before .before .before .before .before .before .pre in
+    let write-entry = c .before .before .write-entry in
+    let a = args in
+    let b = bucket-of in
+    let w = write-entry in
+    entered-free (a .index .now) (a .score .now) (a .kind) (a .first .0) (b .result) (b .ensures .0) _ (first-free .ensures) _ (b .ensures .1 .1) (if1 .taken) given (w .ensures)
 
 same-length-2 : tie.Need-same-length-2
 same-length-2 c = search needs

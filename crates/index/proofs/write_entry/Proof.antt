@@ -19,25 +19,26 @@ part-put-be-start : tie.Need-part-put-be-start
 part-put-be-start c = search needs
 
 part-put-be-end : tie.Need-part-put-be-end
-part-put-be-end c =
-    let a = c .before .before .before .before .before .before .args in
-    let k = named-length (a .place .now) _ (a .score .now) (a .kind) (c .before .before .before .before .before .before .pre .0) (c .before .before .before .before .before .before .pre .1) (c .before .before .copy-at .ensures) in
+part-put-be-end c = let args = c .before .before .before .before .before .before .args in
+    let given = c .before .before .before .before .before .before .pre in
+    let a = args in
+    let k = named-length (a .place .now) _ (a .score .now) (a .kind) (given .0) (given .1) (c .before .before .copy-at .ensures) in
     omega (arith, k)
 
 put-be-requires : tie.Need-put-be-requires
 put-be-requires c κs = search needs
 
 same-length : tie.Need-same-length
-same-length c =
+same-length c = let copy-at = c .before .before .before .before .before .before .copy-at in
     let b = c .before .before .before .before .before .before .before .before .before .before in
     let a = b .args in
-    entry-length (a .place .now) _ (a .score .now) (a .kind) (b .pre .0) (b .pre .1) (c .before .before .before .before .before .before .copy-at .ensures) _ (a .first .0) (c .before .before .put-be .ensures)
+    entry-length (a .place .now) _ (a .score .now) (a .kind) (b .pre .0) (b .pre .1) (copy-at .ensures) _ (a .first .0) (c .before .before .put-be .ensures)
 
 returns : tie.Need-returns
-returns c =
+returns c = let copy-at = c .before .before .before .before .before .before .copy-at in
     let b = c .before .before .before .before .before .before .before .before .before .before in
     let a = b .args in
-    entry-written (a .place .now) _ (a .score .now) (a .kind) (b .pre .0) (b .pre .1) (c .before .before .before .before .before .before .copy-at .ensures) _ (a .first .0) (c .before .before .put-be .ensures)
+    entry-written (a .place .now) _ (a .score .now) (a .kind) (b .pre .0) (b .pre .1) (copy-at .ensures) _ (a .first .0) (c .before .before .put-be .ensures)
 
 pub write-entry-spec : {M : Type 1} → statement M
 write-entry-spec =

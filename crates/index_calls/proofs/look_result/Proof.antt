@@ -58,8 +58,9 @@ returns c =
     found-so (c .before .before .before .args .look) _ _ (c .before .look .given .1) refl
 
 returns-2 : tie.Need-returns-2
-returns-2 c =
-    refused-so (c .before .before .before .before .before .args .look) _ _ (c .before .before .before .look2 .given .1) (ap₂ (λ (n t : ℕ). n + 256 * (65536 * t)) (c .before .number .ensures) (c .told-sector .ensures))
+returns-2 c = let a = c .before .before .before .before .before .args in
+    let look2 = c .before .before .before .look2 in
+    refused-so (a .look) _ _ (look2 .given .1) (ap₂ (λ (n t : ℕ). n + 256 * (65536 * t)) (c .before .number .ensures) (c .told-sector .ensures))
 
 pub look-result-spec : {M : Type 1} → statement M
 look-result-spec =

@@ -17,9 +17,11 @@ is-lawful-requires : tie.Need-is-lawful-requires
 is-lawful-requires c κs = search needs
 
 returns-2 : tie.Need-returns-2
-returns-2 c =
-    let a = c .before .before .before .before .before .before .before .args in
-    ask-kind (a .log .now) (a .waiting .now) (a .index .now) (a .kind) (a .score .now) _ (c .before .before .before .are-allowed .ensures) _ (not-false _ (c .before .before .if1 .left)) (c .before .is-lawful .ensures) (not-true _ (c .if2 .taken))
+returns-2 c = let are-allowed = c .before .before .before .are-allowed in
+    let args = c .before .before .before .before .before .before .before .args in
+    let a = args in
+    ask-kind (a .log .now) (a .waiting .now) (a .index .now) (a .kind) (a .score .now) _ (are-allowed .ensures) _ (not-false _ (c .before .before .if1 .left)) (c .before .is-lawful .ensures)
+    (not-true _ (c .if2 .taken))
 
 border-requires : tie.Need-border-requires
 border-requires c κs = search needs
@@ -28,11 +30,15 @@ look-up-by-requires : tie.Need-look-up-by-requires
 look-up-by-requires c κs = search needs
 
 returns-3 : tie.Need-returns-3
-returns-3 c =
-    let a = c .before .before .before .before .before .before .before .before .before .before .args in
+returns-3 c = let are-allowed = c .before .before .before .before .before .before .are-allowed in
+    let args = c .before .before .before .before .before .before .before .before .before .before .args in
+    let if1 = c .before .before .before .before .before .if1 in
+    let if2 = c .before .before .before .if2 in
+    let is-lawful = c .before .before .before .before .is-lawful in
+    let a = args in
     let border = c .before .before .border in
-    ask-look (a .log .now) (a .waiting .now) (a .index .now) (a .kind) (a .score .now) _ (c .before .before .before .before .before .before .are-allowed .ensures) _ (border .result .0) _ (not-false _ (c .before .before .before .before .before .if1 .left)) (c .before .before .before .before .is-lawful .ensures)
-    (not-false _ (c .before .before .before .if2 .left)) (border .ensures .1) (c .look-up-by .ensures)
+    ask-look (a .log .now) (a .waiting .now) (a .index .now) (a .kind) (a .score .now) _ (are-allowed .ensures) _ (border .result .0) _ (not-false _ (if1 .left)) (is-lawful .ensures)
+    (not-false _ (if2 .left)) (border .ensures .1) (c .look-up-by .ensures)
 
 pub ask-by-spec : {M : Type 1} → statement M
 ask-by-spec =

@@ -17,10 +17,13 @@ find-held-requires : tie.Need-find-held-requires
 find-held-requires c κs = search needs
 
 returns : tie.Need-returns
-returns c =
-    let a = c .before .before .before .before .before .before .before .before .before .args in
+returns c = let args = c .before .before .before .before .before .before .before .before .before .args in
+    let if1 = c .before .before .before .if1 in
+    let is-lawful = c .before .before .before .before .is-lawful in
+    let is-zero-score = c .before .before .is-zero-score in
+    let a = args in
     let log = joined (a .end .0) (a .log .now) (a .waiting .now) in
-    by-zero log (a .index .now) (a .kind) (a .score .now) _ _ _ (c .before .before .before .before .is-lawful .ensures) (c .before .before .before .if1 .taken) (c .before .before .is-zero-score .ensures) (c .before .if2 .taken) (c .find-held .ensures)
+    by-zero log (a .index .now) (a .kind) (a .score .now) _ _ _ (is-lawful .ensures) (if1 .taken) (is-zero-score .ensures) (c .before .if2 .taken) (c .find-held .ensures)
 
 find-hint-requires : tie.Need-find-hint-requires
 find-hint-requires c κs = search needs

@@ -38,12 +38,15 @@ enum-told-2 : tie.Need-enum-told-2 Inv-loop μ-loop
 enum-told-2 c = search needs
 
 returns : tie.Need-returns Inv-loop μ-loop
-returns c =
-    let a = c .before .before .before .before .before .before .before .before .before .before .before .args in
+returns c = let args = c .before .before .before .before .before .before .before .before .before .before .before .args in
+    let bucket-of = c .before .before .before .before .before .before .bucket-of in
+    let if1 = c .before .before .before .if1 in
+    let turn = c .before .before .before .before .before .loop in
+    let a = args in
     let log = joined (a .end .0) (a .log .now) (a .waiting .now) in
-    let l = c .before .before .before .before .before .loop in
+    let l = turn in
     let f = trueAt log (a .index .now) (a .kind) (a .score .now) in
-    found-here f (l .p) (c .before .before .before .before .before .before .bucket-of .result .to) (c .before .before .before .if1 .taken) _ (c .before .before .true-at .ensures) _ (c .enum-told2 .given .1) ∙ ap placed (l .inv .1)
+    found-here f (l .p) (bucket-of .result .to) (if1 .taken) _ (c .before .before .true-at .ensures) _ (c .enum-told2 .given .1) ∙ ap placed (l .inv .1)
 
 add-p : tie.Need-add-p Inv-loop μ-loop
 add-p c = search needs
@@ -52,12 +55,15 @@ loop-less : tie.Need-loop-less Inv-loop μ-loop
 loop-less c = search needs
 
 loop-again : tie.Need-loop-again Inv-loop μ-loop
-loop-again c =
-    let a = c .before .before .before .before .before .before .before .before .before .before .before .args in
+loop-again c = let args = c .before .before .before .before .before .before .before .before .before .before .before .args in
+    let bucket-of = c .before .before .before .before .before .before .bucket-of in
+    let if1 = c .before .before .before .if1 in
+    let turn = c .before .before .before .before .before .loop in
+    let a = args in
     let log = joined (a .end .0) (a .log .now) (a .waiting .now) in
-    let l = c .before .before .before .before .before .loop in
+    let l = turn in
     let f = trueAt log (a .index .now) (a .kind) (a .score .now) in
-    (omega (arith, c .before .before .before .if1 .taken), found-next f (l .p) (c .before .before .before .before .before .before .bucket-of .result .to) (c .before .before .before .if1 .taken) _ (c .before .before .true-at .ensures) (c .enum-told .given .1) ∙ l .inv .1)
+    (omega (arith, if1 .taken), found-next f (l .p) (bucket-of .result .to) (if1 .taken) _ (c .before .before .true-at .ensures) (c .enum-told .given .1) ∙ l .inv .1)
 
 returns-2 : tie.Need-returns-2 Inv-loop μ-loop
 returns-2 c =

@@ -38,11 +38,13 @@ sound-as-requires : tie.Need-sound-as-requires
 sound-as-requires c κs = search needs
 
 returns-3 : tie.Need-returns-3
-returns-3 c =
+returns-3 c = let if1 = c .before .before .before .before .before .if1 in
+    let names = c .before .before .before .before .before .before .names in
+    let sector-at = c .before .before .before .before .sector-at in
     let b = c .before .before .before .before .before .before .before .before .before .before .before in
     let a = b .args in
     let log = joined (a .end .0) (a .log .now) (a .waiting .now) in
-    checked-there log (a .index .now) (a .kind) (a .score .now) (a .p) _ _ _ (c .before .before .before .before .before .before .names .ensures) (not-false _ (c .before .before .before .before .before .if1 .left)) (c .before .before .before .before .sector-at .ensures) (c .sound-as .ensures)
+    checked-there log (a .index .now) (a .kind) (a .score .now) (a .p) _ _ _ (names .ensures) (not-false _ (if1 .left)) (sector-at .ensures) (c .sound-as .ensures)
 
 pub true-at-spec : {M : Type 1} → statement M
 true-at-spec =

@@ -31,15 +31,23 @@ cast-t6 c = search needs
 
 returns-4 : tie.Need-returns-4
 unfolding wireType
-returns-4 c = let e = c .before .before .before .before .args .e in rw (ne-eqb e 0 (c .before .before .before .if1 .left), lt-leb e 7 (c .before .before .if2 .left), ne-eqb e 8 (c .before .if3 .left), le-leb e 15 (c .if4 .taken))
+returns-4 c = let a = c .before .before .before .before .args in
+    let if1 = c .before .before .before .if1 in
+    let e = a .e in rw (ne-eqb e 0 (if1 .left), lt-leb e 7 (c .before .before .if2 .left), ne-eqb e 8 (c .before .if3 .left), le-leb e 15 (c .if4 .taken))
 
 returns-5 : tie.Need-returns-5
 unfolding wireType
-returns-5 c = let e = c .before .before .before .before .before .args .e in rw (ne-eqb e 0 (c .before .before .before .before .if1 .left), lt-leb e 7 (c .before .before .before .if2 .left), ne-eqb e 8 (c .before .before .if3 .left), lt-leb e 15 (c .before .if4 .left), eq-eqb e 16 (c .if5 .taken))
+returns-5 c = let a = c .before .before .before .before .before .args in
+    let if1 = c .before .before .before .before .if1 in
+    let if2 = c .before .before .before .if2 in
+    let e = a .e in rw (ne-eqb e 0 (if1 .left), lt-leb e 7 (if2 .left), ne-eqb e 8 (c .before .before .if3 .left), lt-leb e 15 (c .before .if4 .left), eq-eqb e 16 (c .if5 .taken))
 
 returns-6 : tie.Need-returns-6
 unfolding wireType
-returns-6 c = let e = c .before .before .before .before .before .args .e in rw (ne-eqb e 0 (c .before .before .before .before .if1 .left), lt-leb e 7 (c .before .before .before .if2 .left), ne-eqb e 8 (c .before .before .if3 .left), lt-leb e 15 (c .before .if4 .left), ne-eqb e 16 (c .if5 .left))
+returns-6 c = let a = c .before .before .before .before .before .args in
+    let if1 = c .before .before .before .before .if1 in
+    let if2 = c .before .before .before .if2 in
+    let e = a .e in rw (ne-eqb e 0 (if1 .left), lt-leb e 7 (if2 .left), ne-eqb e 8 (c .before .before .if3 .left), lt-leb e 15 (c .before .if4 .left), ne-eqb e 16 (c .if5 .left))
 
 pub wire-type-spec : {M : Type 1} → statement M
 wire-type-spec =

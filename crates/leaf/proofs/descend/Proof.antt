@@ -118,7 +118,8 @@ sub-level : tie.Need-sub-level Inv-loop μ-loop
 sub-level c = omega (arith, c .before .before .before .before .before .before .before .before .before .before .loop-test .taken)
 
 digit-requires : tie.Need-digit-requires Inv-loop μ-loop
-digit-requires c κs = omega (arith, c .before .before .before .before .before .before .before .before .before .before .before .before .before .before .before .before .before .before .before .pre .1 .psize-from)
+digit-requires c κs = let given = c .before .before .before .before .before .before .before .before .before .before .before .before .before .before .before .before .before .before .before .pre in
+    omega (arith, given .1 .psize-from)
 
 score-at-requires : tie.Need-score-at-requires Inv-loop μ-loop
 score-at-requires c κs =

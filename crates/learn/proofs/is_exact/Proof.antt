@@ -36,10 +36,11 @@ leads-at-requires : tie.Need-leads-at-requires Inv-loop μ-loop
 leads-at-requires c κs = search needs
 
 returns : tie.Need-returns Inv-loop μ-loop
-returns c =
-    let a = (c .before .before .before .before .before .before .before .before .args) in
+returns c = let args = c .before .before .before .before .before .before .before .before .args in
+    let l = c .before .before .before .loop in
+    let a = args in
     let both = joined (a .end .0) (a .log .now) (a .waiting .now) in
-    pass-fails both (a .index .now) (c .before .before .before .loop .n) _ (c .before .before .loop-test .taken) _ (c .before .leads-at .ensures) (c .before .before .before .loop .inv .2) (not-true _ (c .if1 .taken))
+    pass-fails both (a .index .now) (l .n) _ (c .before .before .loop-test .taken) _ (c .before .leads-at .ensures) (l .inv .2) (not-true _ (c .if1 .taken))
 
 add-n : tie.Need-add-n Inv-loop μ-loop
 add-n c = search needs
@@ -48,12 +49,14 @@ loop-less : tie.Need-loop-less Inv-loop μ-loop
 loop-less c = search needs
 
 loop-again : tie.Need-loop-again Inv-loop μ-loop
-loop-again c =
-    let a = (c .before .before .before .before .before .before .before .before .args) in
+loop-again c = let args = c .before .before .before .before .before .before .before .before .args in
+    let l = c .before .before .before .loop in
+    let loop-test = c .before .before .loop-test in
+    let a = args in
     let both = joined (a .end .0) (a .log .now) (a .waiting .now) in (
-      omega (arith, (c .before .before .loop-test .taken)),
-      (c .before .before .before .loop .inv .1),
-      pass-on both (a .index .now) (c .before .before .before .loop .n) _ (c .before .before .loop-test .taken) _ (c .before .leads-at .ensures) (c .before .before .before .loop .inv .2) (not-false _ (c .if1 .left)),
+      omega (arith, (loop-test .taken)),
+      (l .inv .1),
+      pass-on both (a .index .now) (l .n) _ (loop-test .taken) _ (c .before .leads-at .ensures) (l .inv .2) (not-false _ (c .if1 .left)),
     )
 
 returns-2 : tie.Need-returns-2 Inv-loop μ-loop

@@ -30,10 +30,11 @@ leads-from-requires c κs =
     ((c .before .before .before .before .before .before .before .pre .0), f .0, f .1, f .2, f .3)
 
 returns-2 : tie.Need-returns-2
-returns-2 c =
-    let a = (c .before .before .before .before .before .before .before .before .args) in
+returns-2 c = let args = c .before .before .before .before .before .before .before .before .args in
+    let sound-at = c .before .before .before .before .sound-at in
+    let a = args in
     let both = joined (a .end .0) (a .log .now) (a .waiting .now) in
-    leads-there both (a .index .now) (a .n .0) _ (c .before .before .before .before .sound-at .ensures) _ (c .before .before .enum-told .given .1) _ (c .before .sector-at .ensures) _ (c .leads-from .ensures)
+    leads-there both (a .index .now) (a .n .0) _ (sound-at .ensures) _ (c .before .before .enum-told .given .1) _ (c .before .sector-at .ensures) _ (c .leads-from .ensures)
 
 pub leads-at-spec : {M : Type 1} → statement M
 leads-at-spec =

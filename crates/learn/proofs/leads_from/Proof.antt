@@ -33,8 +33,9 @@ part-read-kind-end c =
     omega (arith, (c .front-length .ensures), front-most (c .before .before .before .before .before .args .s .now), (c .before .before .before .before .before .pre .1))
 
 read-kind-requires : tie.Need-read-kind-requires
-read-kind-requires c κs =
-    kind-fits (c .before .before .before .before .before .before .args .s .now) _ (c .before .front-length .ensures) (c .before .before .before .before .before .before .pre .1) (c .before .before .before .before .before .before .pre .2)
+read-kind-requires c κs = let args = c .before .before .before .before .before .before .args in
+    let given = c .before .before .before .before .before .before .pre in
+    kind-fits (args .s .now) _ (c .before .front-length .ensures) (given .1) (given .2)
 
 add-from : tie.Need-add-from
 add-from c =
@@ -54,8 +55,10 @@ part-read-hex-bytes-start : tie.Need-part-read-hex-bytes-start
 part-read-hex-bytes-start c = search needs
 
 part-read-hex-bytes-end : tie.Need-part-read-hex-bytes-end
-part-read-hex-bytes-end c =
-    omega (arith, (c .before .before .before .front-length .ensures), front-most (c .before .before .before .before .before .before .before .before .args .s .now), (c .before .before .before .before .before .before .before .before .pre .1))
+part-read-hex-bytes-end c = let args = c .before .before .before .before .before .before .before .before .args in
+    let front-length = c .before .before .before .front-length in
+    let given = c .before .before .before .before .before .before .before .before .pre in
+    omega (arith, (front-length .ensures), front-most (args .s .now), (given .1))
 
 read-hex-bytes-requires : tie.Need-read-hex-bytes-requires
 read-hex-bytes-requires c κs = search needs

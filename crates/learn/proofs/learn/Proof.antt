@@ -22,9 +22,10 @@ is-exact-requires c κs =
     omega (arith, (c .before .before .used-part .ensures), used-le-sectors (c .before .before .before .before .before .before .args .log .now))
 
 returns : tie.Need-returns
-returns c =
-    let a = (c .before .before .before .before .before .before .before .args) in
-    all-learned (a .log .now) (a .waiting .now) (a .index .now) _ _ _ _ (c .before .before .before .used-part .ensures) (c .before .before .used-part2 .ensures) (c .before .find-doubt .ensures) (c .is-exact .ensures)
+returns c = let args = c .before .before .before .before .before .before .before .args in
+    let used-part = c .before .before .before .used-part in
+    let a = args in
+    all-learned (a .log .now) (a .waiting .now) (a .index .now) _ _ _ _ (used-part .ensures) (c .before .before .used-part2 .ensures) (c .before .find-doubt .ensures) (c .is-exact .ensures)
 
 pub learn-spec : {M : Type 1} → statement M
 learn-spec =

@@ -42,10 +42,13 @@ loop-less : tie.Need-loop-less Inv-loop μ-loop
 loop-less c = search needs
 
 loop-again : tie.Need-loop-again Inv-loop μ-loop
-loop-again c =
+loop-again c = let args = c .before .before .before .before .before .before .before .before .args in
     let l = c .before .before in
-    let a = c .before .before .before .before .before .before .before .before .args in
-    (omega (arith, l .if1 .taken), tell-next (a .index .now) (a .kind) (a .score .now) (a .n .0) (l .before .before .loop .p) (l .before .before .before .bucket-of .result .to) (l .if1 .taken) (l .before .before .loop .inv .1) _ (c .before .names .ensures) (c .if2 .left))
+    let a = args in (
+      omega (arith, l .if1 .taken),
+      tell-next (a .index .now) (a .kind) (a .score .now) (a .n .0) (l .before .before .loop .p) (l .before .before .before .bucket-of .result .to) (l .if1 .taken)
+          (l .before .before .loop .inv .1) _ (c .before .names .ensures) (c .if2 .left),
+    )
 
 returns-2 : tie.Need-returns-2 Inv-loop μ-loop
 returns-2 c =

@@ -49,13 +49,15 @@ add-count c = search needs
 -- src/lib.rt:90:5
 loop-holds : tie.Need-loop-holds Inv-loop μ-loop
 unfolding blocks
-loop-holds c =
-    let log = joined ((c .before .before .before .before .before .before .before .args .end .0)) ((c .before .before .before .before .before .before .before .args .log .now)) ((c .before .before .before .before .before .before .before .args .waiting .now)) in
-    let e = sectors-joined ((c .before .before .before .before .before .before .before .args .end .0)) ((c .before .before .before .before .before .before .before .args .log .now)) ((c .before .before .before .before .before .before .before .args .waiting .now)) ((c .before .before .before .before .before .before .before .pre .0)) in (
+loop-holds c = let a = c .before .before .before .before .before .before .before .args in
+    let given = c .before .before .before .before .before .before .before .pre in
+    let put-hex-bytes = c .before .before .put-hex-bytes in
+    let log = joined (a .end .0) (a .log .now) (a .waiting .now) in
+    let e = sectors-joined (a .end .0) (a .log .now) (a .waiting .now) (given .0) in (
       omega arith,
       omega (arith, e),
-      (c .before .before .put-hex-bytes .ensures),
-      ap (λ (k : ℕ). firstOf ((c .before .before .before .before .before .before .before .args .kind)) ((c .before .before .before .before .before .before .before .args .score .now)) (foundFrom (sound log) k 0)) (sub-zero (sectors (length log))),
+      (put-hex-bytes .ensures),
+      ap (λ (k : ℕ). firstOf (a .kind) (a .score .now) (foundFrom (sound log) k 0)) (sub-zero (sectors (length log))),
     )
 
 -- src/lib.rt:91:13
@@ -68,8 +70,9 @@ slice-aggregate-may-hold c = search needs
 
 -- src/lib.rt:92:12
 may-hold-requires : tie.Need-may-hold-requires Inv-loop μ-loop
-may-hold-requires c κs =
-    (ap length ((c .before .sector-at .ensures)) ∙ length-at (joined ((c .before .before .before .before .before .before .before .before .before .before .before .args .end .0)) ((c .before .before .before .before .before .before .before .before .before .before .before .args .log .now)) ((c .before .before .before .before .before .before .before .before .before .before .before .args .waiting .now))) ((c .before .before .before .loop .n)), search needs)
+may-hold-requires c κs = let a = c .before .before .before .before .before .before .before .before .before .before .before .args in
+    let l = c .before .before .before .loop in
+    (ap length ((c .before .sector-at .ensures)) ∙ length-at (joined (a .end .0) (a .log .now) (a .waiting .now)) (l .n), search needs)
 
 -- src/lib.rt:93:17
 sound-as-requires : tie.Need-sound-as-requires Inv-loop μ-loop
@@ -84,8 +87,12 @@ enum-told-2 c = search needs
 
 -- src/lib.rt:95:17
 returns : tie.Need-returns Inv-loop μ-loop
-returns c =
-    find-found (joined ((c .before .before .before .before .before .before .before .before .before .before .before .before .before .before .before .before .args .end .0)) ((c .before .before .before .before .before .before .before .before .before .before .before .before .before .before .before .before .args .log .now)) ((c .before .before .before .before .before .before .before .before .before .before .before .before .before .before .before .before .args .waiting .now))) ((c .before .before .before .before .before .before .before .before .loop .n)) ((c .before .before .before .before .before .before .before .before .before .before .before .before .before .before .before .before .args .kind)) ((c .before .before .before .before .before .before .before .before .before .before .before .before .before .before .before .before .args .score .now)) (omega (arith, (c .before .before .before .before .before .before .before .before .loop .inv .1), (c .before .before .before .before .before .before .before .loop-test .taken))) ((c .before .before .before .before .before .before .before .before .loop .inv .3)) ((c .before .before .sound-as .result)) _ ((c .before .before .sound-as .ensures)) ((c .enum-told2 .given .1))
+returns c = let a = c .before .before .before .before .before .before .before .before .before .before .before .before .before .before .before .before .args in
+    let l = c .before .before .before .before .before .before .before .before .loop in
+    let loop-test = c .before .before .before .before .before .before .before .loop-test in
+    let sound-as = c .before .before .sound-as in
+    find-found (joined (a .end .0) (a .log .now) (a .waiting .now)) (l .n) (a .kind) (a .score .now) (omega (arith, (l .inv .1), (loop-test .taken))) (l .inv .3) (sound-as .result) _
+    (sound-as .ensures) ((c .enum-told2 .given .1))
 
 -- src/lib.rt:98:9
 add-n : tie.Need-add-n Inv-loop μ-loop
@@ -97,18 +104,23 @@ loop-less c = search needs
 
 -- src/lib.rt:90:5
 loop-again : tie.Need-loop-again Inv-loop μ-loop
-loop-again c =
-    let log = joined ((c .before .before .before .before .before .before .before .before .before .before .before .before .before .args .end .0)) ((c .before .before .before .before .before .before .before .before .before .before .before .before .before .args .log .now)) ((c .before .before .before .before .before .before .before .before .before .before .before .before .before .args .waiting .now)) in
+loop-again c = let a = c .before .before .before .before .before .before .before .before .before .before .before .before .before .args in
+    let l = c .before .before .before .before .before .loop in
+    let loop-test = c .before .before .before .before .loop-test in
+    let may-hold = c .before .may-hold in
+    let sector-at = c .before .before .before .sector-at in
+    let log = joined (a .end .0) (a .log .now) (a .waiting .now) in
     let none-here = ⊎-elim
     (λ w. placed-none _ (w .1 .result) (w .1 .ensures) (w .3 .given .1))
-    (λ w. other-digits log ((c .before .before .before .before .before .loop .n)) ((c .before .before .before .before .before .before .before .before .before .before .before .before .before .args .kind)) ((c .before .before .before .before .before .before .before .before .before .before .before .before .before .args .score .now)) _ ((c .before .before .before .sector-at .result .now)) ((c .before .may-hold .result)) ((c .before .before .before .sector-at .ensures)) ((c .before .before .before .before .before .loop .inv .2)) ((c .before .may-hold .ensures)) (w .left))
+    (λ w. other-digits log (l .n) (a .kind) (a .score .now) _ (sector-at .result .now) (may-hold .result) (sector-at .ensures) (l .inv .2) (may-hold .ensures) (w .left))
     ((c .if1 .came)) in
-    (omega arith, (c .before .before .before .before .before .loop .inv .1), (c .before .before .before .before .before .loop .inv .2), find-more log ((c .before .before .before .before .before .loop .n)) ((c .before .before .before .before .before .before .before .before .before .before .before .before .before .args .kind)) ((c .before .before .before .before .before .before .before .before .before .before .before .before .before .args .score .now)) (omega (arith, (c .before .before .before .before .before .loop .inv .1), (c .before .before .before .before .loop-test .taken))) ((c .before .before .before .before .before .loop .inv .3)) none-here)
+    (omega arith, (l .inv .1), (l .inv .2), find-more log (l .n) (a .kind) (a .score .now) (omega (arith, (l .inv .1), (loop-test .taken))) (l .inv .3) none-here)
 
 -- src/lib.rt:82:1
 returns-2 : tie.Need-returns-2 Inv-loop μ-loop
-returns-2 c =
-    find-nowhere (joined ((c .before .before .before .before .before .before .before .before .before .args .end .0)) ((c .before .before .before .before .before .before .before .before .before .args .log .now)) ((c .before .before .before .before .before .before .before .before .before .args .waiting .now))) ((c .before .loop .n)) ((c .before .before .before .before .before .before .before .before .before .args .kind)) ((c .before .before .before .before .before .before .before .before .before .args .score .now)) (omega (arith, (c .before .loop .inv .1))) (omega (arith, (c .before .loop .inv .1), (c .loop-test .left))) ((c .before .loop .inv .3))
+returns-2 c = let a = c .before .before .before .before .before .before .before .before .before .args in
+    let l = c .before .loop in
+    find-nowhere (joined (a .end .0) (a .log .now) (a .waiting .now)) (l .n) (a .kind) (a .score .now) (omega (arith, (l .inv .1))) (omega (arith, (l .inv .1), (c .loop-test .left))) (l .inv .3)
 
 pub find-spec : {M : Type 1} → statement M
 find-spec =

@@ -33,9 +33,10 @@ loop-holds c =
 
 -- src/lib.rt:129:13
 sound-at-requires : tie.Need-sound-at-requires Inv-loop μ-loop
-sound-at-requires c κs =
-    let log = joined ((c .before .before .before .before .before .args .end .0)) ((c .before .before .before .before .before .args .log .now)) ((c .before .before .before .before .before .args .waiting .now)) in
-    ((c .before .before .before .before .before .pre .0), omega (arith, used-le-sectors log, sectors-joined ((c .before .before .before .before .before .args .end .0)) ((c .before .before .before .before .before .args .log .now)) ((c .before .before .before .before .before .args .waiting .now)) ((c .before .before .before .before .before .pre .0)), (c .before .before .before .before .before .pre .1), (c .if1 .taken)))
+sound-at-requires c κs = let a = c .before .before .before .before .before .args in
+    let given = c .before .before .before .before .before .pre in
+    let log = joined (a .end .0) (a .log .now) (a .waiting .now) in
+    ((given .0), omega (arith, used-le-sectors log, sectors-joined (a .end .0) (a .log .now) (a .waiting .now) (given .0), (given .1), (c .if1 .taken)))
 
 -- src/lib.rt:130:23
 enum-known-place : tie.Need-enum-known-place Inv-loop μ-loop
@@ -47,37 +48,54 @@ enum-told c = search needs
 
 -- src/lib.rt:131:13
 returns : tie.Need-returns Inv-loop μ-loop
-returns c =
-    walk-stops (joined ((c .before .before .before .before .before .before .before .before .args .end .0)) ((c .before .before .before .before .before .before .before .before .args .log .now)) ((c .before .before .before .before .before .before .before .before .args .waiting .now))) ((c .before .before .before .before .before .loop .n)) ((c .before .before .sound-at .result)) ((c .before .before .before .before .before .loop .inv)) (omega (arith, (c .before .before .before .before .before .before .before .before .pre .1), (c .before .before .before .if1 .taken))) ((c .before .before .sound-at .ensures)) ((c .enum-told .given .1))
+returns c = let a = c .before .before .before .before .before .before .before .before .args in
+    let if1 = c .before .before .before .if1 in
+    let l = c .before .before .before .before .before .loop in
+    let given = c .before .before .before .before .before .before .before .before .pre in
+    let sound-at = c .before .before .sound-at in
+    walk-stops (joined (a .end .0) (a .log .now) (a .waiting .now)) (l .n) (sound-at .result) (l .inv) (omega (arith, (given .1), (if1 .taken))) (sound-at .ensures) ((c .enum-told .given .1))
 
 -- src/lib.rt:133:14
 parts-of-requires : tie.Need-parts-of-requires Inv-loop μ-loop
-parts-of-requires c κs =
-    let b = block-bounds (joined ((c .before .before .before .before .before .before .before .before .before .args .end .0)) ((c .before .before .before .before .before .before .before .before .before .args .log .now)) ((c .before .before .before .before .before .before .before .before .before .args .waiting .now))) ((c .before .before .before .before .before .before .loop .n)) ((c .before .before .before .sound-at .result)) _ ((c .before .before .before .sound-at .ensures)) ((c .before .place .given .1)) in
+parts-of-requires c κs = let a = c .before .before .before .before .before .before .before .before .before .args in
+    let l = c .before .before .before .before .before .before .loop in
+    let sound-at = c .before .before .before .sound-at in
+    let b = block-bounds (joined (a .end .0) (a .log .now) (a .waiting .now)) (l .n) (sound-at .result) _ (sound-at .ensures) ((c .before .place .given .1)) in
     (b .0, omega (arith, b .1))
 
 -- src/lib.rt:133:9
 add-n : tie.Need-add-n Inv-loop μ-loop
-add-n c =
-    let log = joined ((c .before .before .before .before .before .before .before .before .before .before .args .end .0)) ((c .before .before .before .before .before .before .before .before .before .before .args .log .now)) ((c .before .before .before .before .before .before .before .before .before .before .args .waiting .now)) in
-    let on = walk-on log ((c .before .before .before .before .before .before .before .loop .n)) ((c .parts-of .result)) ((c .before .before .before .before .sound-at .result)) _ ((c .before .before .before .before .before .before .before .loop .inv)) ((c .before .before .before .before .sound-at .ensures)) ((c .before .before .place .given .1)) ((c .parts-of .ensures)) in
-    omega (arith, used-le-sectors log, sectors-joined ((c .before .before .before .before .before .before .before .before .before .before .args .end .0)) ((c .before .before .before .before .before .before .before .before .before .before .args .log .now)) ((c .before .before .before .before .before .before .before .before .before .before .args .waiting .now)) ((c .before .before .before .before .before .before .before .before .before .before .pre .0)), on .0)
+add-n c = let a = c .before .before .before .before .before .before .before .before .before .before .args in
+    let l = c .before .before .before .before .before .before .before .loop in
+    let given = c .before .before .before .before .before .before .before .before .before .before .pre in
+    let sound-at = c .before .before .before .before .sound-at in
+    let log = joined (a .end .0) (a .log .now) (a .waiting .now) in
+    let on = walk-on log (l .n) ((c .parts-of .result)) (sound-at .result) _ (l .inv) (sound-at .ensures) ((c .before .before .place .given .1)) ((c .parts-of .ensures)) in
+    omega (arith, used-le-sectors log, sectors-joined (a .end .0) (a .log .now) (a .waiting .now) (given .0), on .0)
 
 -- src/lib.rt:128:5
 loop-less : tie.Need-loop-less Inv-loop μ-loop
-loop-less c =
-    let on = walk-on (joined ((c .before .before .before .before .before .before .before .before .before .before .args .end .0)) ((c .before .before .before .before .before .before .before .before .before .before .args .log .now)) ((c .before .before .before .before .before .before .before .before .before .before .args .waiting .now))) ((c .before .before .before .before .before .before .before .loop .n)) ((c .parts-of .result)) ((c .before .before .before .before .sound-at .result)) _ ((c .before .before .before .before .before .before .before .loop .inv)) ((c .before .before .before .before .sound-at .ensures)) ((c .before .before .place .given .1)) ((c .parts-of .ensures)) in
+loop-less c = let a = c .before .before .before .before .before .before .before .before .before .before .args in
+    let l = c .before .before .before .before .before .before .before .loop in
+    let sound-at = c .before .before .before .before .sound-at in
+    let on = walk-on (joined (a .end .0) (a .log .now) (a .waiting .now)) (l .n) ((c .parts-of .result)) (sound-at .result) _ (l .inv) (sound-at .ensures) ((c .before .before .place .given .1))
+    ((c .parts-of .ensures)) in
     omega (arith, on .0, on .1)
 
 -- src/lib.rt:128:5
 loop-again : tie.Need-loop-again Inv-loop μ-loop
-loop-again c =
-    (walk-on (joined ((c .before .before .before .before .before .before .before .before .before .before .args .end .0)) ((c .before .before .before .before .before .before .before .before .before .before .args .log .now)) ((c .before .before .before .before .before .before .before .before .before .before .args .waiting .now))) ((c .before .before .before .before .before .before .before .loop .n)) ((c .parts-of .result)) ((c .before .before .before .before .sound-at .result)) _ ((c .before .before .before .before .before .before .before .loop .inv)) ((c .before .before .before .before .sound-at .ensures)) ((c .before .before .place .given .1)) ((c .parts-of .ensures))) .2
+loop-again c = let a = c .before .before .before .before .before .before .before .before .before .before .args in
+    let l = c .before .before .before .before .before .before .before .loop in
+    let sound-at = c .before .before .before .before .sound-at in
+    (walk-on (joined (a .end .0) (a .log .now) (a .waiting .now)) (l .n) ((c .parts-of .result)) (sound-at .result) _ (l .inv) (sound-at .ensures) ((c .before .before .place .given .1))
+    ((c .parts-of .ensures))) .2
 
 -- src/lib.rt:118:1
 returns-2 : tie.Need-returns-2 Inv-loop μ-loop
-returns-2 c =
-    (c .before .before .before .before .before .pre .1) ∙ walk-ends (joined ((c .before .before .before .before .before .args .end .0)) ((c .before .before .before .before .before .args .log .now)) ((c .before .before .before .before .before .args .waiting .now))) ((c .before .before .loop .n)) ((c .before .before .loop .inv)) (omega (arith, (c .before .before .before .before .before .pre .1), (c .if1 .left)))
+returns-2 c = let a = c .before .before .before .before .before .args in
+    let l = c .before .before .loop in
+    let given = c .before .before .before .before .before .pre in
+    (given .1) ∙ walk-ends (joined (a .end .0) (a .log .now) (a .waiting .now)) (l .n) (l .inv) (omega (arith, (given .1), (c .if1 .left)))
 
 pub first-doubtful-spec : {M : Type 1} → statement M
 first-doubtful-spec =

@@ -28,13 +28,15 @@ why-absent-requires c κs = search needs
 
 -- src/lib.rt:178:9
 returns : tie.Need-returns
-returns c =
-    look-none (joined ((c .before .before .before .before .before .before .before .args .end .0)) ((c .before .before .before .before .before .before .before .args .log .now)) ((c .before .before .before .before .before .before .before .args .waiting .now))) ((c .before .before .before .before .before .before .before .args .kind)) ((c .before .before .before .before .before .before .before .args .score .now)) _ _ ((c .before .before .before .find-held .ensures)) ((c .before .enum-told .given .1)) ((c .why-absent .ensures))
+returns c = let a = c .before .before .before .before .before .before .before .args in
+    let find-held = c .before .before .before .find-held in
+    look-none (joined (a .end .0) (a .log .now) (a .waiting .now)) (a .kind) (a .score .now) _ _ (find-held .ensures) ((c .before .enum-told .given .1)) ((c .why-absent .ensures))
 
 -- src/lib.rt:166:1
 returns-2 : tie.Need-returns-2
-returns-2 c =
-    look-some (joined ((c .before .before .before .before .before .before .before .args .end .0)) ((c .before .before .before .before .before .before .before .args .log .now)) ((c .before .before .before .before .before .before .before .args .waiting .now))) ((c .before .before .before .before .before .before .before .args .kind)) ((c .before .before .before .before .before .before .before .args .score .now)) _ _ ((c .before .before .before .find-held .ensures)) ((c .before .place .given .1))
+returns-2 c = let a = c .before .before .before .before .before .before .before .args in
+    let find-held = c .before .before .before .find-held in
+    look-some (joined (a .end .0) (a .log .now) (a .waiting .now)) (a .kind) (a .score .now) _ _ (find-held .ensures) ((c .before .place .given .1))
 
 pub look-up-spec : {M : Type 1} → statement M
 look-up-spec =

@@ -63,8 +63,11 @@ equal-requires-2 c κs = search needs
 
 -- src/lib.rt:71:1
 returns-2 : tie.Need-returns-2
-returns-2 c =
-    holds-plain ((c .before .before .before .before .before .before .before .before .args .s .now)) ((c .before .before .before .before .before .before .before .before .args .digits .now)) _ _ ((c .before .before .before .before .equal .ensures)) ((c .before .before .before .if1 .left)) ((c .equal2 .ensures)) ((c .before .before .before .before .before .before .before .before .pre .1))
+returns-2 c = let a = c .before .before .before .before .before .before .before .before .args in
+    let equal = c .before .before .before .before .equal in
+    let if1 = c .before .before .before .if1 in
+    let given = c .before .before .before .before .before .before .before .before .pre in
+    holds-plain (a .s .now) (a .digits .now) _ _ (equal .ensures) (if1 .left) ((c .equal2 .ensures)) (given .1)
 
 pub may-hold-spec : {M : Type 1} → statement M
 may-hold-spec =

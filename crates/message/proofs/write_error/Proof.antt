@@ -27,11 +27,16 @@ same-length : tie.Need-same-length
 same-length c = search needs
 
 returns : tie.Need-returns
-returns c =
-    let a = c .before .before .before .before .before .before .before .before .before .before .before .before .args in
-    c .before .before .write-reply .ensures
-    ∙ error-doubt (a .buffer .now) (a .tag) (c .before .before .before .before .before .before .before .before .before .before .number .result) (a .why) (c .before .before .before .before .before .before .before .before .before .doubt-of .result) (c .before .before .before .before .before .before .before .before .before .before .number .ensures) (c .before .before .before .before .before .before .before .before .before .doubt-of .ensures) _ _
-    (c .before .before .before .before .before .before .before .doubt .given .1) (c .before .before .before .before .before .doubt-text .ensures)
+returns c = let args = c .before .before .before .before .before .before .before .before .before .before .before .before .args in
+    let doubt = c .before .before .before .before .before .before .before .doubt in
+    let doubt-of = c .before .before .before .before .before .before .before .before .before .doubt-of in
+    let doubt-text = c .before .before .before .before .before .doubt-text in
+    let number = c .before .before .before .before .before .before .before .before .before .before .number in
+    let write-reply = c .before .before .write-reply in
+    let a = args in
+    write-reply .ensures
+    ∙ error-doubt (a .buffer .now) (a .tag) (number .result) (a .why) (doubt-of .result) (number .ensures) (doubt-of .ensures) _ _
+    (doubt .given .1) (doubt-text .ensures)
 
 enum-told : tie.Need-enum-told
 enum-told c = search needs
@@ -52,11 +57,15 @@ same-length-2 : tie.Need-same-length-2
 same-length-2 c = search needs
 
 returns-2 : tie.Need-returns-2
-returns-2 c =
-    let a = c .before .before .before .before .before .before .before .before .before .before .args in
-    c .before .before .write-reply2 .ensures
-    ∙ error-plain (a .buffer .now) (a .tag) (c .before .before .before .before .before .before .before .before .number .result) (a .why) (c .before .before .before .before .before .before .before .doubt-of .result) (c .before .before .before .before .before .before .before .before .number .ensures) (c .before .before .before .before .before .before .before .doubt-of .ensures)
-    (c .before .before .before .before .before .enum-told .given .1)
+returns-2 c = let args = c .before .before .before .before .before .before .before .before .before .before .args in
+    let doubt-of = c .before .before .before .before .before .before .before .doubt-of in
+    let enum-told-here = c .before .before .before .before .before .enum-told in
+    let number = c .before .before .before .before .before .before .before .before .number in
+    let write-reply2 = c .before .before .write-reply2 in
+    let a = args in
+    write-reply2 .ensures
+    ∙ error-plain (a .buffer .now) (a .tag) (number .result) (a .why) (doubt-of .result) (number .ensures) (doubt-of .ensures)
+    (enum-told-here .given .1)
 
 pub write-error-spec : {M : Type 1} → statement M
 write-error-spec =

@@ -78,13 +78,17 @@ loop-less c =
     omega (arith, piece-length (a .b .label) (q .1 .1) log (l .n) (a .b .size) (l .done) (test .taken) _ (piece-at .ensures))
 
 loop-again : tie.Need-loop-again Inv-loop μ-loop
-loop-again c =
-    let a = c .before .before .before .before .before .before .before .before .before .before .before .before .args in
-    let q = c .before .before .before .before .before .before .before .before .before .before .before .before .pre in
+loop-again c = let args = c .before .before .before .before .before .before .before .before .before .before .before .before .args in
+    let if1 = c .before .before .before .before .before .before .if1 in
+    let turn = c .before .before .before .before .before .before .before .before .loop in
+    let piece-at-here = c .before .before .before .before .piece-at in
+    let given = c .before .before .before .before .before .before .before .before .before .before .before .before .pre in
+    let a = args in
+    let q = given in
     let log = joined (a .end .0) (a .log .now) (a .waiting .now) in
-    let l = c .before .before .before .before .before .before .before .before .loop in
-    let test = c .before .before .before .before .before .before .if1 in
-    let piece-at = c .before .before .before .before .piece-at in
+    let l = turn in
+    let test = if1 in
+    let piece-at = piece-at-here in
     let copy-at = c .before .before .copy-at in
     let t = test .taken in
     let e = piece-at .ensures in
@@ -94,7 +98,8 @@ loop-again c =
       omega (arith, k),
       piece-room (a .b .label) (q .1 .1) log (l .n) (a .b .size) (l .done) t p e _ (l .inv .1),
       ap length (copy-at .ensures) ∙ length-put (l .d) (l .done) p (omega (arith, k)) ∙ l .inv .2,
-      put-piece (l .d) _ (l .done) (bytesOf log (blockAt (a .b .label) (l .n) (a .b .size - l .done))) p _ (omega (arith, k, length-bytes log (blockAt (a .b .label) (l .n) (a .b .size - l .done)) (q .1 .1))) (copy-at .ensures) g ∙ l .inv .3,
+      put-piece (l .d) _ (l .done) (bytesOf log (blockAt (a .b .label) (l .n) (a .b .size - l .done))) p _
+          (omega (arith, k, length-bytes log (blockAt (a .b .label) (l .n) (a .b .size - l .done)) (q .1 .1))) (copy-at .ensures) g ∙ l .inv .3,
     )
 
 same-length : tie.Need-same-length Inv-loop μ-loop

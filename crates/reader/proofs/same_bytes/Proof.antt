@@ -134,4 +134,5 @@ returns-2 c =
     sym (same-none _ x (l .done) (test .left) (piece-none (a .b .label) log (l .n) (length x) (l .done) (test .left))) ∙ l .inv .2
 
 pub same-bytes-spec : {M : Type 1} → statement M
-same-bytes-spec = tie.close (tie.spec Inv-loop μ-loop loop-holds sub-piece-at piece-at-requires add-next sub-equal part-equal-start part-equal-end equal-requires returns add-n loop-less loop-again returns-2)
+same-bytes-spec = tie.close (tie.spec Inv-loop μ-loop loop-holds sub-piece-at piece-at-requires add-next sub-equal part-equal-start part-equal-end equal-requires returns add-n loop-less loop-again
+    returns-2)

@@ -66,10 +66,12 @@ part-read-hex-bytes-start : tie.Need-part-read-hex-bytes-start
 part-read-hex-bytes-start c = search needs
 
 part-read-hex-bytes-end : tie.Need-part-read-hex-bytes-end
-part-read-hex-bytes-end c =
-    let a = c .before .before .before .before .before .before .before .args in
+part-read-hex-bytes-end c = let args = c .before .before .before .before .before .before .before .args in
+    let front-length = c .before .before .before .front-length in
+    let sector-at-here = c .before .before .before .before .sector-at in
+    let a = args in
     let log = joined (a .end .0) (a .log .now) (a .waiting .now) in
-    omega (arith, c .before .before .before .front-length .ensures, front-bound (c .before .before .before .before .sector-at .result .now), ap length (c .before .before .before .before .sector-at .ensures) ∙ length-at log (a .first .0))
+    omega (arith, front-length .ensures, front-bound (sector-at-here .result .now), ap length (sector-at-here .ensures) ∙ length-at log (a .first .0))
 
 read-hex-bytes-requires : tie.Need-read-hex-bytes-requires
 read-hex-bytes-requires c κs = search needs
@@ -88,10 +90,12 @@ returns-2 c =
     (ap isHex (sym there) ∙ unread _ _ _ _ (read-hex-bytes .ensures) (not-true _ (c .if2 .taken)))
 
 slice-aggregate-sound-behind : tie.Need-slice-aggregate-sound-behind
-slice-aggregate-sound-behind c =
-    let a = c .before .before .before .before .before .before .before .before .before .before .before .before .args in
+slice-aggregate-sound-behind c = let args = c .before .before .before .before .before .before .before .before .before .before .before .before .args in
+    let front-length = c .before .before .before .before .before .before .before .before .front-length in
+    let sector-at-here = c .before .before .before .before .before .before .before .before .before .sector-at in
+    let a = args in
     let log = joined (a .end .0) (a .log .now) (a .waiting .now) in
-    front-taken log (a .first .0) _ _ (c .before .before .before .before .before .before .before .before .before .sector-at .ensures) (c .before .before .before .before .before .before .before .before .front-length .ensures)
+    front-taken log (a .first .0) _ _ (sector-at-here .ensures) (front-length .ensures)
 
 cast-sound-behind : tie.Need-cast-sound-behind
 cast-sound-behind c =

@@ -89,11 +89,14 @@ parts-of-requires c κs =
     (omega arith, omega (arith, c .before .before .if2 .left))
 
 add-after : tie.Need-add-after
-add-after c =
-    let a = c .before .before .before .before .before .before .before .before .before .before .before .args in
-    let q = c .before .before .before .before .before .before .before .before .before .before .before .pre in
+add-after c = let args = c .before .before .before .before .before .before .before .before .before .before .before .args in
+    let if2-here = c .before .before .before .before .if2 in
+    let number-at-here = c .before .before .before .before .before .before .number-at in
+    let given = c .before .before .before .before .before .before .before .before .before .before .before .pre in
+    let a = args in
+    let q = given in
     let parts-of = c .before .parts-of in
-    omega (arith, q .0, q .1, (c .before .before .before .before .if2 .left), parts-of .ensures, few-parts (payloadOf (length (a .front .now) + 96)) (c .before .before .before .before .before .before .number-at .result))
+    omega (arith, q .0, q .1, (if2-here .left), parts-of .ensures, few-parts (payloadOf (length (a .front .now) + 96)) (number-at-here .result))
 
 add-if4 : tie.Need-add-if4
 add-if4 c = search needs
@@ -214,48 +217,70 @@ equal-requires : tie.Need-equal-requires
 equal-requires c κs = search needs
 
 returns-9 : tie.Need-returns-9
-returns-9 c =
-    let a = c .before .before .before .before .before .before .before .before .before .before .before .before .before .before .before .before .before .before .before .before .before .before .before .before .args in
-    let q = c .before .before .before .before .before .before .before .before .before .before .before .before .before .before .before .before .before .before .before .before .before .before .before .before .pre in
+returns-9 c = let args = c .before .before .before .before .before .before .before .before .before .before .before .before .before .before .before .before .before .before .before .before .before .before .before .before .args in
+    let digest-here = c .before .before .before .digest in
+    let if1-here = c .before .before .before .before .before .before .before .before .before .before .before .before .before .before .before .before .before .before .if1 in
+    let number-at-here = c .before .before .before .before .before .before .before .before .before .before .before .before .before .before .before .before .before .before .before .number-at in
+    let given = c .before .before .before .before .before .before .before .before .before .before .before .before .before .before .before .before .before .before .before .before .before .before .before .before .pre in
+    let a = args in
+    let q = given in
     let log = joined (a .end .0) (a .log .now) (a .waiting .now) in
     let s = at log (a .first .0) in
     let k = length (a .front .now) in
-    let number-at = c .before .before .before .before .before .before .before .before .before .before .before .before .before .before .before .before .before .before .before .number-at in
+    let number-at = number-at-here in
     let size = number-at .result in
-    let if1 = c .before .before .before .before .before .before .before .before .before .before .before .before .before .before .before .before .before .before .if1 in
+    let if1 = if1-here in
     let label = ap (λ (x : Bytes). length x + 96) (q .2) in
     let sized = number-value _ size (number-at .ensures ∙ ap numberOf (field-at s k 44 4 (ap length (q .2)))) (if1 .left) in
-    let digest = c .before .before .before .digest in
+    let digest = digest-here in
     unsound log (a .first .0) (a .kind) (a .score .now) (k + 96) size 9 label sized
     (ap (λ (x : Bytes). same x (a .score .now)) (sym (digest .ensures)) ∙ sym (c .before .equal .ensures) ∙ not-true _ (c .if9 .taken))
 
 returns-10 : tie.Need-returns-10
-returns-10 c =
-    let a = c .before .before .before .before .before .before .before .before .before .before .before .before .before .before .before .before .before .before .before .before .before .before .before .before .args in
-    let q = c .before .before .before .before .before .before .before .before .before .before .before .before .before .before .before .before .before .before .before .before .before .before .before .before .pre in
+returns-10 c = let args = c .before .before .before .before .before .before .before .before .before .before .before .before .before .before .before .before .before .before .before .before .before .before .before .before .args in
+    let checks-fit-here = c .before .before .before .before .before .before .before .checks-fit in
+    let digest-here = c .before .before .before .digest in
+    let if1-here = c .before .before .before .before .before .before .before .before .before .before .before .before .before .before .before .before .before .before .if1 in
+    let if2-here = c .before .before .before .before .before .before .before .before .before .before .before .before .before .before .before .before .before .if2 in
+    let if3-here = c .before .before .before .before .before .before .before .before .before .before .before .before .before .before .before .if3 in
+    let if4-here = c .before .before .before .before .before .before .before .before .before .before .before .if4 in
+    let if5-here = c .before .before .before .before .before .before .before .before .before .before .if5 in
+    let if6-here = c .before .before .before .before .before .before .before .before .if6 in
+    let if7-here = c .before .before .before .before .before .before .if7 in
+    let if8-here = c .before .before .before .before .if8 in
+    let is-lawful-here = c .before .before .before .before .before .before .before .before .before .before .before .before .before .before .before .before .is-lawful in
+    let labels-agree-here = c .before .before .before .before .before .before .before .before .before .labels-agree in
+    let number-at-here = c .before .before .before .before .before .before .before .before .before .before .before .before .before .before .before .before .before .before .before .number-at in
+    let parts-of-here = c .before .before .before .before .before .before .before .before .before .before .before .before .before .before .parts-of in
+    let given = c .before .before .before .before .before .before .before .before .before .before .before .before .before .before .before .before .before .before .before .before .before .before .before .before .pre in
+    let rest-is-zero-here = c .before .before .before .before .before .rest-is-zero in
+    let shared-slice-known = c .before .before .before .before .before .before .before .before .before .before .before .before .before .before .before .before .before .before .before .before .before .before .before .shared-slice-known in
+    let shared-slice-known2 = c .before .before .before .before .before .before .before .before .before .before .before .before .before .before .before .before .before .before .before .before .before .before .shared-slice-known2 in
+    let a = args in
+    let q = given in
     let log = joined (a .end .0) (a .log .now) (a .waiting .now) in
     let s = at log (a .first .0) in
     let k = length (a .front .now) in
-    let number-at = c .before .before .before .before .before .before .before .before .before .before .before .before .before .before .before .before .before .before .before .number-at in
+    let number-at = number-at-here in
     let size = number-at .result in
-    let if1 = c .before .before .before .before .before .before .before .before .before .before .before .before .before .before .before .before .before .before .if1 in
+    let if1 = if1-here in
     let label = ap (λ (x : Bytes). length x + 96) (q .2) in
     let sized = number-value _ size (number-at .ensures ∙ ap numberOf (field-at s k 44 4 (ap length (q .2)))) (if1 .left) in
-    let known = c .before .before .before .before .before .before .before .before .before .before .before .before .before .before .before .before .before .before .before .before .before .before .before .shared-slice-known in
-    let known2 = c .before .before .before .before .before .before .before .before .before .before .before .before .before .before .before .before .before .before .before .before .before .before .shared-slice-known2 in
-    let if2 = c .before .before .before .before .before .before .before .before .before .before .before .before .before .before .before .before .before .if2 in
-    let is-lawful = c .before .before .before .before .before .before .before .before .before .before .before .before .before .before .before .before .is-lawful in
-    let if3 = c .before .before .before .before .before .before .before .before .before .before .before .before .before .before .before .if3 in
-    let parts-of = c .before .before .before .before .before .before .before .before .before .before .before .before .before .before .parts-of in
-    let if4 = c .before .before .before .before .before .before .before .before .before .before .before .if4 in
-    let if5 = c .before .before .before .before .before .before .before .before .before .before .if5 in
-    let labels-agree = c .before .before .before .before .before .before .before .before .before .labels-agree in
-    let if6 = c .before .before .before .before .before .before .before .before .if6 in
-    let checks-fit = c .before .before .before .before .before .before .before .checks-fit in
-    let if7 = c .before .before .before .before .before .before .if7 in
-    let rest-is-zero = c .before .before .before .before .before .rest-is-zero in
-    let if8 = c .before .before .before .before .if8 in
-    let digest = c .before .before .before .digest in
+    let known = shared-slice-known in
+    let known2 = shared-slice-known2 in
+    let if2 = if2-here in
+    let is-lawful = is-lawful-here in
+    let if3 = if3-here in
+    let parts-of = parts-of-here in
+    let if4 = if4-here in
+    let if5 = if5-here in
+    let labels-agree = labels-agree-here in
+    let if6 = if6-here in
+    let checks-fit = checks-fit-here in
+    let if7 = if7-here in
+    let rest-is-zero = rest-is-zero-here in
+    let if8 = if8-here in
+    let digest = digest-here in
     passed log (a .first .0) (a .kind) (a .score .now) (k + 96) size label sized
     (if1 .left)
     (omega (arith, if2 .left))

@@ -36,10 +36,14 @@ same-length : tie.Need-same-length
 same-length c = search needs
 
 returns-2 : tie.Need-returns-2
-returns-2 c =
-    let a = c .before .before .before .before .before .before .before .before .before .before .before .before .args in
-    entered-some (a .log .now) (a .n .0) _ (c .before .before .before .before .before .before .before .before .sound-at .ensures) _ (c .before .before .before .before .before .before .enum-told .given .1) _ (c .before .before .before .before .sector-at .ensures)
-    (a .index .now) _ (c .before .before .enter-label .ensures)
+returns-2 c = let args = c .before .before .before .before .before .before .before .before .before .before .before .before .args in
+    let enter-label = c .before .before .enter-label in
+    let enum-told-here = c .before .before .before .before .before .before .enum-told in
+    let sector-at = c .before .before .before .before .sector-at in
+    let sound-at = c .before .before .before .before .before .before .before .before .sound-at in
+    let a = args in
+    entered-some (a .log .now) (a .n .0) _ (sound-at .ensures) _ (enum-told-here .given .1) _ (sector-at .ensures)
+    (a .index .now) _ (enter-label .ensures)
 
 pub enter-at-spec : {M : Type 1} → statement M
 enter-at-spec =

@@ -23,9 +23,12 @@ same-length : tie.Need-same-length
 same-length c = search needs
 
 returns-2 : tie.Need-returns-2
-returns-2 c =
-    let a = c .before .before .before .before .before .before .before .before .before .before .before .before .args in
-    rebuild-done (a .log .now) (a .index .now) _ (c .before .before .before .before .before .before .before .before .before .is-allowed .ensures) _ _ (not-false _ (c .before .before .before .before .before .before .before .before .if1 .left)) (c .before .before .before .before .before .before .clear .ensures) (c .before .before .enter-all .ensures)
+returns-2 c = let args = c .before .before .before .before .before .before .before .before .before .before .before .before .args in
+    let clear = c .before .before .before .before .before .before .clear in
+    let if1 = c .before .before .before .before .before .before .before .before .if1 in
+    let is-allowed = c .before .before .before .before .before .before .before .before .before .is-allowed in
+    let a = args in
+    rebuild-done (a .log .now) (a .index .now) _ (is-allowed .ensures) _ _ (not-false _ (if1 .left)) (clear .ensures) (c .before .before .enter-all .ensures)
 
 pub rebuild-spec : {M : Type 1} → statement M
 rebuild-spec =

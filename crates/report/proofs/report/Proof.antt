@@ -37,11 +37,17 @@ same-length : tie.Need-same-length
 same-length c = search needs
 
 returns-3 : tie.Need-returns-3
-returns-3 c =
-    let a = c .before .before .before .before .before .before .before .before .before .before .before .args in
-    report-written (a .log .now) (a .buffer .now) (omega (arith, c .before .before .before .before .before .before .before .before .if1 .left)) _ (c .before .before .before .before .before .before .before .is-allowed .ensures) _
-    (c .before .before .before .before .before .used-part .result .0) (c .before .before .before .before .scan .result) (c .before .before .write-text .result) (not-false _ (c .before .before .before .before .before .before .if2 .left))
-    (c .before .before .before .before .before .used-part .ensures) (c .before .before .before .before .scan .ensures) (c .before .before .write-text .ensures)
+returns-3 c = let args = c .before .before .before .before .before .before .before .before .before .before .before .args in
+    let if1 = c .before .before .before .before .before .before .before .before .if1 in
+    let if2 = c .before .before .before .before .before .before .if2 in
+    let is-allowed = c .before .before .before .before .before .before .before .is-allowed in
+    let scan = c .before .before .before .before .scan in
+    let used-part = c .before .before .before .before .before .used-part in
+    let write-text = c .before .before .write-text in
+    let a = args in
+    report-written (a .log .now) (a .buffer .now) (omega (arith, if1 .left)) _ (is-allowed .ensures) _
+    (used-part .result .0) (scan .result) (write-text .result) (not-false _ (if2 .left))
+    (used-part .ensures) (scan .ensures) (write-text .ensures)
 
 pub report-spec : {M : Type 1} → statement M
 report-spec =

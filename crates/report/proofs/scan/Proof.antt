@@ -43,33 +43,48 @@ enum-known-place c = search needs
 
 -- src/lib.rt:41:21
 parts-of-requires : tie.Need-parts-of-requires Inv-loop μ-loop
-parts-of-requires c κs =
-    let b = block-bounds ((c .before .before .before .before .before .before .before .before .before .args .log .now)) ((c .before .before .before .before .before .before .before .loop .n)) ((c .before .before .before .sound-at .result)) _ ((c .before .before .before .sound-at .ensures) ∙ placed-alone ((c .before .before .before .before .before .before .before .before .before .args .log .now)) ((c .before .before .before .before .before .before .before .loop .n))) ((c .before .place .given .1)) in
+parts-of-requires c κs = let args = c .before .before .before .before .before .before .before .before .before .args in
+    let l = c .before .before .before .before .before .before .before .loop in
+    let sound-at = c .before .before .before .sound-at in
+    let b = block-bounds (args .log .now) (l .n) (sound-at .result) _ ((sound-at .ensures) ∙ placed-alone (args .log .now) (l .n)) ((c .before .place .given .1)) in
     (b .0, omega (arith, b .1))
 
 -- src/lib.rt:42:17
 add-records : tie.Need-add-records Inv-loop μ-loop
-add-records c =
-    let on = counted-some ((c .before .before .before .before .before .before .before .before .before .before .args .log .now)) ((c .before .before .before .before .before .before .before .before .loop .n)) ((c .before .before .before .before .before .before .before .before .loop .records)) ((c .before .before .before .before .before .before .before .before .loop .doubtful)) ((c .before .before .before .before .sound-at .result)) _ ((c .before .before .before .before .before .before .before .before .loop .inv)) ((c .before .before .before .before .sound-at .ensures) ∙ placed-alone ((c .before .before .before .before .before .before .before .before .before .before .args .log .now)) ((c .before .before .before .before .before .before .before .before .loop .n))) ((c .before .before .place .given .1)) in
-    omega (arith, (c .before .before .before .before .before .before .before .before .loop .inv .few), (c .before .before .before .before .before .before .before .before .loop .inv .inside), on .inside, (c .parts-of .ensures), used-le-sectors ((c .before .before .before .before .before .before .before .before .before .before .args .log .now)))
+add-records c = let args = c .before .before .before .before .before .before .before .before .before .before .args in
+    let l = c .before .before .before .before .before .before .before .before .loop in
+    let sound-at = c .before .before .before .before .sound-at in
+    let on = counted-some (args .log .now) (l .n) (l .records) (l .doubtful) (sound-at .result) _ (l .inv) ((sound-at .ensures) ∙ placed-alone (args .log .now) (l .n))
+    ((c .before .before .place .given .1)) in
+    omega (arith, (l .inv .few), (l .inv .inside), on .inside, (c .parts-of .ensures), used-le-sectors (args .log .now))
 
 -- src/lib.rt:43:17
 add-n : tie.Need-add-n Inv-loop μ-loop
-add-n c =
-    let on = counted-some ((c .before .before .before .before .before .before .before .before .before .before .args .log .now)) ((c .before .before .before .before .before .before .before .before .loop .n)) ((c .before .before .before .before .before .before .before .before .loop .records)) ((c .before .before .before .before .before .before .before .before .loop .doubtful)) ((c .before .before .before .before .sound-at .result)) _ ((c .before .before .before .before .before .before .before .before .loop .inv)) ((c .before .before .before .before .sound-at .ensures) ∙ placed-alone ((c .before .before .before .before .before .before .before .before .before .before .args .log .now)) ((c .before .before .before .before .before .before .before .before .loop .n))) ((c .before .before .place .given .1)) in
-    omega (arith, (c .before .before .before .before .before .before .before .before .loop .inv .inside), on .inside, (c .parts-of .ensures), used-le-sectors ((c .before .before .before .before .before .before .before .before .before .before .args .log .now)))
+add-n c = let args = c .before .before .before .before .before .before .before .before .before .before .args in
+    let l = c .before .before .before .before .before .before .before .before .loop in
+    let sound-at = c .before .before .before .before .sound-at in
+    let on = counted-some (args .log .now) (l .n) (l .records) (l .doubtful) (sound-at .result) _ (l .inv) ((sound-at .ensures) ∙ placed-alone (args .log .now) (l .n))
+    ((c .before .before .place .given .1)) in
+    omega (arith, (l .inv .inside), on .inside, (c .parts-of .ensures), used-le-sectors (args .log .now))
 
 -- src/lib.rt:37:5
 loop-less : tie.Need-loop-less Inv-loop μ-loop
-loop-less c =
-    let on = counted-some ((c .before .before .before .before .before .before .before .before .before .before .args .log .now)) ((c .before .before .before .before .before .before .before .before .loop .n)) ((c .before .before .before .before .before .before .before .before .loop .records)) ((c .before .before .before .before .before .before .before .before .loop .doubtful)) ((c .before .before .before .before .sound-at .result)) _ ((c .before .before .before .before .before .before .before .before .loop .inv)) ((c .before .before .before .before .sound-at .ensures) ∙ placed-alone ((c .before .before .before .before .before .before .before .before .before .before .args .log .now)) ((c .before .before .before .before .before .before .before .before .loop .n))) ((c .before .before .place .given .1)) in
-    let pos = parts-some ((c .before .before .before .before .before .before .before .before .before .before .args .log .now)) ((c .before .before .before .before .before .before .before .before .loop .n)) ((c .before .before .before .before .sound-at .result)) _ ((c .before .before .before .before .sound-at .ensures) ∙ placed-alone ((c .before .before .before .before .before .before .before .before .before .before .args .log .now)) ((c .before .before .before .before .before .before .before .before .loop .n))) ((c .before .before .place .given .1)) in
-    omega (arith, on .inside, (c .parts-of .ensures), pos, (c .before .before .before .before .before .before .before .before .before .before .pre))
+loop-less c = let args = c .before .before .before .before .before .before .before .before .before .before .args in
+    let l = c .before .before .before .before .before .before .before .before .loop in
+    let place = c .before .before .place in
+    let given = c .before .before .before .before .before .before .before .before .before .before .pre in
+    let sound-at = c .before .before .before .before .sound-at in
+    let on = counted-some (args .log .now) (l .n) (l .records) (l .doubtful) (sound-at .result) _ (l .inv) ((sound-at .ensures) ∙ placed-alone (args .log .now) (l .n)) (place .given .1) in
+    let pos = parts-some (args .log .now) (l .n) (sound-at .result) _ ((sound-at .ensures) ∙ placed-alone (args .log .now) (l .n)) (place .given .1) in
+    omega (arith, on .inside, (c .parts-of .ensures), pos, given)
 
 -- src/lib.rt:37:5
 loop-again : tie.Need-loop-again Inv-loop μ-loop
-loop-again c =
-    let on = counted-some ((c .before .before .before .before .before .before .before .before .before .before .args .log .now)) ((c .before .before .before .before .before .before .before .before .loop .n)) ((c .before .before .before .before .before .before .before .before .loop .records)) ((c .before .before .before .before .before .before .before .before .loop .doubtful)) ((c .before .before .before .before .sound-at .result)) _ ((c .before .before .before .before .before .before .before .before .loop .inv)) ((c .before .before .before .before .sound-at .ensures) ∙ placed-alone ((c .before .before .before .before .before .before .before .before .before .before .args .log .now)) ((c .before .before .before .before .before .before .before .before .loop .n))) ((c .before .before .place .given .1)) in
+loop-again c = let args = c .before .before .before .before .before .before .before .before .before .before .args in
+    let l = c .before .before .before .before .before .before .before .before .loop in
+    let sound-at = c .before .before .before .before .sound-at in
+    let on = counted-some (args .log .now) (l .n) (l .records) (l .doubtful) (sound-at .result) _ (l .inv) ((sound-at .ensures) ∙ placed-alone (args .log .now) (l .n))
+    ((c .before .before .place .given .1)) in
     rw ((c .parts-of .ensures)) on
 
 -- src/lib.rt:46:17
@@ -78,8 +93,9 @@ enum-told c = search needs
 
 -- src/lib.rt:46:17
 add-doubtful : tie.Need-add-doubtful Inv-loop μ-loop
-add-doubtful c =
-    omega (arith, (c .before .before .before .before .before .before .loop .inv .few), (c .before .before .before .before .before .before .loop .inv .inside), used-le-sectors ((c .before .before .before .before .before .before .before .before .args .log .now)))
+add-doubtful c = let args = c .before .before .before .before .before .before .before .before .args in
+    let l = c .before .before .before .before .before .before .loop in
+    omega (arith, (l .inv .few), (l .inv .inside), used-le-sectors (args .log .now))
 
 -- src/lib.rt:47:17
 add-n-2 : tie.Need-add-n-2 Inv-loop μ-loop
@@ -93,13 +109,20 @@ loop-less-2 c =
 
 -- src/lib.rt:37:5
 loop-again-2 : tie.Need-loop-again-2 Inv-loop μ-loop
-loop-again-2 c =
-    counted-none ((c .before .before .before .before .before .before .before .before .args .log .now)) ((c .before .before .before .before .before .before .loop .n)) ((c .before .before .before .before .before .before .loop .records)) ((c .before .before .before .before .before .before .loop .doubtful)) ((c .before .before .sound-at .result)) ((c .before .before .before .before .before .before .loop .inv)) (omega (arith, (c .before .before .before .before .before .before .before .before .pre), (c .before .before .before .before .if1 .taken))) ((c .before .before .sound-at .ensures) ∙ placed-alone ((c .before .before .before .before .before .before .before .before .args .log .now)) ((c .before .before .before .before .before .before .loop .n))) ((c .enum-told .given .1))
+loop-again-2 c = let args = c .before .before .before .before .before .before .before .before .args in
+    let if1 = c .before .before .before .before .if1 in
+    let l = c .before .before .before .before .before .before .loop in
+    let given = c .before .before .before .before .before .before .before .before .pre in
+    let sound-at = c .before .before .sound-at in
+    counted-none (args .log .now) (l .n) (l .records) (l .doubtful) (sound-at .result) (l .inv) (omega (arith, given, (if1 .taken))) ((sound-at .ensures) ∙ placed-alone (args .log .now) (l .n))
+    ((c .enum-told .given .1))
 
 -- src/lib.rt:28:1
 returns : tie.Need-returns Inv-loop μ-loop
-returns c =
-    counted-end ((c .before .before .before .before .args .log .now)) ((c .before .before .loop .n)) ((c .before .before .loop .records)) ((c .before .before .loop .doubtful)) ((c .before .before .loop .inv)) (omega (arith, (c .before .before .before .before .pre), (c .if1 .left)))
+returns c = let args = c .before .before .before .before .args in
+    let l = c .before .before .loop in
+    let given = c .before .before .before .before .pre in
+    counted-end (args .log .now) (l .n) (l .records) (l .doubtful) (l .inv) (omega (arith, given, (c .if1 .left)))
 
 pub scan-spec : {M : Type 1} → statement M
 scan-spec =

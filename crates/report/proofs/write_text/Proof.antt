@@ -67,14 +67,18 @@ same-length : tie.Need-same-length
 same-length c = search needs
 
 returns : tie.Need-returns
-returns c =
+returns c = let write-line = c .before .before .before .before .before .before .before .before .before .before .before .before .before .before .before .before .before .before .before .before .before .write-line in
+    let write-line2 = c .before .before .before .before .before .before .before .before .before .before .before .before .before .before .before .before .write-line2 in
+    let write-line3 = c .before .before .before .before .before .before .before .before .before .before .before .write-line3 in
+    let write-line4 = c .before .before .before .before .before .before .write-line4 in
+    let write-verdict = c .before .before .write-verdict in
     let s = c .before .before .before .before .before .before .before .before .before .before .before .before .before .before .before .before .before .before .before .before .before .before .before .before .before in
     text-written (s .args .d .now) _ _ _ _ _ (s .args .count) (s .args .end) (s .args .s) _ _ _ _ _ (s .pre)
-    (c .before .before .before .before .before .before .before .before .before .before .before .before .before .before .before .before .before .before .before .before .before .write-line .ensures)
-    (c .before .before .before .before .before .before .before .before .before .before .before .before .before .before .before .before .write-line2 .ensures)
-    (c .before .before .before .before .before .before .before .before .before .before .before .write-line3 .ensures)
-    (c .before .before .before .before .before .before .write-line4 .ensures)
-    (c .before .before .write-verdict .ensures)
+    (write-line .ensures)
+    (write-line2 .ensures)
+    (write-line3 .ensures)
+    (write-line4 .ensures)
+    (write-verdict .ensures)
 
 pub write-text-spec : {M : Type 1} → statement M
 write-text-spec =

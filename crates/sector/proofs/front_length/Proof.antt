@@ -40,8 +40,8 @@ equal-requires c κs = search needs
 
 -- src/lib.rt:62:9
 returns-2 : tie.Need-returns-2
-returns-2 c =
-    front-none ((c .before .before .before .before .before .before .before .args .s .now)) (λ e. unequal _ _ _ ((c .before .equal .ensures)) (not-true _ ((c .if2 .taken))) (dated-name ((c .before .before .before .before .before .before .before .args .s .now)) e))
+returns-2 c = let a = c .before .before .before .before .before .before .before .args in
+    front-none (a .s .now) (λ e. unequal _ _ _ ((c .before .equal .ensures)) (not-true _ ((c .if2 .taken))) (dated-name (a .s .now) e))
 
 -- src/lib.rt:64:17
 sub-is-date : tie.Need-sub-is-date
@@ -61,13 +61,18 @@ is-date-requires c κs = search needs
 
 -- src/lib.rt:65:9
 returns-3 : tie.Need-returns-3
-returns-3 c =
-    front-none ((c .before .before .before .before .before .before .before .before .before .before .args .s .now)) (λ e. denied _ _ ((c .before .is-date .ensures)) (not-true _ ((c .if3 .taken))) (dated-date ((c .before .before .before .before .before .before .before .before .before .before .args .s .now)) e))
+returns-3 c = let a = c .before .before .before .before .before .before .before .before .before .before .args in
+    front-none (a .s .now) (λ e. denied _ _ ((c .before .is-date .ensures)) (not-true _ ((c .if3 .taken))) (dated-date (a .s .now) e))
 
 -- src/lib.rt:54:1
 returns-4 : tie.Need-returns-4
-returns-4 c =
-    front-some ((c .before .before .before .before .before .before .before .before .before .before .args .s .now)) (dated-by ((c .before .before .before .before .before .before .before .before .before .before .args .s .now)) ((c .before .before .before .before .before .before .before .before .before .before .pre)) (same-true _ _ (sym ((c .before .before .before .before .equal .ensures)) ∙ not-false _ ((c .before .before .before .if2 .left)))) ((c .before .before .before .before .before .before .before .if1 .left)) (sym ((c .before .is-date .ensures)) ∙ not-false _ ((c .if3 .left))))
+returns-4 c = let a = c .before .before .before .before .before .before .before .before .before .before .args in
+    let equal = c .before .before .before .before .equal in
+    let if1 = c .before .before .before .before .before .before .before .if1 in
+    let if2 = c .before .before .before .if2 in
+    let given = c .before .before .before .before .before .before .before .before .before .before .pre in
+    front-some (a .s .now) (dated-by (a .s .now) given (same-true _ _ (sym (equal .ensures) ∙ not-false _ (if2 .left))) (if1 .left)
+    (sym ((c .before .is-date .ensures)) ∙ not-false _ ((c .if3 .left))))
 
 pub front-length-spec : {M : Type 1} → statement M
 front-length-spec =

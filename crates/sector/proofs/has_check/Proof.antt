@@ -55,10 +55,12 @@ equal-requires c κs = search needs
 
 returns : tie.Need-returns
 unfolding fits check hex
-returns c =
-    let s = (c .before .before .before .before .before .before .before .before .before .before .args .s .now) in
+returns c = let a = c .before .before .before .before .before .before .before .before .before .before .args in
+    let crc32 = c .before .before .before .before .before .before .before .crc32 in
+    let write-line = c .before .before .before .before .write-line in
+    let s = (a .s .now) in
     let tail : take (length s - 499) (drop 499 s) ≡ drop 499 s = take-all (length s - 499) (drop 499 s) (omega (arith, length-drop 499 s)) in
-    (c .equal .ensures) ∙ ap₂ same tail ((c .before .before .before .before .write-line .ensures) ∙ put-whole (replicate 13 0) (line crcName (hex 8 ((c .before .before .before .before .before .before .before .crc32 .result)))) refl ∙ ap (λ (k : ℕ). line crcName (hex 8 k)) ((c .before .before .before .before .before .before .before .crc32 .ensures)))
+    (c .equal .ensures) ∙ ap₂ same tail ((write-line .ensures) ∙ put-whole (replicate 13 0) (line crcName (hex 8 (crc32 .result))) refl ∙ ap (λ (k : ℕ). line crcName (hex 8 k)) (crc32 .ensures))
 
 pub has-check-spec : {M : Type 1} → statement M
 has-check-spec =

@@ -21,8 +21,9 @@ use Rattle.sector.proofs.write_label.Reads as write-label-reads
 
 -- src/lib.rt:124:23
 slice-aggregate-equal : tie.Need-slice-aggregate-equal
-slice-aggregate-equal c =
-    sym (length-take-le (length ((c .before .before .before .before .args .front .now))) ((c .before .before .before .before .args .s .now)) (omega (arith, (c .before .before .before .before .pre .0))))
+slice-aggregate-equal c = let a = c .before .before .before .before .args in
+    let given = c .before .before .before .before .pre in
+    sym (length-take-le (length (a .front .now)) (a .s .now) (omega (arith, (given .0))))
 
 -- src/lib.rt:124:9
 equal-requires : tie.Need-equal-requires
@@ -30,8 +31,10 @@ equal-requires c κs = search needs
 
 -- src/lib.rt:125:9
 returns : tie.Need-returns
-returns c =
-    sym (label-unlike ((c .before .before .before .before .before .before .args .s .now)) ((c .before .before .before .before .before .before .args .front .now)) (labelOf ((c .before .before .before .before .before .before .args .l)) ((c .before .before .before .before .before .before .args .score .now))) 96 _ (length-label ((c .before .before .before .before .before .before .args .l)) ((c .before .before .before .before .before .before .args .score .now)) ((c .before .before .before .before .before .before .pre .1))) ((c .before .before .before .before .before .before .pre .0)) ((c .before .equal .ensures)) (not-true _ ((c .if1 .taken))))
+returns c = let a = c .before .before .before .before .before .before .args in
+    let given = c .before .before .before .before .before .before .pre in
+    sym (label-unlike (a .s .now) (a .front .now) (labelOf (a .l) (a .score .now)) 96 _ (length-label (a .l) (a .score .now) (given .1)) (given .0) ((c .before .equal .ensures))
+    (not-true _ ((c .if1 .taken))))
 
 -- src/lib.rt:128:17
 slice-aggregate-write-label : tie.Need-slice-aggregate-write-label
@@ -67,8 +70,14 @@ equal-requires-2 c κs = search needs
 
 -- src/lib.rt:119:1
 returns-2 : tie.Need-returns-2
-returns-2 c =
-    label-alike ((c .before .before .before .before .before .before .before .before .before .before .before .before .args .s .now)) ((c .before .before .before .before .before .before .before .before .before .before .before .before .args .front .now)) (labelOf ((c .before .before .before .before .before .before .before .before .before .before .before .before .args .l)) ((c .before .before .before .before .before .before .before .before .before .before .before .before .args .score .now))) 96 _ _ (length-label ((c .before .before .before .before .before .before .before .before .before .before .before .before .args .l)) ((c .before .before .before .before .before .before .before .before .before .before .before .before .args .score .now)) ((c .before .before .before .before .before .before .before .before .before .before .before .before .pre .1))) ((c .before .before .before .before .before .before .before .before .before .before .before .before .pre .0)) ((c .before .before .before .before .before .before .before .equal .ensures)) (not-false _ ((c .before .before .before .before .before .before .if1 .left))) ((c .equal2 .ensures) ∙ ap (same (take (length ((c .before .before .before .before .before .before .before .before .before .before .before .before .args .front .now)) + 96 - length ((c .before .before .before .before .before .before .before .before .before .before .before .before .args .front .now))) (drop (length ((c .before .before .before .before .before .before .before .before .before .before .before .before .args .front .now))) ((c .before .before .before .before .before .before .before .before .before .before .before .before .args .s .now))))) ((c .before .before .before .before .write-label .ensures) ∙ put-whole _ (labelOf ((c .before .before .before .before .before .before .before .before .before .before .before .before .args .l)) ((c .before .before .before .before .before .before .before .before .before .before .before .before .args .score .now))) (length-label ((c .before .before .before .before .before .before .before .before .before .before .before .before .args .l)) ((c .before .before .before .before .before .before .before .before .before .before .before .before .args .score .now)) ((c .before .before .before .before .before .before .before .before .before .before .before .before .pre .1)))))
+returns-2 c = let a = c .before .before .before .before .before .before .before .before .before .before .before .before .args in
+    let equal = c .before .before .before .before .before .before .before .equal in
+    let if1 = c .before .before .before .before .before .before .if1 in
+    let given = c .before .before .before .before .before .before .before .before .before .before .before .before .pre in
+    let write-label = c .before .before .before .before .write-label in
+    label-alike (a .s .now) (a .front .now) (labelOf (a .l) (a .score .now)) 96 _ _ (length-label (a .l) (a .score .now) (given .1)) (given .0) (equal .ensures) (not-false _ (if1 .left))
+    ((c .equal2 .ensures) ∙ ap (same (take (length (a .front .now) + 96 - length (a .front .now)) (drop (length (a .front .now)) (a .s .now))))
+    ((write-label .ensures) ∙ put-whole _ (labelOf (a .l) (a .score .now)) (length-label (a .l) (a .score .now) (given .1))))
 
 pub has-label-spec : {M : Type 1} → statement M
 has-label-spec =

@@ -30,11 +30,15 @@ shared-slice-read-b c = search needs
 
 -- src/lib.rt:43:13
 returns-2 : tie.Need-returns-2 Inv-loop μ-loop
-returns-2 c = sym (of-eight ((c .before .before .before .before .before .args .d .now)) ((c .before .before .before .loop .inv .1)) ∙ sym ((c .before .before .before .loop .inv .2)) ∙ too-low ((c .before .before .before .before .before .args .d .now)) ((c .before .before .before .loop .i)) (omega arith) (omega arith))
+returns-2 c = let a = c .before .before .before .before .before .args in
+    let l = c .before .before .before .loop in
+    sym (of-eight (a .d .now) (l .inv .1) ∙ sym (l .inv .2) ∙ too-low (a .d .now) (l .i) (omega arith) (omega arith))
 
 -- src/lib.rt:46:13
 returns-3 : tie.Need-returns-3 Inv-loop μ-loop
-returns-3 c = sym (of-eight ((c .before .before .before .before .before .before .args .d .now)) ((c .before .before .before .before .loop .inv .1)) ∙ sym ((c .before .before .before .before .loop .inv .2)) ∙ too-high ((c .before .before .before .before .before .before .args .d .now)) ((c .before .before .before .before .loop .i)) (omega arith) (omega arith))
+returns-3 c = let a = c .before .before .before .before .before .before .args in
+    let l = c .before .before .before .before .loop in
+    sym (of-eight (a .d .now) (l .inv .1) ∙ sym (l .inv .2) ∙ too-high (a .d .now) (l .i) (omega arith) (omega arith))
 
 -- src/lib.rt:48:9
 add-i : tie.Need-add-i Inv-loop μ-loop
@@ -46,13 +50,16 @@ loop-less c = search needs
 
 -- src/lib.rt:40:5
 loop-again : tie.Need-loop-again Inv-loop μ-loop
-loop-again c = (omega arith, (c .before .before .before .before .loop .inv .1), sym (decimal ((c .before .before .before .before .before .before .args .d .now)) ((c .before .before .before .before .loop .i)) (omega arith) (omega arith) (omega arith)) ∙ (c .before .before .before .before .loop .inv .2))
+loop-again c = let a = c .before .before .before .before .before .before .args in
+    let l = c .before .before .before .before .loop in
+    (omega arith, (l .inv .1), sym (decimal (a .d .now) (l .i) (omega arith) (omega arith) (omega arith)) ∙ (l .inv .2))
 
 -- src/lib.rt:33:1
 returns-4 : tie.Need-returns-4 Inv-loop μ-loop
-returns-4 c =
-    let g : length ((c .before .before .before .args .d .now)) ≤ (c .before .loop .i) = omega arith in
-    sym (of-eight ((c .before .before .before .args .d .now)) ((c .before .loop .inv .1)) ∙ sym ((c .before .loop .inv .2)) ∙ ap decimals (drop-of-length-le ((c .before .before .before .args .d .now)) g))
+returns-4 c = let a = c .before .before .before .args in
+    let l = c .before .loop in
+    let g : length (a .d .now) ≤ (l .i) = omega arith in
+    sym (of-eight (a .d .now) (l .inv .1) ∙ sym (l .inv .2) ∙ ap decimals (drop-of-length-le (a .d .now) g))
 
 pub is-date-spec : {M : Type 1} → statement M
 is-date-spec =

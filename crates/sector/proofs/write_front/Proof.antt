@@ -28,13 +28,18 @@ slice-write-d c = search needs
 
 -- src/lib.rt:71:1
 same-length : tie.Need-same-length
-same-length c =
-    ap length (front-written ((c .before .before .before .before .before .before .before .before .before .before .before .args .d .now)) _ _ ((c .before .before .before .before .before .before .before .before .before .before .before .args .date .now)) ((c .before .before .before .before .before .before .before .before .before .before .before .pre .0)) ((c .before .before .before .before .before .before .before .before .before .before .before .pre .1)) ((c .before .before .before .before .before .before .copy-at .ensures)) ((c .before .before .copy-at2 .ensures))) ∙ omega (arith, (c .before .before .before .before .before .before .before .before .before .before .before .pre .0), (c .before .before .before .before .before .before .before .before .before .before .before .pre .1), length-date ((c .before .before .before .before .before .before .before .before .before .before .before .args .date .now)))
+same-length c = let a = c .before .before .before .before .before .before .before .before .before .before .before .args in
+    let copy-at = c .before .before .before .before .before .before .copy-at in
+    let given = c .before .before .before .before .before .before .before .before .before .before .before .pre in
+    ap length (front-written (a .d .now) _ _ (a .date .now) (given .0) (given .1) (copy-at .ensures) ((c .before .before .copy-at2 .ensures)))
+    ∙ omega (arith, (given .0), (given .1), length-date (a .date .now))
 
 -- src/lib.rt:71:1
 returns : tie.Need-returns
-returns c =
-    front-written ((c .before .before .before .before .before .before .before .before .before .before .before .args .d .now)) _ _ ((c .before .before .before .before .before .before .before .before .before .before .before .args .date .now)) ((c .before .before .before .before .before .before .before .before .before .before .before .pre .0)) ((c .before .before .before .before .before .before .before .before .before .before .before .pre .1)) ((c .before .before .before .before .before .before .copy-at .ensures)) ((c .before .before .copy-at2 .ensures))
+returns c = let a = c .before .before .before .before .before .before .before .before .before .before .before .args in
+    let copy-at = c .before .before .before .before .before .before .copy-at in
+    let given = c .before .before .before .before .before .before .before .before .before .before .before .pre in
+    front-written (a .d .now) _ _ (a .date .now) (given .0) (given .1) (copy-at .ensures) ((c .before .before .copy-at2 .ensures))
 
 pub write-front-spec : {M : Type 1} → statement M
 write-front-spec =

@@ -45,21 +45,37 @@ write-line-requires-5 : tie.Need-write-line-requires-5
 write-line-requires-5 c κs = search needs
 
 write-score-requires : tie.Need-write-score-requires
-write-score-requires c κs =
-    let k₁ : length ((c .before .before .before .before .before .before .before .before .before .before .before .before .before .before .before .before .before .before .before .before .before .before .before .before .write-line .last .0)) ≡ length ((c .before .before .before .before .before .before .before .before .before .before .before .before .before .before .before .before .before .before .before .before .before .before .before .before .before .before .before .before .before .before .args .d .now)) = (c .before .before .before .before .before .before .before .before .before .before .before .before .before .before .before .before .before .before .before .before .before .before .before .before .write-line .kept .0) in
-    let k₂ : length ((c .before .before .before .before .before .before .before .before .before .before .before .before .before .before .before .before .before .before .before .write-line2 .last .0)) ≡ length ((c .before .before .before .before .before .before .before .before .before .before .before .before .before .before .before .before .before .before .before .before .before .before .before .before .write-line .last .0)) = (c .before .before .before .before .before .before .before .before .before .before .before .before .before .before .before .before .before .before .before .write-line2 .kept .0) in
-    let k₃ : length ((c .before .before .before .before .before .before .before .before .before .before .before .before .before .before .write-line3 .last .0)) ≡ length ((c .before .before .before .before .before .before .before .before .before .before .before .before .before .before .before .before .before .before .before .write-line2 .last .0)) = (c .before .before .before .before .before .before .before .before .before .before .before .before .before .before .write-line3 .kept .0) in
-    let k₄ : length ((c .before .before .before .before .before .before .before .before .write-line4 .last .0)) ≡ length ((c .before .before .before .before .before .before .before .before .before .before .before .before .before .before .write-line3 .last .0)) = (c .before .before .before .before .before .before .before .before .write-line4 .kept .0) in
-    let k₅ : length ((c .before .before .before .write-line5 .last .0)) ≡ length ((c .before .before .before .before .before .before .before .before .write-line4 .last .0)) = (c .before .before .before .write-line5 .kept .0) in
-    let p : 96 ≤ length ((c .before .before .before .before .before .before .before .before .before .before .before .before .before .before .before .before .before .before .before .before .before .before .before .before .before .before .before .before .before .before .args .d .now)) = (c .before .before .before .before .before .before .before .before .before .before .before .before .before .before .before .before .before .before .before .before .before .before .before .before .before .before .before .before .before .before .pre .0) in
-    let g : 96 ≤ length ((c .before .before .before .write-line5 .last .0)) = omega (arith, p) in
-    (g, (c .before .before .before .before .before .before .before .before .before .before .before .before .before .before .before .before .before .before .before .before .before .before .before .before .before .before .before .before .before .before .pre .1))
+write-score-requires c κs = let a =
+    c .before .before .before .before .before .before .before .before .before .before .before .before .before .before .before .before .before .before .before .before .before .before .before .before .before .before .before .before .before .before .args in
+    let given = c .before .before .before .before .before .before .before .before .before .before .before .before .before .before .before .before .before .before .before .before .before .before .before .before .before .before .before .before .before .before .pre in
+    let write-line = c .before .before .before .before .before .before .before .before .before .before .before .before .before .before .before .before .before .before .before .before .before .before .before .before .write-line in
+    let write-line2 = c .before .before .before .before .before .before .before .before .before .before .before .before .before .before .before .before .before .before .before .write-line2 in
+    let write-line3 = c .before .before .before .before .before .before .before .before .before .before .before .before .before .before .write-line3 in
+    let write-line4 = c .before .before .before .before .before .before .before .before .write-line4 in
+    let write-line5 = c .before .before .before .write-line5 in
+    let k₁ : length (write-line .last .0) ≡ length (a .d .now) = (write-line .kept .0) in
+    let k₂ : length (write-line2 .last .0) ≡ length (write-line .last .0) = (write-line2 .kept .0) in
+    let k₃ : length (write-line3 .last .0) ≡ length (write-line2 .last .0) = (write-line3 .kept .0) in
+    let k₄ : length (write-line4 .last .0) ≡ length (write-line3 .last .0) = (write-line4 .kept .0) in
+    let k₅ : length (write-line5 .last .0) ≡ length (write-line4 .last .0) = (write-line5 .kept .0) in
+    let p : 96 ≤ length (a .d .now) = (given .0) in
+    let g : 96 ≤ length (write-line5 .last .0) = omega (arith, p) in
+    (g, (given .1))
 
 same-length : tie.Need-same-length
 same-length c = search needs
 
 returns : tie.Need-returns
-returns c = label-written ((c .before .before .before .before .before .before .before .before .before .before .before .before .before .before .before .before .before .before .before .before .before .before .before .before .before .before .before .before .before .before .before .before .before .args .d .now)) _ _ _ _ _ _ ((c .before .before .before .before .before .before .before .before .before .before .before .before .before .before .before .before .before .before .before .before .before .before .before .before .before .before .before .before .before .before .before .before .before .args .l)) ((c .before .before .before .before .before .before .before .before .before .before .before .before .before .before .before .before .before .before .before .before .before .before .before .before .before .before .before .before .before .before .before .before .before .args .score .now)) ((c .before .before .before .before .before .before .before .before .before .before .before .before .before .before .before .before .before .before .before .before .before .before .before .before .before .before .before .before .before .before .before .before .before .pre .0)) ((c .before .before .before .before .before .before .before .before .before .before .before .before .before .before .before .before .before .before .before .before .before .before .before .before .before .before .before .before .before .before .before .before .before .pre .1)) ((c .before .before .before .before .before .before .before .before .before .before .before .before .before .before .before .before .before .before .before .before .before .before .before .before .before .before .before .write-line .ensures)) ((c .before .before .before .before .before .before .before .before .before .before .before .before .before .before .before .before .before .before .before .before .before .before .write-line2 .ensures)) ((c .before .before .before .before .before .before .before .before .before .before .before .before .before .before .before .before .before .write-line3 .ensures)) ((c .before .before .before .before .before .before .before .before .before .before .before .write-line4 .ensures)) ((c .before .before .before .before .before .before .write-line5 .ensures)) ((c .before .before .write-score .ensures))
+returns c = let a = c .before .before .before .before .before .before .before .before .before .before .before .before .before .before .before .before .before .before .before .before .before .before .before .before .before .before .before .before .before .before .before .before .before .args in
+    let given = c .before .before .before .before .before .before .before .before .before .before .before .before .before .before .before .before .before .before .before .before .before .before .before .before .before .before .before .before .before .before .before .before .before .pre in
+    let write-line = c .before .before .before .before .before .before .before .before .before .before .before .before .before .before .before .before .before .before .before .before .before .before .before .before .before .before .before .write-line in
+    let write-line2 = c .before .before .before .before .before .before .before .before .before .before .before .before .before .before .before .before .before .before .before .before .before .before .write-line2 in
+    let write-line3 = c .before .before .before .before .before .before .before .before .before .before .before .before .before .before .before .before .before .write-line3 in
+    let write-line4 = c .before .before .before .before .before .before .before .before .before .before .before .write-line4 in
+    let write-line5 = c .before .before .before .before .before .before .write-line5 in
+    let write-score = c .before .before .write-score in
+    label-written (a .d .now) _ _ _ _ _ _ (a .l) (a .score .now) (given .0) (given .1) (write-line .ensures) (write-line2 .ensures) (write-line3 .ensures) (write-line4 .ensures)
+    (write-line5 .ensures) (write-score .ensures)
 
 pub write-label-spec : {M : Type 1} → statement M
 write-label-spec =

@@ -41,10 +41,18 @@ slice-write-d : tie.Need-slice-write-d
 slice-write-d c = search needs
 
 same-length : tie.Need-same-length
-same-length c = line-length ((c .before .before .before .before .before .before .before .before .before .before .args .d .now)) _ _ ((c .before .before .before .before .before .before .before .before .before .before .args .name .now)) (hex ((c .before .before .before .before .before .before .before .before .before .before .args .width)) ((c .before .before .before .before .before .before .before .before .before .before .args .n))) ((c .before .before .before .before .before .before .before .before .before .before .args .at)) ((c .before .before .before .before .before .before .before .before .before .before .args .width)) (omega arith) ((c .before .before .before .before .before .before .copy-at .ensures)) (hex-length ((c .before .before .before .before .before .before .before .before .before .before .args .width)) ((c .before .before .before .before .before .before .before .before .before .before .args .n))) (digits-part _ _ ((c .before .before .before .before .before .before .before .before .before .before .args .at) + length ((c .before .before .before .before .before .before .before .before .before .before .args .name .now))) ((c .before .before .before .before .before .before .before .before .before .before .args .width)) ((c .before .before .before .before .before .before .before .before .before .before .args .n)) (omega (arith, ap length ((c .before .before .before .before .before .before .copy-at .ensures)), length-put ((c .before .before .before .before .before .before .before .before .before .before .args .d .now)) ((c .before .before .before .before .before .before .before .before .before .before .args .at)) ((c .before .before .before .before .before .before .before .before .before .before .args .name .now)) (omega arith))) ((c .before .before .put-hex .ensures)))
+same-length c = let a = c .before .before .before .before .before .before .before .before .before .before .args in
+    let copy-at = c .before .before .before .before .before .before .copy-at in
+    line-length (a .d .now) _ _ (a .name .now) (hex (a .width) (a .n)) (a .at) (a .width) (omega arith) (copy-at .ensures) (hex-length (a .width) (a .n))
+    (digits-part _ _ ((a .at) + length (a .name .now)) (a .width) (a .n) (omega (arith, ap length (copy-at .ensures), length-put (a .d .now) (a .at) (a .name .now) (omega arith)))
+    ((c .before .before .put-hex .ensures)))
 
 returns : tie.Need-returns
-returns c = line-written ((c .before .before .before .before .before .before .before .before .before .before .args .d .now)) _ _ ((c .before .before .before .before .before .before .before .before .before .before .args .name .now)) (hex ((c .before .before .before .before .before .before .before .before .before .before .args .width)) ((c .before .before .before .before .before .before .before .before .before .before .args .n))) ((c .before .before .before .before .before .before .before .before .before .before .args .at)) ((c .before .before .before .before .before .before .before .before .before .before .args .width)) (omega arith) ((c .before .before .before .before .before .before .copy-at .ensures)) (hex-length ((c .before .before .before .before .before .before .before .before .before .before .args .width)) ((c .before .before .before .before .before .before .before .before .before .before .args .n))) (digits-part _ _ ((c .before .before .before .before .before .before .before .before .before .before .args .at) + length ((c .before .before .before .before .before .before .before .before .before .before .args .name .now))) ((c .before .before .before .before .before .before .before .before .before .before .args .width)) ((c .before .before .before .before .before .before .before .before .before .before .args .n)) (omega (arith, ap length ((c .before .before .before .before .before .before .copy-at .ensures)), length-put ((c .before .before .before .before .before .before .before .before .before .before .args .d .now)) ((c .before .before .before .before .before .before .before .before .before .before .args .at)) ((c .before .before .before .before .before .before .before .before .before .before .args .name .now)) (omega arith))) ((c .before .before .put-hex .ensures)))
+returns c = let a = c .before .before .before .before .before .before .before .before .before .before .args in
+    let copy-at = c .before .before .before .before .before .before .copy-at in
+    line-written (a .d .now) _ _ (a .name .now) (hex (a .width) (a .n)) (a .at) (a .width) (omega arith) (copy-at .ensures) (hex-length (a .width) (a .n))
+    (digits-part _ _ ((a .at) + length (a .name .now)) (a .width) (a .n) (omega (arith, ap length (copy-at .ensures), length-put (a .d .now) (a .at) (a .name .now) (omega arith)))
+    ((c .before .before .put-hex .ensures)))
 
 pub write-line-spec : {M : Type 1} → statement M
 write-line-spec =

@@ -39,10 +39,16 @@ slice-write-d : tie.Need-slice-write-d
 slice-write-d c = search needs
 
 same-length : tie.Need-same-length
-same-length c = line-length ((c .before .before .before .before .before .before .before .before .before .before .before .args .d .now)) _ _ scoreName (hexBytes ((c .before .before .before .before .before .before .before .before .before .before .before .args .score .now))) ((c .before .before .before .before .before .before .before .before .before .before .before .args .at)) 40 (omega arith) ((c .before .before .before .before .before .before .copy-at .ensures)) (omega (arith, hexBytes-length ((c .before .before .before .before .before .before .before .before .before .before .before .args .score .now)))) ((c .before .before .put-hex-bytes .ensures))
+same-length c = let a = c .before .before .before .before .before .before .before .before .before .before .before .args in
+    let copy-at = c .before .before .before .before .before .before .copy-at in
+    let put-hex-bytes = c .before .before .put-hex-bytes in
+    line-length (a .d .now) _ _ scoreName (hexBytes (a .score .now)) (a .at) 40 (omega arith) (copy-at .ensures) (omega (arith, hexBytes-length (a .score .now))) (put-hex-bytes .ensures)
 
 returns : tie.Need-returns
-returns c = line-written ((c .before .before .before .before .before .before .before .before .before .before .before .args .d .now)) _ _ scoreName (hexBytes ((c .before .before .before .before .before .before .before .before .before .before .before .args .score .now))) ((c .before .before .before .before .before .before .before .before .before .before .before .args .at)) 40 (omega arith) ((c .before .before .before .before .before .before .copy-at .ensures)) (omega (arith, hexBytes-length ((c .before .before .before .before .before .before .before .before .before .before .before .args .score .now)))) ((c .before .before .put-hex-bytes .ensures))
+returns c = let a = c .before .before .before .before .before .before .before .before .before .before .before .args in
+    let copy-at = c .before .before .before .before .before .before .copy-at in
+    let put-hex-bytes = c .before .before .put-hex-bytes in
+    line-written (a .d .now) _ _ scoreName (hexBytes (a .score .now)) (a .at) 40 (omega arith) (copy-at .ensures) (omega (arith, hexBytes-length (a .score .now))) (put-hex-bytes .ensures)
 
 pub write-score-spec : {M : Type 1} → statement M
 write-score-spec =

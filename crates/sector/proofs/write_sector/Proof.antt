@@ -75,8 +75,15 @@ slice-reshare-prefix-crc32 c = search needs
 
 -- src/lib.rt:156:28
 slice-aggregate-crc32 : tie.Need-slice-aggregate-crc32
-slice-aggregate-crc32 c =
-    three-front ((c .before .before .before .before .before .before .before .before .before .before .before .before .before .before .before .before .before .before .before .before .before .args .d .now)) _ _ _ _ ((c .before .before .before .before .before .before .before .before .before .before .before .before .before .before .before .before .before .before .before .before .before .args .d .now)) ((c .before .before .before .before .before .before .before .before .before .before .before .before .before .before .before .before .before .before .before .before .before .args .front .now)) (labelOf ((c .before .before .before .before .before .before .before .before .before .before .before .before .before .before .before .before .before .before .before .before .before .args .l)) ((c .before .before .before .before .before .before .before .before .before .before .before .before .before .before .before .before .before .before .before .before .before .args .score .now))) ((c .before .before .before .before .before .before .before .before .before .before .before .before .before .before .before .before .before .before .before .before .before .args .piece .now)) 0 (omega arith) (length-label ((c .before .before .before .before .before .before .before .before .before .before .before .before .before .before .before .before .before .before .before .before .before .args .l)) ((c .before .before .before .before .before .before .before .before .before .before .before .before .before .before .before .before .before .before .before .before .before .args .score .now)) ((c .before .before .before .before .before .before .before .before .before .before .before .before .before .before .before .before .before .before .before .before .before .pre .1))) ((c .before .before .before .before .before .before .before .before .before .before .before .before .before .before .before .before .before .before .before .before .before .pre .2)) ((c .before .before .before .before .before .before .before .before .before .before .before .before .before .before .before .copy-at .ensures)) ((c .before .before .before .before .before .before .before .before .before .before .before .write-label .ensures)) ((c .before .before .before .before .before .before .before .copy-at2 .ensures)) ((c .before .before .before .clear .ensures))
+slice-aggregate-crc32 c = let a =
+    c .before .before .before .before .before .before .before .before .before .before .before .before .before .before .before .before .before .before .before .before .before .args in
+    let clear = c .before .before .before .clear in
+    let copy-at = c .before .before .before .before .before .before .before .before .before .before .before .before .before .before .before .copy-at in
+    let copy-at2 = c .before .before .before .before .before .before .before .copy-at2 in
+    let given = c .before .before .before .before .before .before .before .before .before .before .before .before .before .before .before .before .before .before .before .before .before .pre in
+    let write-label = c .before .before .before .before .before .before .before .before .before .before .before .write-label in
+    three-front (a .d .now) _ _ _ _ (a .d .now) (a .front .now) (labelOf (a .l) (a .score .now)) (a .piece .now) 0 (omega arith) (length-label (a .l) (a .score .now) (given .1)) (given .2)
+    (copy-at .ensures) (write-label .ensures) (copy-at2 .ensures) (clear .ensures)
 
 -- src/lib.rt:156:9
 crc32-requires : tie.Need-crc32-requires
@@ -100,8 +107,15 @@ same-length c = search needs
 
 -- src/lib.rt:145:1
 returns : tie.Need-returns
-returns c =
-    sector-written ((c .before .before .before .before .before .before .before .before .before .before .before .before .before .before .before .before .before .before .before .before .before .before .before .before .before .before .before .args .d .now)) _ _ _ _ _ ((c .before .before .before .before .before .before .before .before .before .before .before .before .before .before .before .before .before .before .before .before .before .before .before .before .before .before .before .args .front .now)) (labelOf ((c .before .before .before .before .before .before .before .before .before .before .before .before .before .before .before .before .before .before .before .before .before .before .before .before .before .before .before .args .l)) ((c .before .before .before .before .before .before .before .before .before .before .before .before .before .before .before .before .before .before .before .before .before .before .before .before .before .before .before .args .score .now))) ((c .before .before .before .before .before .before .before .before .before .before .before .before .before .before .before .before .before .before .before .before .before .before .before .before .before .before .before .args .piece .now)) ((c .before .before .before .before .before .crc32 .result)) (omega arith) (length-label ((c .before .before .before .before .before .before .before .before .before .before .before .before .before .before .before .before .before .before .before .before .before .before .before .before .before .before .before .args .l)) ((c .before .before .before .before .before .before .before .before .before .before .before .before .before .before .before .before .before .before .before .before .before .before .before .before .before .before .before .args .score .now)) ((c .before .before .before .before .before .before .before .before .before .before .before .before .before .before .before .before .before .before .before .before .before .before .before .before .before .before .before .pre .1))) ((c .before .before .before .before .before .before .before .before .before .before .before .before .before .before .before .before .before .before .before .before .before .before .before .before .before .before .before .pre .2)) ((c .before .before .before .before .before .before .before .before .before .before .before .before .before .before .before .before .before .before .before .before .before .copy-at .ensures)) ((c .before .before .before .before .before .before .before .before .before .before .before .before .before .before .before .before .before .write-label .ensures)) ((c .before .before .before .before .before .before .before .before .before .before .before .before .before .copy-at2 .ensures)) ((c .before .before .before .before .before .before .before .before .before .clear .ensures)) ((c .before .before .before .before .before .crc32 .ensures)) ((c .before .before .write-line .ensures))
+returns c = let a = c .before .before .before .before .before .before .before .before .before .before .before .before .before .before .before .before .before .before .before .before .before .before .before .before .before .before .before .args in
+    let clear = c .before .before .before .before .before .before .before .before .before .clear in
+    let copy-at = c .before .before .before .before .before .before .before .before .before .before .before .before .before .before .before .before .before .before .before .before .before .copy-at in
+    let copy-at2 = c .before .before .before .before .before .before .before .before .before .before .before .before .before .copy-at2 in
+    let crc32 = c .before .before .before .before .before .crc32 in
+    let given = c .before .before .before .before .before .before .before .before .before .before .before .before .before .before .before .before .before .before .before .before .before .before .before .before .before .before .before .pre in
+    let write-label = c .before .before .before .before .before .before .before .before .before .before .before .before .before .before .before .before .before .write-label in
+    sector-written (a .d .now) _ _ _ _ _ (a .front .now) (labelOf (a .l) (a .score .now)) (a .piece .now) (crc32 .result) (omega arith) (length-label (a .l) (a .score .now) (given .1)) (given .2)
+    (copy-at .ensures) (write-label .ensures) (copy-at2 .ensures) (clear .ensures) (crc32 .ensures) ((c .before .before .write-line .ensures))
 
 pub write-sector-spec : {M : Type 1} → statement M
 write-sector-spec =

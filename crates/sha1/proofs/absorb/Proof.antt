@@ -69,10 +69,16 @@ loop-less-2 : tie.Need-loop-less-2 Inv-loop μ-loop
 loop-less-2 c = omega arith
 
 loop-again-2 : tie.Need-loop-again-2 Inv-loop μ-loop
-loop-again-2 c =
-    let l = c .before .before .before .before .before .before .loop in
-    let more = c .before .before .before .before .before .before .before .before .before .before .before .args .more .now in
-    (simp length-set (l .inv .0), omega arith, omega arith, λ m f. rw (c .compress2 .ensures) (block (simp length-set (l .inv .0)) (c .before .before .if3 .taken) (step m more (l .i) (omega arith) (omega arith) (l .inv .3 m f))))
+loop-again-2 c = let a = c .before .before .before .before .before .before .before .before .before .before .before .args in
+    let turn = c .before .before .before .before .before .before .loop in
+    let l = turn in
+    let more = a .more .now in (
+      simp length-set (l .inv .0),
+      omega arith,
+      omega arith,
+      λ m f. rw (c .compress2 .ensures)
+          (block (simp length-set (l .inv .0)) (c .before .before .if3 .taken) (step m more (l .i) (omega arith) (omega arith) (l .inv .3 m f))),
+    )
 
 loop-less-3 : tie.Need-loop-less-3 Inv-loop μ-loop
 loop-less-3 c = omega arith

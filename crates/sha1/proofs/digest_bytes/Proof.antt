@@ -22,8 +22,10 @@ put-word-requires-5 c κs = search needs
 
 returns : tie.Need-returns
 unfolding digestOf digits
-returns c =
-    rw (c .put-word5 .ensures, c .before .before .put-word4 .ensures, c .before .before .before .before .put-word3 .ensures, c .before .before .before .before .before .before .put-word2 .ensures, c .before .before .before .before .before .before .before .before .put-word .ensures)
+returns c = let put-word = c .before .before .before .before .before .before .before .before .put-word in
+    let put-word2 = c .before .before .before .before .before .before .put-word2 in
+    let put-word3 = c .before .before .before .before .put-word3 in
+    rw (c .put-word5 .ensures, c .before .before .put-word4 .ensures, put-word3 .ensures, put-word2 .ensures, put-word .ensures)
 
 pub digest-bytes-spec : {M : Type 1} → statement M
 digest-bytes-spec =

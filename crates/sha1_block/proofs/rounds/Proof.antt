@@ -21,10 +21,13 @@ quarter-requires-4 c κs = search needs
 
 returns : tie.Need-returns
 unfolding RoundsDone
-returns c =
-    let h = c .before .before .before .before .before .before .before .before .before .before .args .h in
-    λ m r. let s = c .before .before .before .before .before .before .before .before .first-rounds .ensures m r in
-    c .quarter4 .ensures m h (c .before .before .quarter3 .ensures m h (c .before .before .before .before .quarter2 .ensures m h (c .before .before .before .before .before .before .quarter .ensures m h (r, s))))
+returns c = let a = c .before .before .before .before .before .before .before .before .before .before .args in
+    let first-rounds = c .before .before .before .before .before .before .before .before .first-rounds in
+    let quarter = c .before .before .before .before .before .before .quarter in
+    let quarter2 = c .before .before .before .before .quarter2 in
+    let h = a .h in
+    λ m r. let s = first-rounds .ensures m r in
+    c .quarter4 .ensures m h (c .before .before .quarter3 .ensures m h (quarter2 .ensures m h (quarter .ensures m h (r, s))))
 
 pub rounds-spec : {M : Type 1} → statement M
 rounds-spec =

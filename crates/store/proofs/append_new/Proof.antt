@@ -32,8 +32,9 @@ parts-of-requires c κs = search needs
 
 -- src/lib.rt:42:33
 add-if1 : tie.Need-add-if1
-add-if1 c =
-    omega (arith, (c .before .before .used-part .ensures), (c .before .parts-of .ensures), used-le-sectors ((c .before .before .before .before .before .before .before .args .waiting .now)), parts-bounds 389 (omega arith) (length ((c .before .before .before .before .before .before .before .args) .«data» .now)), (c .before .before .before .before .before .before .before .pre .0))
+add-if1 c = let a = c .before .before .before .before .before .before .before .args in
+    let given = c .before .before .before .before .before .before .before .pre in
+    omega (arith, (c .before .before .used-part .ensures), (c .before .parts-of .ensures), used-le-sectors (a .waiting .now), parts-bounds 389 (omega arith) (length (a .«data» .now)), (given .0))
 
 -- src/lib.rt:43:9
 same-length : tie.Need-same-length
@@ -41,8 +42,12 @@ same-length c = search needs
 
 -- src/lib.rt:43:9
 returns : tie.Need-returns
-returns c =
-    λ log p q. no-room log ((c .before .before .before .before .before .before .before .before .args .waiting .now)) ((c .before .before .before .before .before .before .before .before .args .date .now)) ((c .before .before .before .before .before .before .before .before .args .kind)) ((c .before .before .before .before .before .before .before .before .args) .«data» .now) (lacks-in-waiting log ((c .before .before .before .before .before .before .before .before .args .waiting .now)) _ (omega (arith, (c .before .before .before .used-part .ensures), parts-dated ((c .before .before .before .before .before .before .before .before .args .date .now)) ((c .before .before .before .before .before .before .before .before .args) .«data» .now) _ ((c .before .before .before .before .before .before .before .before .pre .1)) ((c .before .before .parts-of .ensures)), (c .if1 .taken))))
+returns c = let a = c .before .before .before .before .before .before .before .before .args in
+    let given = c .before .before .before .before .before .before .before .before .pre in
+    let used-part = c .before .before .before .used-part in
+    λ log p q. no-room log (a .waiting .now) (a .date .now) (a .kind) (a .«data» .now)
+    (lacks-in-waiting log (a .waiting .now) _
+    (omega (arith, (used-part .ensures), parts-dated (a .date .now) (a .«data» .now) _ (given .1) ((c .before .before .parts-of .ensures)), (c .if1 .taken))))
 
 -- src/lib.rt:45:17
 add-first : tie.Need-add-first
@@ -58,13 +63,27 @@ same-length-2 c = search needs
 
 -- src/lib.rt:47:9
 returns-2 : tie.Need-returns-2
-returns-2 c =
-    λ log p q. no-room log ((c .before .before .before .before .before .before .before .before .before .before .before .args .waiting .now)) ((c .before .before .before .before .before .before .before .before .before .before .before .args .date .now)) ((c .before .before .before .before .before .before .before .before .before .before .before .args .kind)) ((c .before .before .before .before .before .before .before .before .before .before .before .args) .«data» .now) (lacks-in-log log ((c .before .before .before .before .before .before .before .before .before .before .before .args .waiting .now)) _ (omega (arith, (c .before .before .before .before .before .before .used-part .ensures), parts-dated ((c .before .before .before .before .before .before .before .before .before .before .before .args .date .now)) ((c .before .before .before .before .before .before .before .before .before .before .before .args) .«data» .now) _ ((c .before .before .before .before .before .before .before .before .before .before .before .pre .1)) ((c .before .before .before .before .before .parts-of .ensures)), p, q, (c .if2 .taken))))
+returns-2 c = let a = c .before .before .before .before .before .before .before .before .before .before .before .args in
+    let parts-of = c .before .before .before .before .before .parts-of in
+    let given = c .before .before .before .before .before .before .before .before .before .before .before .pre in
+    let used-part = c .before .before .before .before .before .before .used-part in
+    λ log p q. no-room log (a .waiting .now) (a .date .now) (a .kind) (a .«data» .now)
+    (lacks-in-log log (a .waiting .now) _ (omega (arith, (used-part .ensures), parts-dated (a .date .now) (a .«data» .now) _ (given .1) (parts-of .ensures), p, q, (c .if2 .taken))))
 
 -- src/lib.rt:49:5
 append-block-requires : tie.Need-append-block-requires
-append-block-requires c κs =
-    ((c .before .before .before .before .before .before .before .before .before .before .before .before .before .pre .0), ap length ((c .before .before .before .before .before .before .before .before .before .before .before .before .before .pre .2)) ∙ digest-length ((c .before .before .before .before .before .before .before .before .before .before .before .before .before .args) .«data» .now), (c .before .before .before .before .before .before .before .before .before .before .before .before .before .pre .1), omega arith, omega (arith, (c .before .before .before .before .before .before .before .before .used-part .ensures), parts-dated ((c .before .before .before .before .before .before .before .before .before .before .before .before .before .args .date .now)) ((c .before .before .before .before .before .before .before .before .before .before .before .before .before .args) .«data» .now) _ ((c .before .before .before .before .before .before .before .before .before .before .before .before .before .pre .1)) ((c .before .before .before .before .before .before .before .parts-of .ensures)), (c .before .before .before .before .before .if1 .left)))
+append-block-requires c κs = let a = c .before .before .before .before .before .before .before .before .before .before .before .before .before .args in
+    let if1 = c .before .before .before .before .before .if1 in
+    let parts-of = c .before .before .before .before .before .before .before .parts-of in
+    let given = c .before .before .before .before .before .before .before .before .before .before .before .before .before .pre in
+    let used-part = c .before .before .before .before .before .before .before .before .used-part in (
+      (given .0),
+      ap length (given .2)
+          ∙ digest-length (a .«data» .now),
+      (given .1),
+      omega arith,
+      omega (arith, (used-part .ensures), parts-dated (a .date .now) (a .«data» .now) _ (given .1) (parts-of .ensures), (if1 .left)),
+    )
 
 -- src/lib.rt:28:1
 same-length-3 : tie.Need-same-length-3
@@ -72,11 +91,19 @@ same-length-3 c = search needs
 
 -- src/lib.rt:28:1
 returns-3 : tie.Need-returns-3
-returns-3 c =
+returns-3 c = let append-block = c .before .before .append-block in
+    let a = c .before .before .before .before .before .before .before .before .before .before .before .before .before .before .before .before .args in
+    let if1 = c .before .before .before .before .before .before .before .before .if1 in
+    let if2 = c .before .before .before .before .before .if2 in
+    let parts-of = c .before .before .before .before .before .before .before .before .before .before .parts-of in
+    let given = c .before .before .before .before .before .before .before .before .before .before .before .before .before .before .before .before .pre in
+    let used-part = c .before .before .before .before .before .before .before .before .before .before .before .used-part in
     λ log e q.
-    room log ((c .before .before .before .before .before .before .before .before .before .before .before .before .before .before .before .before .args .waiting .now)) ((c .before .before .before .before .before .before .before .before .before .before .before .before .before .before .before .before .args .date .now)) ((c .before .before .before .before .before .before .before .before .before .before .before .before .before .before .before .before .args .kind)) ((c .before .before .before .before .before .before .before .before .before .before .before .before .before .before .before .before .args) .«data» .now) _ ((c .before .before .before .before .before .before .before .before .before .before .before .before .before .before .before .before .args .score .now)) _ (omega (arith, (c .before .before .before .before .before .before .before .before .before .before .before .used-part .ensures), q)) ((c .before .before .before .before .before .before .before .before .before .before .before .before .before .before .before .before .pre .2))
-    (omega (arith, (c .before .before .before .before .before .before .before .before .before .before .before .used-part .ensures), parts-dated ((c .before .before .before .before .before .before .before .before .before .before .before .before .before .before .before .before .args .date .now)) ((c .before .before .before .before .before .before .before .before .before .before .before .before .before .before .before .before .args) .«data» .now) _ ((c .before .before .before .before .before .before .before .before .before .before .before .before .before .before .before .before .pre .1)) ((c .before .before .before .before .before .before .before .before .before .before .parts-of .ensures)), e, q, (c .before .before .before .before .before .if2 .left))) (omega (arith, (c .before .before .before .before .before .before .before .before .before .before .before .used-part .ensures), parts-dated ((c .before .before .before .before .before .before .before .before .before .before .before .before .before .before .before .before .args .date .now)) ((c .before .before .before .before .before .before .before .before .before .before .before .before .before .before .before .before .args) .«data» .now) _ ((c .before .before .before .before .before .before .before .before .before .before .before .before .before .before .before .before .pre .1)) ((c .before .before .before .before .before .before .before .before .before .before .parts-of .ensures)), (c .before .before .before .before .before .before .before .before .if1 .left)))
-    ((c .before .before .append-block .ensures) ∙ ap (λ (n : ℕ). writtenFrom n ((c .before .before .before .before .before .before .before .before .before .before .before .before .before .before .before .before .args .waiting .now)) (record { kind = (c .before .before .before .before .before .before .before .before .before .before .before .before .before .before .before .before .args .kind); score = (c .before .before .before .before .before .before .before .before .before .before .before .before .before .before .before .before .args .score .now); bytes = (c .before .before .before .before .before .before .before .before .before .before .before .before .before .before .before .before .args) .«data» .now; first = (c .before .before .before .before .before .before .before .before .before .before .before .before .before .before .before .before .args .from .0) + (c .before .before .before .before .before .before .before .before .before .before .before .used-part .result .0); date = (c .before .before .before .before .before .before .before .before .before .before .before .before .before .before .before .before .args .date .now) })) (sym q))
+    room log (a .waiting .now) (a .date .now) (a .kind) (a .«data» .now) _ (a .score .now) _ (omega (arith, (used-part .ensures), q)) (given .2)
+    (omega (arith, (used-part .ensures), parts-dated (a .date .now) (a .«data» .now) _ (given .1) (parts-of .ensures), e, q, (if2 .left)))
+    (omega (arith, (used-part .ensures), parts-dated (a .date .now) (a .«data» .now) _ (given .1) (parts-of .ensures), (if1 .left)))
+    ((append-block .ensures) ∙ ap (λ (n : ℕ). writtenFrom n (a .waiting .now)
+    (record { kind = (a .kind); score = (a .score .now); bytes = a .«data» .now; first = (a .from .0) + (used-part .result .0); date = (a .date .now) })) (sym q))
 
 pub append-new-spec : {M : Type 1} → statement M
 append-new-spec =

@@ -67,12 +67,17 @@ returns c =
     (c .before .before .append-new .ensures (a .log .now) (omega arith) (sym used))
 
 compare-requires : tie.Need-compare-requires
-compare-requires c κs =
-    let find-held = c .before .before .before .before .find-held in
-    let border = c .before .before .before .before .before .before .before .border in
-    let a = c .before .before .before .before .before .before .before .before .before .before .before .before .before .before .args in
-    let J = joined (border .result .0) (a .log .now) (a .waiting .now) in
-    (border .ensures .0, found-within J (a .kind) _ _ _ _ (find-held .ensures) (c .before .before .place .given .1) (sectors-joined (border .result .0) (a .log .now) (a .waiting .now) (border .ensures .0)))
+compare-requires c κs = let args = c .before .before .before .before .before .before .before .before .before .before .before .before .before .before .args in
+    let border-here = c .before .before .before .before .before .before .before .border in
+    let find-held-here = c .before .before .before .before .find-held in
+    let find-held = find-held-here in
+    let border = border-here in
+    let a = args in
+    let J = joined (border .result .0) (a .log .now) (a .waiting .now) in (
+      border .ensures .0,
+      found-within J (a .kind) _ _ _ _ (find-held .ensures) (c .before .before .place .given .1)
+          (sectors-joined (border .result .0) (a .log .now) (a .waiting .now) (border .ensures .0)),
+    )
 
 same-length-2 : tie.Need-same-length-2
 same-length-2 c = search needs

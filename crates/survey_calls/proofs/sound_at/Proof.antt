@@ -28,13 +28,13 @@ cast-result c = search needs
 
 -- src/survey.rt:37:9
 returns : tie.Need-returns
-returns c =
-    sound-barred ((c .before .before .before .before .args .log .now)) ((c .before .before .before .before .args .n)) _ ((c .before .before .is-allowed .ensures)) (not-true _ ((c .before .if1 .taken))) _ ((c .number .ensures))
+returns c = let args = c .before .before .before .before .args in
+    sound-barred (args .log .now) (args .n) _ ((c .before .before .is-allowed .ensures)) (not-true _ ((c .before .if1 .taken))) _ ((c .number .ensures))
 
 -- src/survey.rt:41:9
 returns-2 : tie.Need-returns-2
-returns-2 c =
-    sound-past ((c .before .before .before .before .args .log .now)) ((c .before .before .before .before .args .n)) _ ((c .before .before .is-allowed .ensures)) (not-false _ ((c .before .if1 .left))) (omega (arith, (c .if2 .taken)))
+returns-2 c = let args = c .before .before .before .before .args in
+    sound-past (args .log .now) (args .n) _ ((c .before .before .is-allowed .ensures)) (not-false _ ((c .before .if1 .left))) (omega (arith, (c .if2 .taken)))
 
 -- src/survey.rt:44:60
 slice-aggregate-sound-at : tie.Need-slice-aggregate-sound-at
@@ -50,14 +50,16 @@ enum-known-place c = search needs
 
 -- src/survey.rt:46:32
 cast-result-2 : tie.Need-cast-result-2
-cast-result-2 c =
-    let b = block-bounds ((c .before .before .before .before .before .before .before .before .before .before .args .log .now)) ((c .before .before .before .before .before .before .before .before .before .before .args .n)) _ _ ((c .before .before .before .before .sound-at .ensures) ∙ placed-alone ((c .before .before .before .before .before .before .before .before .before .before .args .log .now)) ((c .before .before .before .before .before .before .before .before .before .before .args .n))) ((c .before .before .place .given .1)) in
+cast-result-2 c = let args = c .before .before .before .before .before .before .before .before .before .before .args in
+    let sound-at = c .before .before .before .before .sound-at in
+    let b = block-bounds (args .log .now) (args .n) _ _ ((sound-at .ensures) ∙ placed-alone (args .log .now) (args .n)) ((c .before .before .place .given .1)) in
     omega (arith, b .1)
 
 -- src/survey.rt:46:25
 mul-result : tie.Need-mul-result
-mul-result c =
-    let b = block-bounds ((c .before .before .before .before .before .before .before .before .before .before .args .log .now)) ((c .before .before .before .before .before .before .before .before .before .before .args .n)) _ _ ((c .before .before .before .before .sound-at .ensures) ∙ placed-alone ((c .before .before .before .before .before .before .before .before .before .before .args .log .now)) ((c .before .before .before .before .before .before .before .before .before .before .args .n))) ((c .before .before .place .given .1)) in
+mul-result c = let args = c .before .before .before .before .before .before .before .before .before .before .args in
+    let sound-at = c .before .before .before .before .sound-at in
+    let b = block-bounds (args .log .now) (args .n) _ _ ((sound-at .ensures) ∙ placed-alone (args .log .now) (args .n)) ((c .before .before .place .given .1)) in
     omega (arith, b .1)
 
 -- src/survey.rt:47:27
@@ -66,13 +68,19 @@ enum-told c = search needs
 
 -- src/survey.rt:32:1
 returns-3 : tie.Need-returns-3
-returns-3 c =
-    sound-sized ((c .before .before .before .before .before .before .before .before .before .before .args .log .now)) ((c .before .before .before .before .before .before .before .before .before .before .args .n)) _ ((c .before .before .before .before .before .before .before .before .is-allowed .ensures)) (not-false _ ((c .before .before .before .before .before .before .before .if1 .left))) _ _ ((c .before .before .before .before .sound-at .ensures) ∙ placed-alone ((c .before .before .before .before .before .before .before .before .before .before .args .log .now)) ((c .before .before .before .before .before .before .before .before .before .before .args .n))) ((c .before .before .place .given .1))
+returns-3 c = let args = c .before .before .before .before .before .before .before .before .before .before .args in
+    let if1 = c .before .before .before .before .before .before .before .if1 in
+    let is-allowed = c .before .before .before .before .before .before .before .before .is-allowed in
+    let sound-at = c .before .before .before .before .sound-at in
+    sound-sized (args .log .now) (args .n) _ (is-allowed .ensures) (not-false _ (if1 .left)) _ _ ((sound-at .ensures) ∙ placed-alone (args .log .now) (args .n)) ((c .before .before .place .given .1))
 
 -- src/survey.rt:32:1
 returns-4 : tie.Need-returns-4
-returns-4 c =
-    sound-none ((c .before .before .before .before .before .before .before .before .args .log .now)) ((c .before .before .before .before .before .before .before .before .args .n)) _ ((c .before .before .before .before .before .before .is-allowed .ensures)) (not-false _ ((c .before .before .before .before .before .if1 .left))) _ ((c .before .before .sound-at .ensures) ∙ placed-alone ((c .before .before .before .before .before .before .before .before .args .log .now)) ((c .before .before .before .before .before .before .before .before .args .n))) ((c .enum-told .given .1))
+returns-4 c = let args = c .before .before .before .before .before .before .before .before .args in
+    let if1 = c .before .before .before .before .before .if1 in
+    let is-allowed = c .before .before .before .before .before .before .is-allowed in
+    sound-none (args .log .now) (args .n) _ (is-allowed .ensures) (not-false _ (if1 .left)) _ ((c .before .before .sound-at .ensures) ∙ placed-alone (args .log .now) (args .n))
+    ((c .enum-told .given .1))
 
 pub sound-at-spec : {M : Type 1} → statement M
 sound-at-spec =

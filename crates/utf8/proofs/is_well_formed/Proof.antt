@@ -45,10 +45,12 @@ loop-less : tie.Need-loop-less Inv-loop μ-loop
 loop-less c = search needs
 
 loop-again : tie.Need-loop-again Inv-loop μ-loop
-loop-again c =
-    let l = c .before .before .before .before .before .before .loop in
-    let a = c .before .before .before .after-byte in
-    (omega arith, goes-on (a .result) (l .d) (c .before .before .before .before .before .before .before .before .args .s .now) (l .i) (omega arith) (a .ensures) _ (c .before .next .given .1) ∙ l .inv .1)
+loop-again c = let after-byte = c .before .before .before .after-byte in
+    let args = c .before .before .before .before .before .before .before .before .args in
+    let turn = c .before .before .before .before .before .before .loop in
+    let l = turn in
+    let a = after-byte in
+    (omega arith, goes-on (a .result) (l .d) (args .s .now) (l .i) (omega arith) (a .ensures) _ (c .before .next .given .1) ∙ l .inv .1)
 
 returns-2 : tie.Need-returns-2 Inv-loop μ-loop
 returns-2 c = let l = c .before .before .loop in ends (l .d) _ (l .i) (omega arith) ∙ l .inv .1

@@ -20,11 +20,16 @@ enum-told c = search needs
 
 -- src/lib.rt:55:1
 returns : tie.Need-returns
-returns c = cut-is ((c .before .before .before .before .before .args .kind)) ((c .before .before .before .before .before .args .block .now)) ((c .before .before .before .before .before .pre .0)) ((c .before .before .before .before .before .pre .1)) _ ((c .before .before .before .cut .ensures)) _ ((c .before .kept .given .1))
+returns c = let a = c .before .before .before .before .before .args in
+    let cut = c .before .before .before .cut in
+    let given = c .before .before .before .before .before .pre in
+    cut-is (a .kind) (a .block .now) (given .0) (given .1) _ (cut .ensures) _ ((c .before .kept .given .1))
 
 -- src/lib.rt:55:1
 returns-2 : tie.Need-returns-2
-returns-2 c = cut-never-refused ((c .before .before .before .before .args .kind)) ((c .before .before .before .before .args .block .now)) ((c .before .before .before .before .pre .0)) ((c .before .before .before .before .pre .1)) _ ((c .before .before .cut .ensures)) _ _ ((c .enum-told .given .1))
+returns-2 c = let a = c .before .before .before .before .args in
+    let given = c .before .before .before .before .pre in
+    cut-never-refused (a .kind) (a .block .now) (given .0) (given .1) _ ((c .before .before .cut .ensures)) _ _ ((c .enum-told .given .1))
 
 pub cut-length-spec : {M : Type 1} → statement M
 cut-length-spec = tie.close (tie.spec cut-requires enum-known-kept enum-told returns returns-2)

@@ -19,11 +19,15 @@ loop-holds c = seeking-start ((c .args .n)) ((c .args .dsize)) ((c .args .p))
 
 -- src/lib.rt:204:13
 returns : tie.Need-returns Inv-loop μ-loop
-returns c = seeking-found ((c .before .before .before .args .n)) ((c .before .before .before .args .dsize)) ((c .before .before .before .args .p)) ((c .before .before .loop .room)) ((c .before .before .loop .d)) ((c .before .before .loop .inv)) ((c .before .loop-test .taken)) ((omega (arith, (c .if1 .taken))))
+returns c = let a = c .before .before .before .args in
+    let l = c .before .before .loop in
+    seeking-found (a .n) (a .dsize) (a .p) (l .room) (l .d) (l .inv) ((c .before .loop-test .taken)) ((omega (arith, (c .if1 .taken))))
 
 -- src/lib.rt:206:16
 mul-room : tie.Need-mul-room Inv-loop μ-loop
-mul-room c = omega (arith, room-fits ((c .before .before .before .args .n)) ((c .before .before .before .args .dsize)) ((c .before .before .before .args .p)) ((c .before .before .loop .room)) ((omega (arith, (c .if1 .left)))) ((c .before .before .before .pre .0)) ((c .before .before .before .pre .2)))
+mul-room c = let a = c .before .before .before .args in
+    let given = c .before .before .before .pre in
+    omega (arith, room-fits (a .n) (a .dsize) (a .p) ((c .before .before .loop .room)) ((omega (arith, (c .if1 .left)))) (given .0) (given .2))
 
 -- src/lib.rt:207:9
 add-d : tie.Need-add-d Inv-loop μ-loop
@@ -35,11 +39,16 @@ loop-less c = search needs
 
 -- src/lib.rt:202:5
 loop-again : tie.Need-loop-again Inv-loop μ-loop
-loop-again c = seeking-next ((c .before .before .before .args .n)) ((c .before .before .before .args .dsize)) ((c .before .before .before .args .p)) ((c .before .before .loop .room)) ((c .before .before .loop .d)) ((c .before .before .before .pre .1)) ((c .before .before .loop .inv)) ((c .before .loop-test .taken)) ((omega (arith, (c .if1 .left))))
+loop-again c = let a = c .before .before .before .args in
+    let l = c .before .before .loop in
+    let given = c .before .before .before .pre in
+    seeking-next (a .n) (a .dsize) (a .p) (l .room) (l .d) (given .1) (l .inv) ((c .before .loop-test .taken)) ((omega (arith, (c .if1 .left))))
 
 -- src/lib.rt:196:1
 returns-2 : tie.Need-returns-2 Inv-loop μ-loop
-returns-2 c = seeking-none ((c .before .before .args .n)) ((c .before .before .args .dsize)) ((c .before .before .args .p)) ((c .before .loop .room)) ((c .before .loop .d)) ((c .before .loop .inv)) ((c .loop-test .left))
+returns-2 c = let a = c .before .before .args in
+    let l = c .before .loop in
+    seeking-none (a .n) (a .dsize) (a .p) (l .room) (l .d) (l .inv) ((c .loop-test .left))
 
 pub least-depth-spec : {M : Type 1} → statement M
 least-depth-spec =

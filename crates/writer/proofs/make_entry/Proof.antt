@@ -97,8 +97,12 @@ copy-at-requires c κs = search needs
 
 -- src/lib.rt:248:9
 returns : tie.Need-returns
-returns c = ((c .before .copy-at .ensures)) ∙ entry-bytes ((c .before .before .before .before .before .before .before .args .psize)) ((c .before .before .before .before .before .before .before .args .dsize)) ((c .before .before .before .before .before .before .before .args .depth)) ((c .before .before .before .before .before .before .before .args .size)) ((c .before .before .before .before .before .before .before .pre .0)) ((c .before .before .before .before .before .before .before .pre .1)) ((c .before .before .before .before .before .before .before .pre .3)) _ (ap length ((c .before .before .before .before .zero-score .ensures)) ∙ length-zero-score)
-    ∙ ap (madeEntry ((c .before .before .before .before .before .before .before .args .psize)) ((c .before .before .before .before .before .before .before .args .dsize)) ((c .before .before .before .before .before .before .before .args .depth)) ((c .before .before .before .before .before .before .before .args .size))) (((c .before .before .before .before .zero-score .ensures)) ∙ top-none ((c .before .before .before .before .before .before .before .args .scores .now)) ((c .before .before .before .before .before .if1 .taken)))
+returns c = let a = c .before .before .before .before .before .before .before .args in
+    let if1 = c .before .before .before .before .before .if1 in
+    let given = c .before .before .before .before .before .before .before .pre in
+    let zero-score = c .before .before .before .before .zero-score in
+    ((c .before .copy-at .ensures)) ∙ entry-bytes (a .psize) (a .dsize) (a .depth) (a .size) (given .0) (given .1) (given .3) _ (ap length (zero-score .ensures) ∙ length-zero-score)
+    ∙ ap (madeEntry (a .psize) (a .dsize) (a .depth) (a .size)) ((zero-score .ensures) ∙ top-none (a .scores .now) (if1 .taken))
 
 -- src/lib.rt:250:21
 slice-aggregate-copy-at-3 : tie.Need-slice-aggregate-copy-at-3
@@ -106,18 +110,25 @@ slice-aggregate-copy-at-3 c = search needs
 
 -- src/lib.rt:250:33
 slice-aggregate-copy-at-4 : tie.Need-slice-aggregate-copy-at-4
-slice-aggregate-copy-at-4 c = let some : 20 ≤ length ((c .before .before .before .before .args .scores .now)) = omega (arith, ((c .before .before .if1 .left)), ((c .before .before .before .before .pre .4))) in simp length-take (omega (arith, some))
+slice-aggregate-copy-at-4 c = let a = c .before .before .before .before .args in
+    let given = c .before .before .before .before .pre in
+    let some : 20 ≤ length (a .scores .now) = omega (arith, ((c .before .before .if1 .left)), (given .4)) in simp length-take (omega (arith, some))
 
 -- src/lib.rt:250:5
 copy-at-requires-2 : tie.Need-copy-at-requires-2
-copy-at-requires-2 c κs = let some : 20 ≤ length ((c .before .before .before .before .args .scores .now)) = omega (arith, ((c .before .before .if1 .left)), ((c .before .before .before .before .pre .4))) in
-    let l = length-take-le 20 ((c .before .before .before .before .args .scores .now)) some in omega (arith, l)
+copy-at-requires-2 c κs = let a = c .before .before .before .before .args in
+    let given = c .before .before .before .before .pre in
+    let some : 20 ≤ length (a .scores .now) = omega (arith, ((c .before .before .if1 .left)), (given .4)) in
+    let l = length-take-le 20 (a .scores .now) some in omega (arith, l)
 
 -- src/lib.rt:233:1
 returns-2 : tie.Need-returns-2
-returns-2 c = let some : 20 ≤ length ((c .before .before .before .before .before .before .args .scores .now)) = omega (arith, ((c .before .before .before .before .if1 .left)), ((c .before .before .before .before .before .before .pre .4))) in
-    ((c .before .copy-at2 .ensures)) ∙ entry-bytes ((c .before .before .before .before .before .before .args .psize)) ((c .before .before .before .before .before .before .args .dsize)) ((c .before .before .before .before .before .before .args .depth)) ((c .before .before .before .before .before .before .args .size)) ((c .before .before .before .before .before .before .pre .0)) ((c .before .before .before .before .before .before .pre .1)) ((c .before .before .before .before .before .before .pre .3)) _ (length-take-le 20 ((c .before .before .before .before .before .before .args .scores .now)) some)
-    ∙ ap (madeEntry ((c .before .before .before .before .before .before .args .psize)) ((c .before .before .before .before .before .before .args .dsize)) ((c .before .before .before .before .before .before .args .depth)) ((c .before .before .before .before .before .before .args .size))) (top-some ((c .before .before .before .before .before .before .args .scores .now)) ((c .before .before .before .before .if1 .left)))
+returns-2 c = let a = c .before .before .before .before .before .before .args in
+    let if1 = c .before .before .before .before .if1 in
+    let given = c .before .before .before .before .before .before .pre in
+    let some : 20 ≤ length (a .scores .now) = omega (arith, (if1 .left), (given .4)) in
+    ((c .before .copy-at2 .ensures)) ∙ entry-bytes (a .psize) (a .dsize) (a .depth) (a .size) (given .0) (given .1) (given .3) _ (length-take-le 20 (a .scores .now) some)
+    ∙ ap (madeEntry (a .psize) (a .dsize) (a .depth) (a .size)) (top-some (a .scores .now) (if1 .left))
 
 pub make-entry-spec : {M : Type 1} → statement M
 make-entry-spec =

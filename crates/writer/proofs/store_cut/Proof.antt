@@ -19,7 +19,8 @@ cut-length-requires c κs = search needs
 
 -- src/lib.rt:72:44
 slice-aggregate-store : tie.Need-slice-aggregate-store
-slice-aggregate-store c = let f = cut-fits ((c .before .before .before .before .before .before .before .args .kind)) ((c .before .before .before .before .before .before .before .args .block .now)) _ ((c .before .before .cut-length .ensures)) in simp length-take (omega (arith, f))
+slice-aggregate-store c = let a = c .before .before .before .before .before .before .before .args in
+    let f = cut-fits (a .kind) (a .block .now) _ ((c .before .before .cut-length .ensures)) in simp length-take (omega (arith, f))
 
 -- src/lib.rt:72:5
 store-requires : tie.Need-store-requires
@@ -31,7 +32,9 @@ same-length c = search needs
 
 -- src/lib.rt:67:1
 returns : tie.Need-returns
-returns c = ((c .before .before .store .ensures)) ∙ ap (λ (x : Bytes). store (beside ((c .before .before .before .before .before .before .before .before .before .before .args .log .now)) ((c .before .before .before .before .before .before .before .before .before .before .args .waiting .now))) ((c .before .before .before .before .before .before .before .before .before .before .args .date .now)) ((c .before .before .before .before .before .before .before .before .before .before .args .kind)) x) (cut-bytes ((c .before .before .before .before .before .before .before .before .before .before .args .kind)) ((c .before .before .before .before .before .before .before .before .before .before .args .block .now)) _ ((c .before .before .before .before .before .cut-length .ensures)))
+returns c = let a = c .before .before .before .before .before .before .before .before .before .before .args in
+    let cut-length = c .before .before .before .before .before .cut-length in
+    ((c .before .before .store .ensures)) ∙ ap (λ (x : Bytes). store (beside (a .log .now) (a .waiting .now)) (a .date .now) (a .kind) x) (cut-bytes (a .kind) (a .block .now) _ (cut-length .ensures))
 
 pub store-cut-spec : {M : Type 1} → statement M
 store-cut-spec =

@@ -35,10 +35,11 @@ same-length-2 c = search needs
 
 -- src/lib.rt:190:9
 returns : tie.Need-returns
-returns c = (
-  leaf-refused ((c .before .before .before .before .before .before .before .before .before .before .before .before .before .before .args .slice .now)) ((c .before .before .before .before .before .before .before .before .before .before .before .before .before .before .args .dsize)) ((c .before .before .before .before .before .before .before .before .before .before .before .before .before .before .args .psize)) ((c .before .before .before .before .before .before .before .before .before .before .before .before .before .before .args .depth)) ((c .before .before .before .before .before .before .before .before .before .before .before .before .before .before .args .date .now)) (beside ((c .before .before .before .before .before .before .before .before .before .before .before .before .before .before .args .log .now)) ((c .before .before .before .before .before .before .before .before .before .before .before .before .before .before .args .waiting .now))) _ _ ((c .before .before .before .before .before .before .write-leaves .ensures .0)) _ ((c .enum-told2 .given .1)),
-  λ q. let p = ((c .enum-told2 .given .1)) in let z : _≡_ {A = ℕ} 0 1 = cc in absurd (omega arith),
-)
+returns c = let a = c .before .before .before .before .before .before .before .before .before .before .before .before .before .before .args in
+    let write-leaves = c .before .before .before .before .before .before .write-leaves in (
+      leaf-refused (a .slice .now) (a .dsize) (a .psize) (a .depth) (a .date .now) (beside (a .log .now) (a .waiting .now)) _ _ (write-leaves .ensures .0) _ ((c .enum-told2 .given .1)),
+      λ q. let p = ((c .enum-told2 .given .1)) in let z : _≡_ {A = ℕ} 0 1 = cc in absurd (omega arith),
+    )
 
 -- src/lib.rt:192:38
 mul-write-levels : tie.Need-mul-write-levels
@@ -46,10 +47,12 @@ mul-write-levels c = omega (arith, ((c .before .before .before .before .before .
 
 -- src/lib.rt:192:5
 write-levels-requires : tie.Need-write-levels-requires
-write-levels-requires c κs = let w = width-bounds ((c .before .before .before .before .before .before .before .before .before .before .before .before .before .before .before .before .args .psize)) ((c .before .before .before .before .before .before .before .before .before .before .before .before .before .before .before .before .pre .4)) ((c .before .before .before .before .before .before .before .before .before .before .before .before .before .before .before .before .pre .5)) in
-    let few = few-pieces ((c .before .before .before .before .before .before .before .before .before .before .before .before .before .before .before .before .args .dsize)) (length ((c .before .before .before .before .before .before .before .before .before .before .before .before .before .before .before .before .args .slice .now))) ((c .before .before .before .before .before .before .before .before .before .before .before .before .before .before .before .before .pre .2)) in
-    let most : 20 * partsOf ((c .before .before .before .before .before .before .before .before .before .before .before .before .before .before .before .before .args .dsize)) (length ((c .before .before .before .before .before .before .before .before .before .before .before .before .before .before .before .before .args .slice .now))) ≤ 1146880 = omega (arith, few, ((c .before .before .before .before .before .before .before .before .before .before .before .before .before .before .before .before .pre .1))) in
-    (((c .before .before .before .before .before .before .before .before .before .before .before .before .before .before .before .before .pre .0)), omega (arith, w .0), w .1, w .2, ((c .before .before .before .before .before .before .before .before .before .before .before .before .before .before .before .before .pre .6)), search needs, search needs)
+write-levels-requires c κs = let a = c .before .before .before .before .before .before .before .before .before .before .before .before .before .before .before .before .args in
+    let given = c .before .before .before .before .before .before .before .before .before .before .before .before .before .before .before .before .pre in
+    let w = width-bounds (a .psize) (given .4) (given .5) in
+    let few = few-pieces (a .dsize) (length (a .slice .now)) (given .2) in
+    let most : 20 * partsOf (a .dsize) (length (a .slice .now)) ≤ 1146880 = omega (arith, few, (given .1)) in
+    ((given .0), omega (arith, w .0), w .1, w .2, (given .6), search needs, search needs)
 
 -- src/lib.rt:174:1
 same-length-3 : tie.Need-same-length-3
@@ -61,10 +64,15 @@ same-length-4 c = search needs
 
 -- src/lib.rt:174:1
 returns-2 : tie.Need-returns-2
-returns-2 c = let f = ((c .before .before .before .before .before .before .before .before .before .before .before .before .before .write-leaves .ensures .1)) ((c .before .before .before .before .before .before .before .enum-told .given .1)) in (
-  leaves-stored ((c .before .before .before .before .before .before .before .before .before .before .before .before .before .before .before .before .before .before .before .before .before .args .slice .now)) ((c .before .before .before .before .before .before .before .before .before .before .before .before .before .before .before .before .before .before .before .before .before .args .dsize)) ((c .before .before .before .before .before .before .before .before .before .before .before .before .before .before .before .before .before .before .before .before .before .args .psize)) ((c .before .before .before .before .before .before .before .before .before .before .before .before .before .before .before .before .before .before .before .before .before .args .depth)) ((c .before .before .before .before .before .before .before .before .before .before .before .before .before .before .before .before .before .before .before .before .before .args .date .now)) (beside ((c .before .before .before .before .before .before .before .before .before .before .before .before .before .before .before .before .before .before .before .before .before .args .log .now)) ((c .before .before .before .before .before .before .before .before .before .before .before .before .before .before .before .before .before .before .before .before .before .args .waiting .now))) _ _ ((c .before .before .before .before .before .before .before .before .before .before .before .before .before .write-leaves .ensures .0)) ((c .before .before .before .before .before .before .before .enum-told .given .1)) _ f _ _ ((c .before .before .before .before .write-levels .ensures .0)),
-  λ q. top-is ((c .before .before .before .before .before .before .before .before .before .before .before .before .before .before .before .before .before .before .before .before .before .args .slice .now)) ((c .before .before .before .before .before .before .before .before .before .before .before .before .before .before .before .before .before .before .before .before .before .args .dsize)) ((c .before .before .before .before .before .before .before .before .before .before .before .before .before .before .before .before .before .before .before .before .before .args .psize)) ((c .before .before .before .before .before .before .before .before .before .before .before .before .before .before .before .before .before .before .before .before .before .args .depth)) _ _ f (((c .before .before .before .before .write-levels .ensures .1)) q),
-)
+returns-2 c = let a = c .before .before .before .before .before .before .before .before .before .before .before .before .before .before .before .before .before .before .before .before .before .args in
+    let enum-told-here = c .before .before .before .before .before .before .before .enum-told in
+    let write-leaves = c .before .before .before .before .before .before .before .before .before .before .before .before .before .write-leaves in
+    let write-levels = c .before .before .before .before .write-levels in
+    let f = (write-leaves .ensures .1) (enum-told-here .given .1) in (
+      leaves-stored (a .slice .now) (a .dsize) (a .psize) (a .depth) (a .date .now) (beside (a .log .now) (a .waiting .now)) _ _ (write-leaves .ensures .0) (enum-told-here .given .1) _ f _ _
+          (write-levels .ensures .0),
+      λ q. top-is (a .slice .now) (a .dsize) (a .psize) (a .depth) _ _ f ((write-levels .ensures .1) q),
+    )
 
 pub write-blocks-spec : {M : Type 1} → statement M
 write-blocks-spec =

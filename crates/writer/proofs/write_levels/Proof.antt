@@ -17,14 +17,17 @@ use Rattle.writer.proofs.pieces.Reads as pieces-reads
 use Rattle.writer.proofs.write_level.Reads as write-level-reads
 
 abbrev Inv-loop : tie.InvT-loop
-Inv-loop log waiting₀ date width depth scores₀ n₀ k₀ waiting scores n k = Climbing width scores₀ date (beside log waiting₀) (beside log waiting) scores n k × (k ≤ depth) × (length scores ≡ length scores₀) × (length waiting ≡ length waiting₀)
+Inv-loop log waiting₀ date width depth scores₀ n₀ k₀ waiting scores n k = Climbing width scores₀ date (beside log waiting₀) (beside log waiting) scores n k × (k ≤ depth)
+    × (length scores ≡ length scores₀) × (length waiting ≡ length waiting₀)
 
 abbrev μ-loop : tie.MeasureT-loop
 μ-loop log waiting₀ date width depth scores₀ n₀ k₀ waiting scores n k = depth - k
 
 -- src/lib.rt:164:5
 loop-holds : tie.Need-loop-holds Inv-loop μ-loop
-loop-holds c = (climbing-start ((c .before .before .before .before .args .width)) ((c .before .before .before .before .args .scores .now)) ((c .before .before .before .before .args .date .now)) (beside ((c .before .before .before .before .args .log .now)) ((c .before .before .before .before .args .waiting .now))) ((c .before .before .before .before .pre .5)), omega arith, refl, refl)
+loop-holds c = let a = c .before .before .before .before .args in
+    let given = c .before .before .before .before .pre in
+    (climbing-start (a .width) (a .scores .now) (a .date .now) (beside (a .log .now) (a .waiting .now)) (given .5), omega arith, refl, refl)
 
 -- src/lib.rt:165:21
 add-kind : tie.Need-add-kind Inv-loop μ-loop
@@ -40,19 +43,22 @@ slice-relend-prefix-write-level c = omega (arith, ((c .before .before .loop .inv
 
 -- src/lib.rt:166:66
 slice-aggregate-write-level : tie.Need-slice-aggregate-write-level Inv-loop μ-loop
-slice-aggregate-write-level c = let f : ((c .before .before .before .loop .n)) ≤ length ((c .before .before .before .loop .scores)) = omega (arith, ((c .before .before .before .loop .inv .0)) .most, ((c .before .before .before .loop .inv .2))) in simp length-take (omega (arith, f))
+slice-aggregate-write-level c = let turn = c .before .before .before .loop in
+    let f : (turn .n) ≤ length (turn .scores) = omega (arith, (turn .inv .0) .most, (turn .inv .2)) in simp length-take (omega (arith, f))
 
 -- src/lib.rt:166:13
 write-level-requires : tie.Need-write-level-requires Inv-loop μ-loop
-write-level-requires c κs = let l = length-take-le ((c .before .before .before .loop .n)) ((c .before .before .before .loop .scores)) (omega (arith, ((c .before .before .before .loop .inv .0)) .most, ((c .before .before .before .loop .inv .2)))) in (
-  ((c .before .before .before .before .before .before .before .before .pre .0)),
-  pointer-type ((c .before .before .before .loop .k)) (omega (arith, ((c .before .before .loop-test .taken)), ((c .before .before .before .before .before .before .before .before .pre .4)))),
-  ((c .before .before .before .before .before .before .before .before .pre .1)),
-  ((c .before .before .before .before .before .before .before .before .pre .2)),
-  ((c .before .before .before .before .before .before .before .before .pre .3)),
-  ap (λ (x : ℕ). x % 20) l ∙ ((c .before .before .before .loop .inv .0)) .whole,
-  omega (arith, l, ((c .before .before .before .loop .inv .0)) .most, ((c .before .before .before .before .before .before .before .before .pre .6))),
-)
+write-level-requires c κs = let turn = c .before .before .before .loop in
+    let given = c .before .before .before .before .before .before .before .before .pre in
+    let l = length-take-le (turn .n) (turn .scores) (omega (arith, (turn .inv .0) .most, (turn .inv .2))) in (
+      (given .0),
+      pointer-type (turn .k) (omega (arith, ((c .before .before .loop-test .taken)), (given .4))),
+      (given .1),
+      (given .2),
+      (given .3),
+      ap (λ (x : ℕ). x % 20) l ∙ (turn .inv .0) .whole,
+      omega (arith, l, (turn .inv .0) .most, (given .6)),
+    )
 
 enum-told : tie.Need-enum-told Inv-loop μ-loop
 enum-told c = search needs
@@ -71,18 +77,27 @@ same-length-2 c = search needs
 
 -- src/lib.rt:168:13
 returns : tie.Need-returns Inv-loop μ-loop
-returns c = (
-  climbing-stopped ((c .before .before .before .before .before .before .before .before .before .before .before .before .before .before .before .args .width)) ((c .before .before .before .before .before .before .before .before .before .before .before .before .before .before .before .args .scores .now)) ((c .before .before .before .before .before .before .before .before .before .before .before .before .before .before .before .args .date .now)) (beside ((c .before .before .before .before .before .before .before .before .before .before .before .before .before .before .before .args .log .now)) ((c .before .before .before .before .before .before .before .before .before .before .before .before .before .before .before .args .waiting .now))) (beside ((c .before .before .before .before .before .before .before .before .before .before .before .before .before .before .before .args .log .now)) ((c .before .before .before .before .before .before .before .before .before .before .loop .waiting))) ((c .before .before .before .before .before .before .before .before .before .before .loop .scores)) ((c .before .before .before .before .before .before .before .before .before .before .loop .n)) ((c .before .before .before .before .before .before .before .before .before .before .loop .k)) ((c .before .before .before .before .before .before .before .before .before .before .loop .inv .0)) _ _ ((c .before .before .before .before .before .before .write-level .ensures .0)) _ ((c .before .before .before .before .before .before .before .before .before .before .before .before .before .before .before .args .depth)) ((c .enum-told2 .given .1)) ((c .before .before .before .before .before .before .before .before .before .loop-test .taken)),
-  λ q. let p = ((c .enum-told2 .given .1)) in let z : _≡_ {A = ℕ} 0 1 = cc in absurd (omega arith),
-)
+returns c = let a = c .before .before .before .before .before .before .before .before .before .before .before .before .before .before .before .args in
+    let turn = c .before .before .before .before .before .before .before .before .before .before .loop in
+    let loop-test = c .before .before .before .before .before .before .before .before .before .loop-test in
+    let write-level = c .before .before .before .before .before .before .write-level in (
+      climbing-stopped (a .width) (a .scores .now) (a .date .now) (beside (a .log .now) (a .waiting .now)) (beside (a .log .now) (turn .waiting)) (turn .scores) (turn .n) (turn .k) (turn .inv .0) _ _
+          (write-level .ensures .0) _ (a .depth) ((c .enum-told2 .given .1)) (loop-test .taken),
+      λ q. let p = ((c .enum-told2 .given .1)) in let z : _≡_ {A = ℕ} 0 1 = cc in absurd (omega arith),
+    )
 
 -- src/lib.rt:170:18
 pieces-requires : tie.Need-pieces-requires Inv-loop μ-loop
-pieces-requires c κs = (omega (arith, ((c .before .before .before .before .before .before .before .before .before .before .before .before .before .before .before .pre .1))), ((c .before .before .before .before .before .before .before .before .before .before .before .before .before .before .before .pre .2)), omega (arith, ((c .before .before .before .before .before .before .before .before .before .before .loop .inv .0)) .most, ((c .before .before .before .before .before .before .before .before .before .before .before .before .before .before .before .pre .6))))
+pieces-requires c κs = let turn = c .before .before .before .before .before .before .before .before .before .before .loop in
+    let given = c .before .before .before .before .before .before .before .before .before .before .before .before .before .before .before .pre in
+    (omega (arith, (given .1)), (given .2), omega (arith, (turn .inv .0) .most, (given .6)))
 
 -- src/lib.rt:170:13
 mul-n : tie.Need-mul-n Inv-loop μ-loop
-mul-n c = omega (arith, ((c .pieces .ensures)), fewer-scores ((c .before .before .before .before .before .before .before .before .before .before .before .before .before .before .before .before .args .width)) ((c .before .before .before .before .before .before .before .before .before .before .before .loop .n)) ((c .before .before .before .before .before .before .before .before .before .before .before .before .before .before .before .before .pre .1)) (((c .before .before .before .before .before .before .before .before .before .before .before .loop .inv .0)) .whole), ((c .before .before .before .before .before .before .before .before .before .before .before .loop .inv .0)) .most, ((c .before .before .before .before .before .before .before .before .before .before .before .before .before .before .before .before .pre .6)))
+mul-n c = let a = c .before .before .before .before .before .before .before .before .before .before .before .before .before .before .before .before .args in
+    let turn = c .before .before .before .before .before .before .before .before .before .before .before .loop in
+    let given = c .before .before .before .before .before .before .before .before .before .before .before .before .before .before .before .before .pre in
+    omega (arith, ((c .pieces .ensures)), fewer-scores (a .width) (turn .n) (given .1) ((turn .inv .0) .whole), (turn .inv .0) .most, (given .6))
 
 -- src/lib.rt:171:9
 add-k : tie.Need-add-k Inv-loop μ-loop
@@ -94,12 +109,19 @@ loop-less c = search needs
 
 -- src/lib.rt:164:5
 loop-again : tie.Need-loop-again Inv-loop μ-loop
-loop-again c = let e : 20 * ((c .pieces .result)) ≡ 20 * partsOf ((c .before .before .before .before .before .before .before .before .before .before .before .before .before .before .before .before .args .width)) ((c .before .before .before .before .before .before .before .before .before .before .before .loop .n)) = omega (arith, ((c .pieces .ensures))) in (
-  climbing-next ((c .before .before .before .before .before .before .before .before .before .before .before .before .before .before .before .before .args .width)) ((c .before .before .before .before .before .before .before .before .before .before .before .before .before .before .before .before .args .scores .now)) ((c .before .before .before .before .before .before .before .before .before .before .before .before .before .before .before .before .args .date .now)) (beside ((c .before .before .before .before .before .before .before .before .before .before .before .before .before .before .before .before .args .log .now)) ((c .before .before .before .before .before .before .before .before .before .before .before .before .before .before .before .before .args .waiting .now))) (beside ((c .before .before .before .before .before .before .before .before .before .before .before .before .before .before .before .before .args .log .now)) ((c .before .before .before .before .before .before .before .before .before .before .before .loop .waiting))) ((c .before .before .before .before .before .before .before .before .before .before .before .loop .scores)) ((c .before .before .before .before .before .before .before .before .before .before .before .loop .n)) ((c .before .before .before .before .before .before .before .before .before .before .before .loop .k)) ((c .before .before .before .before .before .before .before .before .before .before .before .loop .inv .0)) _ _ ((c .before .before .before .before .before .before .before .write-level .ensures .0)) ((c .before .before .before .before .before .before .before .before .before .before .before .before .before .before .before .before .pre .1)) ((c .before .enum-told .given .1)) _ (search needs) (((c .before .before .before .before .before .before .before .write-level .ensures .1)) ((c .before .enum-told .given .1))) ((c .before .before .before .before .before .before .before .before .before .before .before .loop .inv .2)) _ refl _ e,
-  omega (arith, ((c .before .before .before .before .before .before .before .before .before .before .loop-test .taken))),
-  search needs,
-  search needs,
-)
+loop-again c = let a = c .before .before .before .before .before .before .before .before .before .before .before .before .before .before .before .before .args in
+    let enum-told-here = c .before .enum-told in
+    let turn = c .before .before .before .before .before .before .before .before .before .before .before .loop in
+    let loop-test = c .before .before .before .before .before .before .before .before .before .before .loop-test in
+    let given = c .before .before .before .before .before .before .before .before .before .before .before .before .before .before .before .before .pre in
+    let write-level = c .before .before .before .before .before .before .before .write-level in
+    let e : 20 * ((c .pieces .result)) ≡ 20 * partsOf (a .width) (turn .n) = omega (arith, ((c .pieces .ensures))) in (
+      climbing-next (a .width) (a .scores .now) (a .date .now) (beside (a .log .now) (a .waiting .now)) (beside (a .log .now) (turn .waiting)) (turn .scores) (turn .n) (turn .k) (turn .inv .0) _ _
+          (write-level .ensures .0) (given .1) (enum-told-here .given .1) _ (search needs) ((write-level .ensures .1) (enum-told-here .given .1)) (turn .inv .2) _ refl _ e,
+      omega (arith, (loop-test .taken)),
+      search needs,
+      search needs,
+    )
 
 -- src/lib.rt:150:1
 same-length-3 : tie.Need-same-length-3 Inv-loop μ-loop
@@ -111,10 +133,13 @@ same-length-4 c = search needs
 
 -- src/lib.rt:150:1
 returns-2 : tie.Need-returns-2 Inv-loop μ-loop
-returns-2 c = let e : ((c .before .loop .k)) ≡ ((c .before .before .before .before .before .before .args .depth)) = omega (arith, ((c .loop-test .left)), ((c .before .loop .inv .1))) in
-    let g = ((c .before .loop .inv .0)) in (
-      g .blocks ∙ ap (λ (x : ℕ). storeAll (beside ((c .before .before .before .before .before .before .args .log .now)) ((c .before .before .before .before .before .before .args .waiting .now))) ((c .before .before .before .before .before .before .args .date .now)) (pointerBlocks ((c .before .before .before .before .before .before .args .width)) ((c .before .before .before .before .before .before .args .scores .now)) x)) e,
-      λ _. climbing-end ((c .before .before .before .before .before .before .args .width)) ((c .before .before .before .before .before .before .args .scores .now)) ((c .before .before .before .before .before .before .args .date .now)) (beside ((c .before .before .before .before .before .before .args .log .now)) ((c .before .before .before .before .before .before .args .waiting .now))) (beside ((c .before .before .before .before .before .before .args .log .now)) ((c .before .loop .waiting))) ((c .before .loop .scores)) ((c .before .loop .n)) ((c .before .loop .k)) ((c .before .loop .inv .2)) g ∙ ap (λ (x : ℕ). topOf (scoresAt ((c .before .before .before .before .before .before .args .width)) ((c .before .before .before .before .before .before .args .scores .now)) x)) e,
+returns-2 c = let a = c .before .before .before .before .before .before .args in
+    let turn = c .before .loop in
+    let e : (turn .k) ≡ (a .depth) = omega (arith, ((c .loop-test .left)), (turn .inv .1)) in
+    let g = (turn .inv .0) in (
+      g .blocks ∙ ap (λ (x : ℕ). storeAll (beside (a .log .now) (a .waiting .now)) (a .date .now) (pointerBlocks (a .width) (a .scores .now) x)) e,
+      λ _. climbing-end (a .width) (a .scores .now) (a .date .now) (beside (a .log .now) (a .waiting .now)) (beside (a .log .now) (turn .waiting)) (turn .scores) (turn .n) (turn .k) (turn .inv .2) g
+          ∙ ap (λ (x : ℕ). topOf (scoresAt (a .width) (a .scores .now) x)) e,
     )
 
 pub write-levels-spec : {M : Type 1} → statement M

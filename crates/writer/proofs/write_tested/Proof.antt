@@ -26,41 +26,69 @@ pieces-requires c κs = search needs
 
 -- src/lib.rt:269:13
 mul-n : tie.Need-mul-n
-mul-n c = omega (arith, few-pieces ((c .before .before .before .before .before .before .before .args .dsize)) (length ((c .before .before .before .before .before .before .before .args .slice .now))) ((c .before .before .before .before .before .before .before .pre .2)), ((c .pieces .ensures)), ((c .before .before .before .before .before .before .before .pre .1)))
+mul-n c = let a = c .before .before .before .before .before .before .before .args in
+    let given = c .before .before .before .before .before .before .before .pre in
+    omega (arith, few-pieces (a .dsize) (length (a .slice .now)) (given .2), ((c .pieces .ensures)), (given .1))
 
 -- src/lib.rt:270:78
 slice-relend-prefix-write-blocks : tie.Need-slice-relend-prefix-write-blocks
-slice-relend-prefix-write-blocks c = omega (arith, few-pieces ((c .before .before .before .before .before .before .before .before .args .dsize)) (length ((c .before .before .before .before .before .before .before .before .args .slice .now))) ((c .before .before .before .before .before .before .before .before .pre .2)), ((c .before .pieces .ensures)), ((c .before .before .before .before .before .before .before .before .pre .1)), ((c .before .before .before .before .before .before .before .before .pre .8)))
+slice-relend-prefix-write-blocks c = let a = c .before .before .before .before .before .before .before .before .args in
+    let given = c .before .before .before .before .before .before .before .before .pre in
+    omega (arith, few-pieces (a .dsize) (length (a .slice .now)) (given .2), ((c .before .pieces .ensures)), (given .1), (given .8))
 
 -- src/lib.rt:270:78
 slice-aggregate-write-blocks : tie.Need-slice-aggregate-write-blocks
-slice-aggregate-write-blocks c = let f : 20 * ((c .before .before .pieces .result)) ≤ length ((c .before .before .before .before .before .before .before .before .before .args .scores .now)) = omega (arith, few-pieces ((c .before .before .before .before .before .before .before .before .before .args .dsize)) (length ((c .before .before .before .before .before .before .before .before .before .args .slice .now))) ((c .before .before .before .before .before .before .before .before .before .pre .2)), ((c .before .before .pieces .ensures)), ((c .before .before .before .before .before .before .before .before .before .pre .1)), ((c .before .before .before .before .before .before .before .before .before .pre .8))) in simp length-take (omega (arith, f))
+slice-aggregate-write-blocks c = let a = c .before .before .before .before .before .before .before .before .before .args in
+    let pieces = c .before .before .pieces in
+    let given = c .before .before .before .before .before .before .before .before .before .pre in
+    let f : 20 * (pieces .result) ≤ length (a .scores .now) = omega (arith, few-pieces (a .dsize) (length (a .slice .now)) (given .2), (pieces .ensures), (given .1), (given .8)) in
+    simp length-take (omega (arith, f))
 
 -- src/lib.rt:270:9
 write-blocks-requires : tie.Need-write-blocks-requires
-write-blocks-requires c κs = let f : 20 * ((c .before .before .pieces .result)) ≤ length ((c .before .before .before .before .before .before .before .before .before .args .scores .now)) = omega (arith, few-pieces ((c .before .before .before .before .before .before .before .before .before .args .dsize)) (length ((c .before .before .before .before .before .before .before .before .before .args .slice .now))) ((c .before .before .before .before .before .before .before .before .before .pre .2)), ((c .before .before .pieces .ensures)), ((c .before .before .before .before .before .before .before .before .before .pre .1)), ((c .before .before .before .before .before .before .before .before .before .pre .8))) in
-    (((c .before .before .before .before .before .before .before .before .before .pre .0)), ((c .before .before .before .before .before .before .before .before .before .pre .1)), ((c .before .before .before .before .before .before .before .before .before .pre .2)), ((c .before .before .before .before .before .before .before .before .before .pre .3)), ((c .before .before .before .before .before .before .before .before .before .pre .4)), ((c .before .before .before .before .before .before .before .before .before .pre .5)), ((c .before .before .before .before .before .before .before .before .before .pre .6)), length-take-le (20 * ((c .before .before .pieces .result))) ((c .before .before .before .before .before .before .before .before .before .args .scores .now)) f ∙ ap (λ (k : ℕ). 20 * k) ((c .before .before .pieces .ensures)))
+write-blocks-requires c κs = let a = c .before .before .before .before .before .before .before .before .before .args in
+    let pieces = c .before .before .pieces in
+    let given = c .before .before .before .before .before .before .before .before .before .pre in
+    let f : 20 * (pieces .result) ≤ length (a .scores .now) = omega (arith, few-pieces (a .dsize) (length (a .slice .now)) (given .2), (pieces .ensures), (given .1), (given .8)) in
+    ((given .0), (given .1), (given .2), (given .3), (given .4), (given .5), (given .6), length-take-le (20 * (pieces .result)) (a .scores .now) f ∙ ap (λ (k : ℕ). 20 * k) (pieces .ensures))
 
 -- src/lib.rt:271:58
 slice-reshare-prefix-make-entry : tie.Need-slice-reshare-prefix-make-entry
-slice-reshare-prefix-make-entry c = let f : 20 * ((c .before .before .before .before .before .before .before .pieces .result)) ≤ length ((c .before .before .before .before .before .before .before .before .before .before .before .before .before .before .args .scores .now)) = omega (arith, few-pieces ((c .before .before .before .before .before .before .before .before .before .before .before .before .before .before .args .dsize)) (length ((c .before .before .before .before .before .before .before .before .before .before .before .before .before .before .args .slice .now))) ((c .before .before .before .before .before .before .before .before .before .before .before .before .before .before .pre .2)), ((c .before .before .before .before .before .before .before .pieces .ensures)), ((c .before .before .before .before .before .before .before .before .before .before .before .before .before .before .pre .1)), ((c .before .before .before .before .before .before .before .before .before .before .before .before .before .before .pre .8))) in search needs
+slice-reshare-prefix-make-entry c = let a = c .before .before .before .before .before .before .before .before .before .before .before .before .before .before .args in
+    let pieces = c .before .before .before .before .before .before .before .pieces in
+    let given = c .before .before .before .before .before .before .before .before .before .before .before .before .before .before .pre in
+    let f : 20 * (pieces .result) ≤ length (a .scores .now) = omega (arith, few-pieces (a .dsize) (length (a .slice .now)) (given .2), (pieces .ensures), (given .1), (given .8)) in search needs
 
 -- src/lib.rt:271:58
 slice-aggregate-make-entry : tie.Need-slice-aggregate-make-entry
-slice-aggregate-make-entry c = let f : 20 * ((c .before .before .before .before .before .before .before .before .pieces .result)) ≤ length ((c .before .before .before .before .before .before .before .before .before .before .before .before .before .before .before .args .scores .now)) = omega (arith, few-pieces ((c .before .before .before .before .before .before .before .before .before .before .before .before .before .before .before .args .dsize)) (length ((c .before .before .before .before .before .before .before .before .before .before .before .before .before .before .before .args .slice .now))) ((c .before .before .before .before .before .before .before .before .before .before .before .before .before .before .before .pre .2)), ((c .before .before .before .before .before .before .before .before .pieces .ensures)), ((c .before .before .before .before .before .before .before .before .before .before .before .before .before .before .before .pre .1)), ((c .before .before .before .before .before .before .before .before .before .before .before .before .before .before .before .pre .8))) in simp length-take (search needs)
+slice-aggregate-make-entry c = let a = c .before .before .before .before .before .before .before .before .before .before .before .before .before .before .before .args in
+    let pieces = c .before .before .before .before .before .before .before .before .pieces in
+    let given = c .before .before .before .before .before .before .before .before .before .before .before .before .before .before .before .pre in
+    let f : 20 * (pieces .result) ≤ length (a .scores .now) = omega (arith, few-pieces (a .dsize) (length (a .slice .now)) (given .2), (pieces .ensures), (given .1), (given .8)) in
+    simp length-take (search needs)
 
 -- src/lib.rt:271:13
 make-entry-requires : tie.Need-make-entry-requires
-make-entry-requires c κs = let f : 20 * ((c .before .before .before .before .before .before .before .before .pieces .result)) ≤ length ((c .before .before .before .before .before .before .before .before .before .before .before .before .before .before .before .args .scores .now)) = omega (arith, few-pieces ((c .before .before .before .before .before .before .before .before .before .before .before .before .before .before .before .args .dsize)) (length ((c .before .before .before .before .before .before .before .before .before .before .before .before .before .before .before .args .slice .now))) ((c .before .before .before .before .before .before .before .before .before .before .before .before .before .before .before .pre .2)), ((c .before .before .before .before .before .before .before .before .pieces .ensures)), ((c .before .before .before .before .before .before .before .before .before .before .before .before .before .before .before .pre .1)), ((c .before .before .before .before .before .before .before .before .before .before .before .before .before .before .before .pre .8))) in
-    (((c .before .before .before .before .before .before .before .before .before .before .before .before .before .before .before .pre .5)), ((c .before .before .before .before .before .before .before .before .before .before .before .before .before .before .before .pre .3)), ((c .before .before .before .before .before .before .before .before .before .before .before .before .before .before .before .pre .6)), omega (arith, (c .before .before .before .before .before .before .before .before .before .before .before .before .before .before .before .pre .1), (c .before .before .before .before .before .before .before .before .before .before .before .before .before .before .before .pre .3)), simp length-take (search needs))
+make-entry-requires c κs = let a = c .before .before .before .before .before .before .before .before .before .before .before .before .before .before .before .args in
+    let pieces = c .before .before .before .before .before .before .before .before .pieces in
+    let given = c .before .before .before .before .before .before .before .before .before .before .before .before .before .before .before .pre in
+    let f : 20 * (pieces .result) ≤ length (a .scores .now) = omega (arith, few-pieces (a .dsize) (length (a .slice .now)) (given .2), (pieces .ensures), (given .1), (given .8)) in
+    ((given .5), (given .3), (given .6), omega (arith, (given .1), (given .3)), simp length-take (search needs))
 
 -- src/lib.rt:272:19
 slice-relend-prefix-clear : tie.Need-slice-relend-prefix-clear
-slice-relend-prefix-clear c = let f : 20 * ((c .before .before .before .before .before .before .before .before .before .pieces .result)) ≤ length ((c .before .before .before .before .before .before .before .before .before .before .before .before .before .before .before .before .args .scores .now)) = omega (arith, few-pieces ((c .before .before .before .before .before .before .before .before .before .before .before .before .before .before .before .before .args .dsize)) (length ((c .before .before .before .before .before .before .before .before .before .before .before .before .before .before .before .before .args .slice .now))) ((c .before .before .before .before .before .before .before .before .before .before .before .before .before .before .before .before .pre .2)), ((c .before .before .before .before .before .before .before .before .before .pieces .ensures)), ((c .before .before .before .before .before .before .before .before .before .before .before .before .before .before .before .before .pre .1)), ((c .before .before .before .before .before .before .before .before .before .before .before .before .before .before .before .before .pre .8))) in search needs
+slice-relend-prefix-clear c = let a = c .before .before .before .before .before .before .before .before .before .before .before .before .before .before .before .before .args in
+    let pieces = c .before .before .before .before .before .before .before .before .before .pieces in
+    let given = c .before .before .before .before .before .before .before .before .before .before .before .before .before .before .before .before .pre in
+    let f : 20 * (pieces .result) ≤ length (a .scores .now) = omega (arith, few-pieces (a .dsize) (length (a .slice .now)) (given .2), (pieces .ensures), (given .1), (given .8)) in search needs
 
 -- src/lib.rt:272:19
 slice-aggregate-clear : tie.Need-slice-aggregate-clear
-slice-aggregate-clear c = let f : 20 * ((c .before .before .before .before .before .before .before .before .before .before .pieces .result)) ≤ length ((c .before .before .before .before .before .before .before .before .before .before .before .before .before .before .before .before .before .args .scores .now)) = omega (arith, few-pieces ((c .before .before .before .before .before .before .before .before .before .before .before .before .before .before .before .before .before .args .dsize)) (length ((c .before .before .before .before .before .before .before .before .before .before .before .before .before .before .before .before .before .args .slice .now))) ((c .before .before .before .before .before .before .before .before .before .before .before .before .before .before .before .before .before .pre .2)), ((c .before .before .before .before .before .before .before .before .before .before .pieces .ensures)), ((c .before .before .before .before .before .before .before .before .before .before .before .before .before .before .before .before .before .pre .1)), ((c .before .before .before .before .before .before .before .before .before .before .before .before .before .before .before .before .before .pre .8))) in simp length-take (search needs)
+slice-aggregate-clear c = let a = c .before .before .before .before .before .before .before .before .before .before .before .before .before .before .before .before .before .args in
+    let pieces = c .before .before .before .before .before .before .before .before .before .before .pieces in
+    let given = c .before .before .before .before .before .before .before .before .before .before .before .before .before .before .before .before .before .pre in
+    let f : 20 * (pieces .result) ≤ length (a .scores .now) = omega (arith, few-pieces (a .dsize) (length (a .slice .now)) (given .2), (pieces .ensures), (given .1), (given .8)) in
+    simp length-take (search needs)
 
 -- src/lib.rt:272:5
 clear-requires : tie.Need-clear-requires
@@ -83,8 +111,15 @@ same-length-2 c = search needs
 
 -- src/lib.rt:274:9
 returns : tie.Need-returns
-returns c = let f : 20 * ((c .before .before .before .before .before .before .before .before .before .before .before .before .before .before .before .pieces .result)) ≤ length ((c .before .before .before .before .before .before .before .before .before .before .before .before .before .before .before .before .before .before .before .before .before .before .args .scores .now)) = omega (arith, few-pieces ((c .before .before .before .before .before .before .before .before .before .before .before .before .before .before .before .before .before .before .before .before .before .before .args .dsize)) (length ((c .before .before .before .before .before .before .before .before .before .before .before .before .before .before .before .before .before .before .before .before .before .before .args .slice .now))) ((c .before .before .before .before .before .before .before .before .before .before .before .before .before .before .before .before .before .before .before .before .before .before .pre .2)), ((c .before .before .before .before .before .before .before .before .before .before .before .before .before .before .before .pieces .ensures)), ((c .before .before .before .before .before .before .before .before .before .before .before .before .before .before .before .before .before .before .before .before .before .before .pre .1)), ((c .before .before .before .before .before .before .before .before .before .before .before .before .before .before .before .before .before .before .before .before .before .before .pre .8))) in
-    tested-refused ((c .before .before .before .before .before .before .before .before .before .before .before .before .before .before .before .before .before .before .before .before .before .before .args .log .now)) ((c .before .before .before .before .before .before .before .before .before .before .before .before .before .before .before .before .before .before .before .before .before .before .args .waiting .now)) ((c .before .before .before .before .before .before .before .before .before .before .before .before .before .before .before .before .before .before .before .before .before .before .args .date .now)) ((c .before .before .before .before .before .before .before .before .before .before .before .before .before .before .before .before .before .before .before .before .before .before .args .slice .now)) ((c .before .before .before .before .before .before .before .before .before .before .before .before .before .before .before .before .before .before .before .before .before .before .args .dsize)) ((c .before .before .before .before .before .before .before .before .before .before .before .before .before .before .before .before .before .before .before .before .before .before .args .psize)) ((c .before .before .before .before .before .before .before .before .before .before .before .before .before .before .before .before .before .before .before .before .before .before .args .entry .now)) ((c .before .before .before .before .before .before .before .before .before .before .before .before .before .before .before .before .before .before .before .before .before .before .args .scores .now)) ((c .before .before .before .before .before .before .before .before .before .before .before .before .before .before .before .before .before .before .before .before .before .before .args .depth)) _ _ ((c .before .before .before .before .before .before .before .before .before .before .before .before .write-blocks .ensures .0)) _ ((c .before .before .before .before .before .before .before .before .before .before .before .before .write-blocks .ensures .1)) (20 * ((c .before .before .before .before .before .before .before .before .before .before .before .before .before .before .before .pieces .result))) (ap (λ (k : ℕ). 20 * k) ((c .before .before .before .before .before .before .before .before .before .before .before .before .before .before .before .pieces .ensures))) f _ ((c .before .before .before .before .clear .ensures)) _ ((c .enum-told2 .given .1)) (search needs)
+returns c = let a = c .before .before .before .before .before .before .before .before .before .before .before .before .before .before .before .before .before .before .before .before .before .before .args in
+    let clear = c .before .before .before .before .clear in
+    let pieces = c .before .before .before .before .before .before .before .before .before .before .before .before .before .before .before .pieces in
+    let given = c .before .before .before .before .before .before .before .before .before .before .before .before .before .before .before .before .before .before .before .before .before .before .pre
+    in
+    let write-blocks = c .before .before .before .before .before .before .before .before .before .before .before .before .write-blocks in
+    let f : 20 * (pieces .result) ≤ length (a .scores .now) = omega (arith, few-pieces (a .dsize) (length (a .slice .now)) (given .2), (pieces .ensures), (given .1), (given .8)) in
+    tested-refused (a .log .now) (a .waiting .now) (a .date .now) (a .slice .now) (a .dsize) (a .psize) (a .entry .now) (a .scores .now) (a .depth) _ _ (write-blocks .ensures .0) _
+    (write-blocks .ensures .1) (20 * (pieces .result)) (ap (λ (k : ℕ). 20 * k) (pieces .ensures)) f _ (clear .ensures) _ ((c .enum-told2 .given .1)) (search needs)
 
 -- src/lib.rt:276:31
 slice-aggregate-copy-at : tie.Need-slice-aggregate-copy-at
@@ -108,8 +143,17 @@ same-length-5 c = search needs
 
 -- src/lib.rt:255:1
 returns-2 : tie.Need-returns-2
-returns-2 c = let f : 20 * ((c .before .before .before .before .before .before .before .before .before .before .before .before .before .before .before .before .before .before .before .before .pieces .result)) ≤ length ((c .before .before .before .before .before .before .before .before .before .before .before .before .before .before .before .before .before .before .before .before .before .before .before .before .before .before .before .args .scores .now)) = omega (arith, few-pieces ((c .before .before .before .before .before .before .before .before .before .before .before .before .before .before .before .before .before .before .before .before .before .before .before .before .before .before .before .args .dsize)) (length ((c .before .before .before .before .before .before .before .before .before .before .before .before .before .before .before .before .before .before .before .before .before .before .before .before .before .before .before .args .slice .now))) ((c .before .before .before .before .before .before .before .before .before .before .before .before .before .before .before .before .before .before .before .before .before .before .before .before .before .before .before .pre .2)), ((c .before .before .before .before .before .before .before .before .before .before .before .before .before .before .before .before .before .before .before .before .pieces .ensures)), ((c .before .before .before .before .before .before .before .before .before .before .before .before .before .before .before .before .before .before .before .before .before .before .before .before .before .before .before .pre .1)), ((c .before .before .before .before .before .before .before .before .before .before .before .before .before .before .before .before .before .before .before .before .before .before .before .before .before .before .before .pre .8))) in
-    tested-done ((c .before .before .before .before .before .before .before .before .before .before .before .before .before .before .before .before .before .before .before .before .before .before .before .before .before .before .before .args .log .now)) ((c .before .before .before .before .before .before .before .before .before .before .before .before .before .before .before .before .before .before .before .before .before .before .before .before .before .before .before .args .waiting .now)) ((c .before .before .before .before .before .before .before .before .before .before .before .before .before .before .before .before .before .before .before .before .before .before .before .before .before .before .before .args .date .now)) ((c .before .before .before .before .before .before .before .before .before .before .before .before .before .before .before .before .before .before .before .before .before .before .before .before .before .before .before .args .slice .now)) ((c .before .before .before .before .before .before .before .before .before .before .before .before .before .before .before .before .before .before .before .before .before .before .before .before .before .before .before .args .dsize)) ((c .before .before .before .before .before .before .before .before .before .before .before .before .before .before .before .before .before .before .before .before .before .before .before .before .before .before .before .args .psize)) ((c .before .before .before .before .before .before .before .before .before .before .before .before .before .before .before .before .before .before .before .before .before .before .before .before .before .before .before .args .entry .now)) ((c .before .before .before .before .before .before .before .before .before .before .before .before .before .before .before .before .before .before .before .before .before .before .before .before .before .before .before .args .scores .now)) ((c .before .before .before .before .before .before .before .before .before .before .before .before .before .before .before .before .before .before .before .before .before .before .before .before .before .before .before .args .depth)) _ _ ((c .before .before .before .before .before .before .before .before .before .before .before .before .before .before .before .before .before .write-blocks .ensures .0)) _ ((c .before .before .before .before .before .before .before .before .before .before .before .before .before .before .before .before .before .write-blocks .ensures .1)) (20 * ((c .before .before .before .before .before .before .before .before .before .before .before .before .before .before .before .before .before .before .before .before .pieces .result))) (ap (λ (k : ℕ). 20 * k) ((c .before .before .before .before .before .before .before .before .before .before .before .before .before .before .before .before .before .before .before .before .pieces .ensures))) f _ ((c .before .before .before .before .before .before .before .before .before .clear .ensures)) ((c .before .before .before .before .before .enum-told .given .1)) _ ((c .before .before .before .before .before .before .before .before .before .before .before .make-entry .ensures)) _ ((c .before .before .copy-at .ensures)) (search needs) (search needs)
+returns-2 c = let a = c .before .before .before .before .before .before .before .before .before .before .before .before .before .before .before .before .before .before .before .before .before .before .before .before .before .before .before .args in
+    let clear = c .before .before .before .before .before .before .before .before .before .clear in
+    let enum-told-here = c .before .before .before .before .before .enum-told in
+    let make-entry = c .before .before .before .before .before .before .before .before .before .before .before .make-entry in
+    let pieces = c .before .before .before .before .before .before .before .before .before .before .before .before .before .before .before .before .before .before .before .before .pieces in
+    let given = c .before .before .before .before .before .before .before .before .before .before .before .before .before .before .before .before .before .before .before .before .before .before .before .before .before .before .before .pre in
+    let write-blocks = c .before .before .before .before .before .before .before .before .before .before .before .before .before .before .before .before .before .write-blocks in
+    let f : 20 * (pieces .result) ≤ length (a .scores .now) = omega (arith, few-pieces (a .dsize) (length (a .slice .now)) (given .2), (pieces .ensures), (given .1), (given .8)) in
+    tested-done (a .log .now) (a .waiting .now) (a .date .now) (a .slice .now) (a .dsize) (a .psize) (a .entry .now) (a .scores .now) (a .depth) _ _ (write-blocks .ensures .0) _
+    (write-blocks .ensures .1) (20 * (pieces .result)) (ap (λ (k : ℕ). 20 * k) (pieces .ensures)) f _ (clear .ensures) (enum-told-here .given .1) _ (make-entry .ensures) _
+    ((c .before .before .copy-at .ensures)) (search needs) (search needs)
 
 pub write-tested-spec : {M : Type 1} → statement M
 write-tested-spec =

@@ -29,7 +29,8 @@ same-length-3 c = search needs
 
 -- src/lib.rt:19:1
 returns : tie.Need-returns
-returns c = wrote-so (c .before .before .before .before .before .before .before .write-file .result) _ _ _ _ (c .end-number .result) (c .before .before .before .before .before .before .before .write-file .ensures) (c .end-number .ensures)
+returns c = let write-file = c .before .before .before .before .before .before .before .write-file in
+    wrote-so (write-file .result) _ _ _ _ (c .end-number .result) (write-file .ensures) (c .end-number .ensures)
 
 pub write-file-spec : {M : Type 1} → statement M
 write-file-spec =
