@@ -1,7 +1,8 @@
 //! What an archive under test has to offer.
 
 use second::changes::{Compared, Part};
-use second::known::KNOWN;
+use second::known::{Known, KNOWN};
+use second::known_request::{self, Parts};
 use second::query::Value;
 use second::tree::Run;
 use second::{Refusal, Score, Session};
@@ -63,7 +64,7 @@ pub trait Archive {
         second::known::learn(log, waiting, index).bytes()
     }
 
-    /// One request by what is known, and what is known then.
+    /// One request by what is said to be known, and what is known then.
     fn serve_known(
         &mut self,
         known: &mut [u8; KNOWN],
@@ -78,9 +79,14 @@ pub trait Archive {
             waiting,
             index,
         } = lent;
-        let (date, both) = (Some(date), Some(&mut *waiting));
-        let answer = second::request::serve_by(session, message, date, log, both, index, reply);
-        *known = second::known::learn(log, waiting, index).bytes();
+        let mut now = Known::of(known);
+        let parts = Parts {
+            log,
+            waiting,
+            index,
+        };
+        let answer = known_request::serve(&mut now, session, message, date, parts, reply);
+        *known = now.bytes();
         answer
     }
 

@@ -1,6 +1,6 @@
 //! Shams that break a rule of what is known from the last request.
 
-use second::known::{learn, KNOWN};
+use second::known::{learn, Known, KNOWN};
 use second::log::used;
 use second::message::{accept, Lent, Request};
 use second::Session;
@@ -10,13 +10,16 @@ use crate::sham_tools::refuse;
 use crate::shams::{append, Broken};
 
 /// Those of which requests are tried by what is known.
-pub const RULES: [Broken; 6] = [
+pub const RULES: [Broken; 9] = [
     Broken::KnownNotRenewed,
     Broken::KnownExactAfterOverflow,
     Broken::KnownDoubtForgotten,
     Broken::KnownMissesDuplicate,
     Broken::KnownKeptAtSync,
     Broken::KnownByLastCopy,
+    Broken::KnownAlwaysLearned,
+    Broken::KnownDoubtPastTheEnd,
+    Broken::KnownExactByAnyByte,
 ];
 
 /// What is learned by a broken rule.
@@ -58,6 +61,26 @@ pub fn serve(
     };
     let request = accept(session, message, Some(date), reply.len(), lengths);
     let (before, waits) = (*known, used(waiting));
+    let said = Known::of(&before);
+    let past = said.doubt >= Some(said.used.saturating_add(said.waits));
+    *known = match (broken, request) {
+        // Right of what was learned, and wrong of what is made up.
+        (
+            Broken::KnownAlwaysLearned,
+            Ok(Request::Read { .. } | Request::Write { .. } | Request::Sync),
+        ) => learn(log, waiting, index).bytes(),
+        (Broken::KnownDoubtPastTheEnd, _) if past => Known {
+            doubt: None,
+            ..said
+        }
+        .bytes(),
+        (Broken::KnownExactByAnyByte, _) => Known {
+            exact: before[KNOWN - 1] > 0,
+            ..said
+        }
+        .bytes(),
+        _ => before,
+    };
     let right = Second.serve_known(
         known,
         session,
@@ -74,7 +97,13 @@ pub fn serve(
     match (broken, request) {
         (Broken::KnownNotRenewed, Ok(Request::Write { .. })) => *known = before,
         (Broken::KnownKeptAtSync, Ok(Request::Sync)) => *known = before,
-        (Broken::KnownExactAfterOverflow, Ok(_)) if stored => known[24] = before[24],
+        (Broken::KnownDoubtPastTheEnd, _) if past => {
+            let (doubt, now) = (said.doubt, Known::of(known));
+            *known = Known { doubt, ..now }.bytes();
+        }
+        (Broken::KnownExactAfterOverflow, Ok(_)) if stored => {
+            known[KNOWN - 1] = u8::from(said.exact)
+        }
         (Broken::KnownDoubtForgotten, Ok(Request::Read { .. })) if right.0 == 12 => {
             refuse(11, message, reply);
             return (11, right.1);

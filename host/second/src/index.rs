@@ -44,6 +44,12 @@ pub fn enter(index: &mut [u8], score: &Score, kind: u8, sector: usize) {
     }
 }
 
+/// Whether the bucket of a score has an entry with it, this type and this sector.
+pub fn listed(index: &[u8], score: &Score, kind: u8, sector: usize) -> bool {
+    let mut entries = index[bucket(index.len(), score)].chunks_exact(HINT);
+    entries.any(|entry| entry == hint(score, kind, sector))
+}
+
 /// Makes the index of a log alone: clears the buckets and enters each sound block in log order. Gives the
 /// number, 0 for none.
 pub fn rebuild(log: &[u8], index: &mut [u8]) -> u8 {

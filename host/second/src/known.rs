@@ -3,6 +3,8 @@
 
 use crate::index::hinted;
 use crate::log::{joined, used, Contents};
+use crate::message::number;
+use crate::sector::SECTOR;
 
 /// The bytes in which it is handed on.
 pub const KNOWN: usize = 25;
@@ -29,6 +31,26 @@ impl Known {
         bytes[24] = u8::from(self.exact);
         bytes
     }
+
+    /// Of any bytes.
+    pub fn of(bytes: &[u8; KNOWN]) -> Known {
+        Known {
+            used: number(&bytes[..8]),
+            waits: number(&bytes[8..16]),
+            doubt: number(&bytes[16..24]).checked_sub(1),
+            exact: bytes[24] == 1,
+        }
+    }
+
+    /// Whether it can be known of a log and a waiting part of these lengths: no part has more used sectors
+    /// than it has sectors, and a doubtful one is before the end of both.
+    pub fn belongs(&self, log_len: usize, waiting_len: usize) -> bool {
+        self.used <= log_len / SECTOR
+            && self.waits <= waiting_len / SECTOR
+            && self
+                .doubt
+                .is_none_or(|sector| sector < self.used + self.waits)
+    }
 }
 
 pub fn learn(log: &[u8], waiting: &[u8], index: &[u8]) -> Known {
@@ -53,6 +75,26 @@ mod tests {
     use crate::index::{enter, BUCKETS, HINT};
     use crate::log::write;
     use crate::sha1::sha1;
+
+    #[test]
+    fn what_belongs() {
+        let known = |used, waits, doubt| Known {
+            used,
+            waits,
+            doubt,
+            exact: true,
+        };
+        let belongs = |known: Known| known.belongs(4 * 512, 2 * 512);
+        assert!(belongs(known(0, 0, None)));
+        assert!(belongs(known(4, 2, Some(5))));
+        assert!(!belongs(known(5, 2, None)));
+        assert!(!belongs(known(4, 3, None)));
+        assert!(!belongs(known(4, 2, Some(6))));
+        assert!(!belongs(known(0, 0, Some(0))));
+        assert!(!belongs(Known::of(&[255; KNOWN])));
+        let any = known(3, 258, Some(65_535));
+        assert_eq!(Known::of(&any.bytes()), any);
+    }
 
     #[test]
     fn what_is_learned() {

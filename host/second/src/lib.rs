@@ -13,6 +13,7 @@ pub mod edition;
 pub mod index;
 pub mod kind;
 pub mod known;
+pub mod known_request;
 pub mod ledger;
 pub mod log;
 pub mod message;
