@@ -62,10 +62,10 @@ impl Reader {
         // The mark first: then an append that goes on meanwhile never looks like a loss.
         let mark = Mark::require(path)?;
         let file = File::open(path).map_err(|e| Failure::open(path, &e))?;
-        let Loaded { mut bytes, .. } = load(&file, path, Some(mark), streams)?;
+        let Loaded { bytes, .. } = load(&file, path, Some(mark), streams)?;
         fits(path, mark, &bytes)?;
-        bytes.truncate(used(&bytes) * SECTOR);
-        bytes.shrink_to_fit();
+        let (length, most) = (used(&bytes) * SECTOR, bytes.len());
+        let bytes = sectors::front(bytes, length, most);
         let index = Index::read(path, &bytes);
         Ok(Reader {
             file,
@@ -181,18 +181,18 @@ mod tests {
     use std::fs;
     use std::io;
 
-    /// A long log with little in it takes little memory.
+    /// A long log with little in it takes little memory, and is not moved as it grows.
     #[test]
     fn only_the_used_part_is_kept() {
         let path = std::env::temp_dir().join(format!("skywimple-{}", unique::name()));
         let mut bytes = vec![0; 1000 * SECTOR];
         bytes[SECTOR] = 1;
-        fs::write(&path, bytes).unwrap();
-        let mark = Mark {
-            sectors: 1000,
-            used: 2,
+        let write = |bytes: &[u8], used| {
+            let sectors = 1000;
+            fs::write(&path, bytes).unwrap();
+            fs::write(mark::path_of(&path), Mark { sectors, used }.text()).unwrap();
         };
-        fs::write(mark::path_of(&path), mark.text()).unwrap();
+        write(&bytes, 2);
         let mut streams = Streams {
             input: &mut io::empty(),
             out: &mut io::sink(),
@@ -201,13 +201,24 @@ mod tests {
             err_terminal: false,
             progress: false,
         };
-        let reader = Reader::open(&path, &mut streams);
+        let mut reader = Reader::open(&path, &mut streams)
+            .map_err(|failure| failure.words)
+            .unwrap();
+        assert_eq!(reader.bytes.len(), 2 * SECTOR);
+        let place = (reader.bytes.as_ptr(), reader.bytes.capacity());
+        bytes[2 * SECTOR..600 * SECTOR].fill(1);
+        write(&bytes, 600);
+        let followed = reader.follow(&mut streams);
         let _ = (
             fs::remove_file(mark::path_of(&path)),
             fs::remove_file(&path),
         );
-        let reader = reader.map_err(|failure| failure.words).unwrap();
-        assert_eq!(reader.bytes.len(), 2 * SECTOR);
-        assert!(reader.bytes.capacity() < 100 * SECTOR);
+        assert!(followed.is_ok());
+        assert_eq!(reader.bytes.len(), 600 * SECTOR);
+        assert_eq!(
+            (reader.bytes.as_ptr(), reader.bytes.capacity()),
+            place,
+            "copied"
+        );
     }
 }

@@ -40,6 +40,15 @@ impl Loaded {
     }
 }
 
+/// The front of a log that was read, with the memory of the rest given back and room for so many bytes in all
+/// reserved behind it: as it grows up to that it is never moved, and memory is taken as it is written.
+pub fn front(mut bytes: Vec<u8>, length: usize, most: usize) -> Vec<u8> {
+    bytes.truncate(length);
+    bytes.shrink_to_fit();
+    bytes.reserve_exact(most.saturating_sub(length));
+    bytes
+}
+
 /// A sector that isn't blank and fits no check: its last 13 bytes are zeros.
 pub fn unsound(sentence: &[u8]) -> [u8; SECTOR] {
     let mut sector = [0; SECTOR];

@@ -21,7 +21,7 @@ use crate::knowledge::{Knowledge, Lent};
 use crate::lock;
 use crate::log_file::{fits, is_file, load};
 use crate::mark::{self, Found, Mark};
-use crate::sectors::Loaded;
+use crate::sectors::{self, Loaded};
 use crate::session::{self, Answers, Served, REPLY, SYNC};
 use crate::status::{Failure, INPUT_OUTPUT, UNFIT};
 use crate::streams::Streams;
@@ -129,9 +129,7 @@ impl Writer {
         };
         self.sync()?;
         self.renew_mark(end)?;
-        self.bytes = loaded.bytes;
-        self.lend();
-        self.bytes.shrink_to_fit();
+        self.bytes = sectors::front(loaded.bytes, self.lent(), self.sectors * SECTOR);
         Ok(())
     }
 
@@ -165,10 +163,14 @@ impl Writer {
         self.bytes
     }
 
-    /// Lends the used part with room behind it, as far as the file has it.
+    /// The bytes that are lent: the used part with room behind it, as far as the file has it.
+    fn lent(&self) -> usize {
+        self.sectors.min(self.used + ROOM) * SECTOR
+    }
+
+    /// Lends as much as that. The log stays where it is in memory, since room for all of it was reserved.
     fn lend(&mut self) {
-        let lent = self.sectors.min(self.used + ROOM);
-        self.bytes.resize(lent * SECTOR, 0);
+        self.bytes.resize(self.lent(), 0);
     }
 
     /// Asks the proved archive. What it moves into the log is on disk before anyone is answered.
@@ -499,13 +501,15 @@ mod tests {
             quietly(|streams| {
                 let mut log = Writer::open(&folder.log(), false, streams).unwrap();
                 assert_eq!(log.bytes.len(), 404 * SECTOR);
-                assert!(log.bytes.capacity() < 500 * SECTOR);
+                let place = (log.bytes.as_ptr(), log.bytes.capacity());
+                assert_eq!(place.1, 2000 * SECTOR);
                 let mut client = Client::greet_on_disk(&mut log, streams).unwrap();
                 for block in 0..13 {
                     let block = vec![block; MOST_DATA];
                     let stored = client.store(&mut log, 13, &block, streams).unwrap();
                     assert!(stored.is_ok());
                     assert_eq!(log.bytes.len(), 2000.min(log.used + 404) * SECTOR);
+                    assert_eq!((log.bytes.as_ptr(), log.bytes.capacity()), place, "copied");
                 }
                 let full = client.store(&mut log, 13, &[13; MOST_DATA], streams);
                 assert_eq!(full.unwrap(), Err(Refusal::NoRoom));
