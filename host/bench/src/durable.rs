@@ -1,6 +1,6 @@
-//! Blocks that are on disk when they are answered for: through the program, and through sqlite (a write-ahead
-//! log, full sync) on the same disk. Each is one process that is fed all of them; a sync, or a commit, comes
-//! after every ten blocks, or after each.
+//! Blocks that are on disk when they are answered for: through the program, and through sqlite on the same
+//! disk. Each is one process that is fed all of them from a file; a sync, or a commit, comes after every ten
+//! blocks, or after each.
 
 use std::fs::{self, File};
 use std::io::{self, ErrorKind};
@@ -16,6 +16,15 @@ const ROUNDS: usize = 5;
 const HELLO: [u8; 13] = [0, 11, 4, 0, 0, 2, b'0', b'2', 0, 0, 0, 0, 0];
 const TABLE: &str = "PRAGMA journal_mode=WAL; \
     CREATE TABLE block (type INTEGER, score BLOB, data BLOB, PRIMARY KEY (type, score));";
+/// What sqlite takes the blocks from: as text they would cost more to parse than to store.
+const SOURCE: &str = "CREATE TABLE given (number INTEGER PRIMARY KEY, score BLOB, data BLOB);\n";
+
+const WHAT: &str = "\
+skywimple: `serve` reads write messages, computes each SHA-1, looks for a duplicate, answers;
+           the log is synced, then its mark beside it, before a sync is answered
+sqlite:    `sqlite3` with a write-ahead log and synchronous=FULL copies the blocks and their scores from another
+           database, a transaction at a time; it computes no SHA-1
+Neither `init` nor CREATE TABLE is timed; the start and the end of the process are.";
 
 /// Measures in a new folder below this one.
 pub fn run(folder: &Path) -> io::Result<()> {
@@ -29,8 +38,12 @@ pub fn run(folder: &Path) -> io::Result<()> {
 fn measure(folder: &Path) -> io::Result<()> {
     let mut random = Random::new(3);
     let blocks: Vec<Vec<u8>> = (0..BLOCKS).map(|_| random.bytes(BLOCK)).collect();
+    fs::write(folder.join("given.sql"), given(&blocks))?;
+    let mut command = sqlite3(folder, "given.db");
+    run_fed(&mut command, Some(&folder.join("given.sql")))?;
     println!(
-        "{BLOCKS} blocks of {BLOCK} bytes on disk, seconds; of {ROUNDS} rounds by turns the median"
+        "{BLOCKS} different blocks of {BLOCK} bytes on disk, seconds; of {ROUNDS} rounds by turns the median; ratio: \
+         skywimple's time over sqlite's\n{WHAT}"
     );
     println!(
         "{:>12} {:>9} {:>9} {:>7}",
@@ -38,14 +51,14 @@ fn measure(folder: &Path) -> io::Result<()> {
     );
     for batch in [10, 1] {
         fs::write(folder.join("messages"), messages(&blocks, batch))?;
-        fs::write(folder.join("script"), script(&blocks, batch))?;
+        fs::write(folder.join("script"), script(batch))?;
         let mut rounds = Vec::new();
         for _ in 0..ROUNDS {
             rounds.push([ours(folder)?, sqlite(folder)?]);
         }
         let of = |k: usize| crate::median(rounds.iter().map(|round| round[k]));
         let ratio = crate::median(rounds.iter().map(|round| round[0] / round[1]));
-        println!("{batch:>12} {:>9.2} {:>9.2} {ratio:>7.2}", of(0), of(1));
+        println!("{batch:>12} {:>9.3} {:>9.3} {ratio:>7.2}", of(0), of(1));
     }
     Ok(())
 }
@@ -62,18 +75,25 @@ fn messages(blocks: &[Vec<u8>], batch: usize) -> Vec<u8> {
         .collect()
 }
 
-fn script(blocks: &[Vec<u8>], batch: usize) -> String {
-    let mut script = String::from("PRAGMA synchronous=FULL;\n");
-    for blocks in blocks.chunks(batch) {
-        script += "BEGIN;\n";
-        for block in blocks {
-            let (score, data) = (hex(&plain::sha1::sha1(block)), hex(block));
-            script +=
-                &format!("INSERT OR IGNORE INTO block VALUES ({DATA}, x'{score}', x'{data}');\n");
-        }
-        script += "COMMIT;\n";
-    }
-    script
+/// The other database, with the blocks by their numbers.
+fn given(blocks: &[Vec<u8>]) -> String {
+    let rows = blocks.iter().enumerate().map(|(number, block)| {
+        let (score, data) = (hex(&plain::sha1::sha1(block)), hex(block));
+        format!("INSERT INTO given VALUES ({number}, x'{score}', x'{data}');\n")
+    });
+    format!("{SOURCE}BEGIN;\n{}COMMIT;\n", rows.collect::<String>())
+}
+
+fn script(batch: usize) -> String {
+    let batches = (0..BLOCKS).step_by(batch).map(|first| {
+        let last = first + batch - 1;
+        format!(
+            "BEGIN;\nINSERT OR IGNORE INTO block SELECT {DATA}, score, data FROM given \
+             WHERE number BETWEEN {first} AND {last};\nCOMMIT;\n"
+        )
+    });
+    let begin = "PRAGMA synchronous=FULL;\nATTACH 'given.db' AS other;\n";
+    begin.to_string() + &batches.collect::<String>()
 }
 
 fn hex(bytes: &[u8]) -> String {
@@ -85,37 +105,45 @@ fn ours(folder: &Path) -> io::Result<f64> {
     let program = std::env::current_exe()?.with_file_name("skywimple");
     let log = folder.join("log");
     let sectors = (BLOCKS * PARTS).to_string();
+    let mut init = Command::new(&program);
     run_fed(
-        Command::new(&program)
-            .arg("init")
-            .arg(&log)
-            .args(["--sectors", &sectors]),
+        init.arg("init").arg(&log).args(["--sectors", &sectors]),
         None,
     )?;
-    let seconds = run_fed(
-        Command::new(&program).arg("serve").arg(&log),
-        Some(&folder.join("messages")),
-    )?;
-    for name in ["log", "log.mark", "log.index"] {
-        fs::remove_file(folder.join(name))?;
-    }
+    let mut serve = Command::new(&program);
+    let seconds = run_fed(serve.arg("serve").arg(&log), Some(&folder.join("messages")))?;
+    let mut report = Command::new(&program);
+    holds(report.arg("report").arg(&log), &format!("records={BLOCKS}"))?;
+    remove(folder, &["log", "log.mark", "log.index"])?;
     Ok(seconds)
 }
 
 fn sqlite(folder: &Path) -> io::Result<f64> {
-    let file = folder.join("blocks.db");
-    run_fed(Command::new("sqlite3").arg(&file).arg(TABLE), None)?;
-    let seconds = run_fed(
-        Command::new("sqlite3").arg(&file),
-        Some(&folder.join("script")),
-    )?;
-    for name in ["blocks.db", "blocks.db-wal", "blocks.db-shm"] {
+    let mut create = sqlite3(folder, "blocks.db");
+    run_fed(create.arg(TABLE), None)?;
+    let mut insert = sqlite3(folder, "blocks.db");
+    let seconds = run_fed(&mut insert, Some(&folder.join("script")))?;
+    let mut count = sqlite3(folder, "blocks.db");
+    let wanted = format!("{BLOCKS}\n");
+    holds(count.arg("SELECT count(*) FROM block;"), &wanted)?;
+    remove(folder, &["blocks.db", "blocks.db-wal", "blocks.db-shm"])?;
+    Ok(seconds)
+}
+
+fn sqlite3(folder: &Path, database: &str) -> Command {
+    let mut command = Command::new("sqlite3");
+    command.arg("-bail").arg(database).current_dir(folder);
+    command
+}
+
+fn remove(folder: &Path, names: &[&str]) -> io::Result<()> {
+    for name in names {
         match fs::remove_file(folder.join(name)) {
             Err(e) if e.kind() != ErrorKind::NotFound => return Err(e),
             _ => {}
         }
     }
-    Ok(seconds)
+    Ok(())
 }
 
 /// How long a command takes, which has to succeed.
@@ -127,5 +155,14 @@ fn run_fed(command: &mut Command, input: Option<&Path>) -> io::Result<f64> {
     match done? {
         true => Ok(seconds),
         false => Err(io::Error::other(format!("{command:?} failed"))),
+    }
+}
+
+/// That all blocks are there: what a command prints has these words.
+fn holds(command: &mut Command, words: &str) -> io::Result<()> {
+    let printed = command.output()?.stdout;
+    match String::from_utf8_lossy(&printed).contains(words) {
+        true => Ok(()),
+        false => Err(io::Error::other(format!("{command:?} has not {words}"))),
     }
 }

@@ -112,58 +112,81 @@ fn absent(ours: &mut Parts, theirs: &mut Parts) -> [f64; 2] {
     [our_time, their_time]
 }
 
+/// The figures of each round: storing and reading by scan, then with an index.
+const FOUR: [&str; 4] = ["store", "read", "store, index", "read, index"];
+/// And those that are measured besides.
+const MORE: [&str; 2] = ["waiting", "absent"];
+
+/// Storing and reading alone.
+pub fn four() {
+    print_head();
+    print(&measure(false));
+}
+
+/// The same, a read with some blocks waiting, and a block that is absent.
 pub fn run() {
+    print_head();
+    println!(
+        "waiting: read with the last {BATCH} not settled; absent: from {} sound sectors",
+        SOUND / PARTS * PARTS
+    );
+    print(&measure(true));
+}
+
+fn measure(more: bool) -> Vec<Measured> {
     let blocks = Blocks::new();
-    let names = [
-        "store",
-        "read",
-        "waiting",
-        "absent",
-        "store, index",
-        "read, index",
-    ];
-    let mut measured = names.map(|name| Measured {
-        name,
-        bytes: BLOCKS * BLOCK,
-        rounds: Vec::new(),
-    });
-    measured[3].bytes = 10 * (SOUND / PARTS * PARTS * 512);
+    let names = FOUR.iter().chain(MORE.iter().filter(|_| more));
+    let mut measured: Vec<Measured> = names
+        .map(|&name| Measured {
+            name,
+            bytes: match name {
+                "absent" => 10 * (SOUND / PARTS * PARTS * 512),
+                _ => BLOCKS * BLOCK,
+            },
+            rounds: Vec::new(),
+        })
+        .collect();
     for _ in 0..ROUNDS {
+        let mut rounds = Vec::new();
         let mut ours = Parts::new(BLOCKS * PARTS, 0);
         let mut theirs = Parts::new(BLOCKS * PARTS, 0);
-        measured[0]
-            .rounds
-            .push(blocks.store(&mut ours, &mut theirs));
-        measured[1].rounds.push(blocks.read(&mut ours, &mut theirs));
-        // the same with the last blocks waiting
-        for parts in [&mut ours, &mut theirs] {
-            parts.unsettle((BLOCKS - BATCH) * PARTS);
-        }
-        measured[2].rounds.push(blocks.read(&mut ours, &mut theirs));
-        for parts in [&mut ours, &mut theirs] {
-            parts.waiting.fill(0);
-        }
-        measured[3].rounds.push(absent(&mut ours, &mut theirs));
+        rounds.push(blocks.store(&mut ours, &mut theirs));
+        rounds.push(blocks.read(&mut ours, &mut theirs));
+        let scanned = (ours, theirs);
 
         let mut ours = Parts::new(BLOCKS * PARTS, index::length(PLACES));
         let mut theirs = Parts::new(BLOCKS * PARTS, index::length(PLACES));
-        measured[4]
-            .rounds
-            .push(blocks.store(&mut ours, &mut theirs));
-        measured[5].rounds.push(blocks.read(&mut ours, &mut theirs));
+        rounds.push(blocks.store(&mut ours, &mut theirs));
+        rounds.push(blocks.read(&mut ours, &mut theirs));
+
+        if more {
+            let (mut ours, mut theirs) = scanned;
+            for parts in [&mut ours, &mut theirs] {
+                parts.unsettle((BLOCKS - BATCH) * PARTS);
+            }
+            rounds.push(blocks.read(&mut ours, &mut theirs));
+            for parts in [&mut ours, &mut theirs] {
+                parts.waiting.fill(0);
+            }
+            rounds.push(absent(&mut ours, &mut theirs));
+        }
+        for (measured, round) in measured.iter_mut().zip(rounds) {
+            measured.rounds.push(round);
+        }
     }
-    print(&measured);
+    measured
+}
+
+fn print_head() {
+    println!(
+        "\n{BLOCKS} different dated blocks of {BLOCK} bytes, a log of {} bytes, a sync after every {BATCH} writes; \
+         with an index of {} bytes, which writes keep and reads go by; medians of {ROUNDS} rounds by turns",
+        BLOCKS * PARTS * 512,
+        index::length(PLACES)
+    );
 }
 
 fn print(measured: &[Measured]) {
-    println!(
-        "\n{BLOCKS} different dated blocks of {BLOCK} bytes, a log of {} bytes, a sync after every {BATCH} writes; \
-         waiting: read with the last {BATCH} not settled; a block that is absent from {} sound sectors; \
-         with an index of {} bytes, which writes keep and reads go by",
-        BLOCKS * PARTS * 512,
-        SOUND / PARTS * PARTS,
-        index::length(PLACES)
-    );
     println!(
         "{:12} {:>10} {:>16} {:>7}",
         "name", "ours MB/s", "plain Rust MB/s", "ratio"

@@ -20,18 +20,26 @@ const SAMPLES: usize = 201;
 const SAMPLE: f64 = 0.005;
 
 const HELP: &str = "\
-bench [durable FOLDER] [--help]
+bench [checks | four | durable FOLDER] [--help]
 
 Measures the proved functions beside ordinary Rust, both built for release, by turns on the same
-input, and prints tables; it takes about two minutes. Where two results differ it stops before that.
+input, and prints tables. Where two results differ it stops before that.
 
-durable FOLDER measures blocks that are on disk when they are answered for, in a new folder below FOLDER:
-through `skywimple serve`, which has to be built beside this program, and through `sqlite3`.
+Without a word it measures the first two of these, and what a request costs in logs of 2 to 512 MiB, mostly
+blank and full, by scan, by index and by what is known: two to three minutes, and 540 MiB of memory.
+
+checks   SHA-1 and CRC-32 alone: four seconds
+four     storing and reading 1,000 blocks, by scan and with an index: ten to twenty seconds
+durable  blocks that are on disk when they are answered for, in a new folder below FOLDER (or below this
+         one): through `skywimple serve`, which has to be built beside this program, and through `sqlite3`.
+         About a minute, by the disk
 ";
 
 fn main() -> ExitCode {
     match std::env::args().nth(1).as_deref() {
         None => measure(),
+        Some("checks") => checks(),
+        Some("four") => log::four(),
         Some("--help" | "-h") => print!("{HELP}"),
         Some("durable") => {
             let folder = std::env::args_os().nth(2).unwrap_or_else(|| ".".into());
@@ -49,6 +57,14 @@ fn main() -> ExitCode {
 }
 
 fn measure() {
+    checks();
+    log::run();
+    blank::run(&[4_096, 131_072, 1_048_576]);
+    files::run(&[(1_024, 401), (16_384, 15)]);
+    sizes::run(&[32_768, 131_072, 1_048_576]);
+}
+
+fn checks() {
     println!(
         "blocks of {BLOCK} bytes; medians of {SAMPLES} samples; ratio: our time over plain Rust's"
     );
@@ -58,10 +74,6 @@ fn measure() {
     );
     compare("sha1", boundary::sha1, plain::sha1::sha1);
     compare("crc32", boundary::crc32, plain::crc32::crc32);
-    log::run();
-    blank::run(&[4_096, 131_072, 1_048_576]);
-    files::run(&[(1_024, 401), (16_384, 15)]);
-    sizes::run(&[32_768, 131_072, 1_048_576]);
 }
 
 /// Compares the results on random inputs, then the speed.

@@ -152,7 +152,8 @@ fn measure(sectors: usize) -> Vec<Cost> {
 /// Prints lines for each of these lengths, in sectors.
 pub fn run(lengths: &[usize]) {
     println!(
-        "\nmilliseconds a request in logs that are full of blocks of {BLOCK} bytes, with an index kept"
+        "\nmilliseconds a request in logs that are full of blocks of {BLOCK} bytes, with an index kept; known: ours by what \
+         is known, ordinary Rust as before; learn: learned once, beside ordinary Rust's look for an absent block"
     );
     println!(
         "{:>9} {:14} {:>9} {:>11} {:>7}",
