@@ -16,9 +16,13 @@ find-held-requires : tie.Need-find-held-requires
 find-held-requires c κs = search needs
 
 returns : tie.Need-returns
-returns c =
-    let a = (c .before .before .before .before .before .before .before .before .before .before .args) in
-    by-zero (a .known) (a .log .now) (a .waiting .now) (a .index .now) (a .kind) (a .score .now) _ _ _ (c .before .before .before .before .is-lawful .ensures) (c .before .before .before .if1 .taken) (c .before .before .is-zero-score .ensures) (c .before .if2 .taken) (c .find-held .ensures)
+returns c = let args = c .before .before .before .before .before .before .before .before .before .before .args in
+    let if1 = c .before .before .before .if1 in
+    let is-lawful = c .before .before .before .before .is-lawful in
+    let is-zero-score = c .before .before .is-zero-score in
+    let a = args in
+    by-zero (a .known) (a .log .now) (a .waiting .now) (a .index .now) (a .kind) (a .score .now) _ _ _ (is-lawful .ensures) (if1 .taken) (is-zero-score .ensures) (c .before .if2 .taken)
+    (c .find-held .ensures)
 
 find-hint-requires : tie.Need-find-hint-requires
 find-hint-requires c κs = search needs
@@ -39,25 +43,33 @@ returns-2 c =
     by-hint (a .known) (a .log .now) (a .waiting .now) (a .index .now) (a .kind) (a .score .now) _ not-empty _ (c .before .before .find-hint .ensures) (c .enum-told2 .given .1)
 
 returns-3 : tie.Need-returns-3
-returns-3 c =
-    let a = (c .before .before .before .before .before .before .before .before .before .before .before .args) in
+returns-3 c = let args = c .before .before .before .before .before .before .before .before .before .before .before .args in
+    let find-hint = c .before .before .before .find-hint in
+    let if1 = c .before .before .before .before .if1 in
+    let is-lawful = c .before .before .before .before .before .is-lawful in
+    let a = args in
     let not-empty = ⊎-elim
     (λ w. not-zero (a .kind) (a .score .now) _ (w .1 .ensures) (w .2 .left))
-    (λ w. not-lawful (a .kind) (a .score .now) _ (c .before .before .before .before .before .is-lawful .ensures) (w .left))
-    (c .before .before .before .before .if1 .came) in
-    by-nothing (a .known) (a .log .now) (a .waiting .now) (a .index .now) (a .kind) (a .score .now) (c .before .before .before .find-hint .result) not-empty _ (c .before .before .before .find-hint .ensures) (c .before .enum-told .given .1) (c .if3 .taken)
+    (λ w. not-lawful (a .kind) (a .score .now) _ (is-lawful .ensures) (w .left))
+    (if1 .came) in
+    by-nothing (a .known) (a .log .now) (a .waiting .now) (a .index .now) (a .kind) (a .score .now) (find-hint .result) not-empty _ (find-hint .ensures) (c .before .enum-told .given .1)
+    (c .if3 .taken)
 
 find-held-requires-2 : tie.Need-find-held-requires-2
 find-held-requires-2 c κs = search needs
 
 returns-4 : tie.Need-returns-4
-returns-4 c =
-    let a = (c .before .before .before .before .before .before .before .before .before .before .before .before .args) in
+returns-4 c = let args = c .before .before .before .before .before .before .before .before .before .before .before .before .args in
+    let find-hint = c .before .before .before .before .find-hint in
+    let if1 = c .before .before .before .before .before .if1 in
+    let is-lawful = c .before .before .before .before .before .before .is-lawful in
+    let a = args in
     let not-empty = ⊎-elim
     (λ w. not-zero (a .kind) (a .score .now) _ (w .1 .ensures) (w .2 .left))
-    (λ w. not-lawful (a .kind) (a .score .now) _ (c .before .before .before .before .before .before .is-lawful .ensures) (w .left))
-    (c .before .before .before .before .before .if1 .came) in
-    by-scan (a .known) (a .log .now) (a .waiting .now) (a .index .now) (a .kind) (a .score .now) _ not-empty _ (c .before .before .before .before .find-hint .ensures) (c .before .before .enum-told .given .1) (c .before .if3 .left) (c .find-held2 .ensures)
+    (λ w. not-lawful (a .kind) (a .score .now) _ (is-lawful .ensures) (w .left))
+    (if1 .came) in
+    by-scan (a .known) (a .log .now) (a .waiting .now) (a .index .now) (a .kind) (a .score .now) _ not-empty _ (find-hint .ensures) (c .before .before .enum-told .given .1) (c .before .if3 .left)
+    (c .find-held2 .ensures)
 
 pub find-known-spec : {M : Type 1} → statement M
 find-known-spec =

@@ -18,8 +18,10 @@ add-more : tie.Need-add-more
 add-more c = search needs
 
 returns-2 : tie.Need-returns-2
-returns-2 c =
-    was-new (c .before .before .before .before .before .before .before .before .args .known) (c .before .before .before .before .before .before .before .before .args .stored) _ (c .before .before .before .before .before .before .before .before .args .count) _ _ (c .before .before .before .before .enum-told .given .1) (c .before .before .before .still-exact .ensures)
+returns-2 c = let a = c .before .before .before .before .before .before .before .before .args in
+    let enum-told-here = c .before .before .before .before .enum-told in
+    let still-exact = c .before .before .before .still-exact in
+    was-new (a .known) (a .stored) _ (a .count) _ _ (enum-told-here .given .1) (still-exact .ensures)
 
 pub known-after-spec : {M : Type 1} → statement M
 known-after-spec = tie.close (tie.spec enum-told returns still-exact-requires add-more returns-2)

@@ -32,9 +32,15 @@ sector-at-requires : tie.Need-sector-at-requires Inv-loop μ-loop
 sector-at-requires c κs = search needs
 
 returns : tie.Need-returns Inv-loop μ-loop
-returns c =
-    let a = (c .before .before .before .before .before .before .before .before .before .before .before .before .args) in
-    list-here (a .index .now) (a .score .now) (a .kind) (a .first .0) (c .before .before .before .before .before .before .before .before .loop .p) (c .before .before .before .before .before .before .before .before .before .bucket-of .result .to) (c .before .before .before .before .before .before .if1 .taken) (c .before .before .before .before .before .before .before .before .loop .inv .1) _ (c .before .before .before .before .before .names .ensures) _ (c .before .before .before .before .if2 .taken) (c .before .before .before .sector-at .ensures) (c .if3 .taken)
+returns c = let args = c .before .before .before .before .before .before .before .before .before .before .before .before .args in
+    let bucket-of = c .before .before .before .before .before .before .before .before .before .bucket-of in
+    let if1 = c .before .before .before .before .before .before .if1 in
+    let if2 = c .before .before .before .before .if2 in
+    let l = c .before .before .before .before .before .before .before .before .loop in
+    let names = c .before .before .before .before .before .names in
+    let sector-at = c .before .before .before .sector-at in
+    let a = args in
+    list-here (a .index .now) (a .score .now) (a .kind) (a .first .0) (l .p) (bucket-of .result .to) (if1 .taken) (l .inv .1) _ (names .ensures) _ (if2 .taken) (sector-at .ensures) (c .if3 .taken)
 
 add-p : tie.Need-add-p Inv-loop μ-loop
 add-p c = search needs
@@ -43,12 +49,17 @@ loop-less : tie.Need-loop-less Inv-loop μ-loop
 loop-less c = search needs
 
 loop-again : tie.Need-loop-again Inv-loop μ-loop
-loop-again c =
-    let a = (c .before .before .before .before .before .before .before .before .args) in (
-      omega (arith, (c .before .before .if1 .taken)),
+loop-again c = let args = c .before .before .before .before .before .before .before .before .args in
+    let bucket-of = c .before .before .before .before .before .bucket-of in
+    let if1 = c .before .before .if1 in
+    let l = c .before .before .before .before .loop in
+    let names = c .before .names in
+    let a = args in (
+      omega (arith, (if1 .taken)),
       ⊎-elim
-          (λ w. list-elsewhere (a .index .now) (a .score .now) (a .kind) (a .first .0) (c .before .before .before .before .loop .p) (c .before .before .before .before .before .bucket-of .result .to) (c .before .before .if1 .taken) (c .before .before .before .before .loop .inv .1) _ (c .before .names .ensures) _ (w .0 .taken) (w .1 .ensures) (w .4 .left))
-          (λ w. list-unnamed (a .index .now) (a .score .now) (a .kind) (a .first .0) (c .before .before .before .before .loop .p) (c .before .before .before .before .before .bucket-of .result .to) (c .before .before .if1 .taken) (c .before .before .before .before .loop .inv .1) _ (c .before .names .ensures) (w .left))
+          (λ w. list-elsewhere (a .index .now) (a .score .now) (a .kind) (a .first .0) (l .p) (bucket-of .result .to) (if1 .taken) (l .inv .1) _ (names .ensures) _ (w .0 .taken) (w .1 .ensures)
+          (w .4 .left))
+          (λ w. list-unnamed (a .index .now) (a .score .now) (a .kind) (a .first .0) (l .p) (bucket-of .result .to) (if1 .taken) (l .inv .1) _ (names .ensures) (w .left))
           (c .if2 .came),
     )
 

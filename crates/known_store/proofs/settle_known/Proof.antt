@@ -52,9 +52,14 @@ same-length-2 : tie.Need-same-length-2
 same-length-2 c = search needs
 
 returns-2 : tie.Need-returns-2
-returns-2 c =
-    let a = (c .before .before .before .before .before .before .before .before .before .before .before .before .before .before .before .before .before .before .args) in
-    (can-settle (a .known) (a .log .now) (a .waiting .now) (omega (arith, (c .before .before .before .before .before .before .before .before .before .before .before .if1 .left))), all-moved (a .known) (a .log .now) (a .waiting .now) _ _ (omega (arith, (c .before .before .before .before .before .before .before .before .before .before .before .if1 .left))) (c .before .before .before .before .before .before .copy-at .ensures) (c .before .before .clear .ensures))
+returns-2 c = let args = c .before .before .before .before .before .before .before .before .before .before .before .before .before .before .before .before .before .before .args in
+    let copy-at = c .before .before .before .before .before .before .copy-at in
+    let if1 = c .before .before .before .before .before .before .before .before .before .before .before .if1 in
+    let a = args in (
+      can-settle (a .known) (a .log .now) (a .waiting .now) (omega (arith, (if1 .left))),
+      all-moved (a .known) (a .log .now) (a .waiting .now) _ _ (omega (arith, (if1 .left))) (copy-at .ensures)
+          (c .before .before .clear .ensures),
+    )
 
 pub settle-known-spec : {M : Type 1} → statement M
 settle-known-spec =

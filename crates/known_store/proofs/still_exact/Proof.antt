@@ -20,10 +20,11 @@ lists-requires : tie.Need-lists-requires
 lists-requires c κs = search needs
 
 returns-2 : tie.Need-returns-2
-returns-2 c =
-    let a = (c .before .before .before .before .before .before .before .before .before .args) in
+returns-2 c = let args = c .before .before .before .before .before .before .before .before .before .args in
+    let if1 = c .before .before .before .before .before .if1 in
+    let a = args in
     let k = a .known in
-    if-listed (k .exact) (listed (a .index .now) (a .score .now) (a .kind) (k .used .0 + k .waits .0)) _ (not-false (k .exact) (c .before .before .before .before .before .if1 .left)) (c .lists .ensures)
+    if-listed (k .exact) (listed (a .index .now) (a .score .now) (a .kind) (k .used .0 + k .waits .0)) _ (not-false (k .exact) (if1 .left)) (c .lists .ensures)
 
 pub still-exact-spec : {M : Type 1} → statement M
 still-exact-spec = tie.close (tie.spec returns add-first lists-requires returns-2)
