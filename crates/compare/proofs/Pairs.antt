@@ -13,12 +13,11 @@ use Rattle.block.specs.Log.{sectors, joined, bytesOf}
 use Rattle.log.specs.declared.Look.the-variants as look
 use Rattle.reader.proofs.Pieces.{length-bytes}
 use Rattle.entry.specs.declared.Entry.{Entry}
-use Rattle.visit.specs.declared.End.the-variants.{Refused}
 use Rattle.visit.proofs.Visits.{in-both}
 use Rattle.pair.specs.Opened.{opened, placeAt}
 use Rattle.pair.proofs.Opened.{OpenedAt, refused-at, goes-on, in-log, not-many, whole-scores}
 use Rattle.comparison.specs.declared.Compared.{Compared}
-use Rattle.comparison.specs.Compared.{compared, none, refused, oneUnit, inOrder}
+use Rattle.comparison.specs.Compared.{none, refused, oneUnit, inOrder}
 use Rattle.comparison.specs.Compare.{Blocks, positions, spending, pairBy, compareBlocks, comparePosition, compareBelow}
 use Rattle.compare.specs.Parts.{Lies}
 use Rattle.compare.proofs.InOrder.{OfAll}
@@ -66,11 +65,11 @@ module _ (log : Bytes) (e : Entry) (level nest : ℕ) (s t : Bytes) (left : ℕ)
             → OfBlocks log e level nest s t left (oneUnit v)
         spends v k = by-pair (oneUnit v) (λ g h. rw q (ap oneUnit (k g h) ∙ sym (one-spent nest left _ n p)))
 
-        pub first-not-read : (w : Refusal) → placeAt log e level s ≡ look.Refused w → OfBlocks log e level nest s t left (compared 0 1 (Refused w))
+        pub first-not-read : (w : Refusal) → placeAt log e level s ≡ look.Refused w → OfBlocks log e level nest s t left (oneUnit (refused w))
         first-not-read w d = spends (refused w) (λ g h. refused-at log e level s w d refused _)
 
         module _ {x : Block} (O : OpenedAt log e level s x) where
-          pub second-not-read : (w : Refusal) → placeAt log e level t ≡ look.Refused w → OfBlocks log e level nest s t left (compared 0 1 (Refused w))
+          pub second-not-read : (w : Refusal) → placeAt log e level t ≡ look.Refused w → OfBlocks log e level nest s t left (oneUnit (refused w))
           second-not-read w d = spends (refused w) (λ g h. refused-at log e level t w d refused _ ∙ goes-on O refused (λ b. opened log e level t refused (λ c. compareBelow g log e level nest b c (left - 1))))
 
           pub both-read : {y : Block} → OpenedAt log e level t y → (v : Compared)

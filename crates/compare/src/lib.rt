@@ -17,7 +17,7 @@ ghost use Rattle.block.specs.Log.{sectors, joined, bytesOf};
 ghost use Rattle.walk.specs.Walk.{mostAllowance};
 ghost use Rattle.comparison.specs.Compared.{oneUnit, refused as refusedBy};
 ghost use Rattle.comparison.specs.Compare.{mostLeaf, positions, compareBlocks, compareEntries, comparePosition, compareBelow};
-ghost use Rattle.compare.specs.Parts.{notRead, Lies};
+ghost use Rattle.compare.specs.Parts.{Lies};
 ghost use Rattle.comparison.specs.Differences.{directoryAllowed, differencesOf};
 
 // How many positions a block of a size has at a level.
@@ -44,21 +44,14 @@ fn positions_of_both(level: usize, a: usize, b: usize) -> usize
     m
 }
 
-// What a pair answers of which a block can't be read: one unit, and the refusal.
-fn not_read(look: Look) -> Compared
-    ensures { λ r. ⌜ r ≡ notRead look ⌝ }
+// A comparison that is refused before anything is counted or spent.
+fn refused(why: Refusal) -> Compared
+    ensures { λ r. ⌜ r ≡ refusedBy why ⌝ }
 {
-    match look {
-        Look::Found(b) => Compared {
-            count: 0,
-            units: 1,
-            end: End::Done,
-        },
-        Look::Refused(why) => Compared {
-            count: 0,
-            units: 1,
-            end: End::Refused(why),
-        },
+    Compared {
+        count: 0,
+        units: 0,
+        end: End::Refused(why),
     }
 }
 
@@ -123,7 +116,7 @@ fn compare_entries<'a>(
 }
 
 // Compares the blocks of two opened directories under two scores, at a level: equal scores are skipped, else the first block is read and
-// checked before the second.
+// checked before the second. A block that can't be read is its refusal, and its unit is spent.
 fn compare_blocks<'a>(
     log: &'a [u8],
     end: SectorNumber,
@@ -160,14 +153,18 @@ fn compare_blocks<'a>(
         };
     }
     let one = pair::read_block(log, end, waiting, e, s, level);
-    let Look::Found(b) = one else {
-        return not_read(one);
-    };
-    let other = pair::read_block(log, end, waiting, e, t, level);
-    let Look::Found(c) = other else {
-        return not_read(other);
-    };
-    one_unit(compare_below(log, end, waiting, e, level, nest, b, c, left - 1))
+    match one {
+        Look::Found(b) => {
+            let other = pair::read_block(log, end, waiting, e, t, level);
+            match other {
+                Look::Found(c) => {
+                    one_unit(compare_below(log, end, waiting, e, level, nest, b, c, left - 1))
+                }
+                Look::Refused(why) => one_unit(refused(why)),
+            }
+        }
+        Look::Refused(why) => one_unit(refused(why)),
+    }
 }
 
 // Compares two blocks of a level, position by position.
@@ -245,17 +242,6 @@ fn is_directory(x: &[u8]) -> bool
     }
     let e = entry::entry_at(x, 0);
     e.directory
-}
-
-// A comparison that is refused by a test.
-fn refused(why: Refusal) -> Compared
-    ensures { λ r. ⌜ r ≡ refusedBy why ⌝ }
-{
-    Compared {
-        count: 0,
-        units: 0,
-        end: End::Refused(why),
-    }
 }
 
 // Counts the differences between two directory entries, for any log, waiting part, entries and allowance.

@@ -7,7 +7,7 @@ use Rattle.buffer.specs.Bytes.{Bytes}
 use Rattle.block.specs.Log.{joined, bytesOf}
 use Rattle.pair.proofs.Opened.{OpenedAt, found-at}
 use Rattle.comparison.specs.declared.Compared.{Compared}
-use Rattle.compare.specs.Parts.{notRead}
+use Rattle.comparison.specs.Compared.{oneUnit}
 use Rattle.comparison.proofs.Bounds.{below-units}
 use Rattle.compare.proofs.Pairs.{equal-scores, too-deep, nothing-left, first-not-read, second-not-read, both-read, lies}
 use Rattle.compare.proofs.compare_blocks.Reads.{Post}
@@ -44,16 +44,17 @@ module _ (t : ℕ) where
       nothing-left (both s) (s .args .e) (s .args .level) (s .args .nest) (s .args .s .now) (s .args .t .now) (s .args .left) (sym (k .equal .ensures) ∙ i .if1 .left)
       (c .before .if2 .left) (c .if3 .taken)
 
-  first-refused : lts.Need-returns-4 (blocks-calls t) (blocks-at t) Post
+  first-refused : lts.Need-returns-6 (blocks-calls t) (blocks-at t) Post
   first-refused c =
-      let r = c .before .before .before in
+      let o = c .before .before .before in
+      let r = o .before .before in
       let j = r .before in
       let i = j .before .before in
       let k = i .before in
       let s = start k in
-      λ f h. c .not-read .ensures ∙ ap notRead (c .before .enum-told .given .1)
+      λ f h. c .one-unit3 .ensures ∙ ap oneUnit (c .before .refused2 .ensures)
       ∙ first-not-read (both s) (s .args .e) (s .args .level) (s .args .nest) (s .args .s .now) (s .args .t .now) (s .args .left) (sym (k .equal .ensures) ∙ i .if1 .left)
-      (j .before .if2 .left) (j .if3 .left) _ (sym (r .read-block .ensures) ∙ c .before .enum-told .given .1) f h
+      (j .before .if2 .left) (j .if3 .left) _ (sym (r .read-block .ensures) ∙ o .one2 .given .1) f h
 
   -- the first block that was found
   first : (c : lts.After-one (blocks-calls t) (blocks-at t) Post)
@@ -63,16 +64,16 @@ module _ (t : ℕ) where
 
   second-refused : lts.Need-returns-5 (blocks-calls t) (blocks-at t) Post
   second-refused c =
-      let q = c .before .before .before in
+      let u = c .before .before .before in
+      let q = u .before .before in
       let o = q .before .before in
-      let r = o .before .before in
-      let j = r .before in
+      let j = o .before .before .before in
       let i = j .before .before in
       let k = i .before in
       let s = start k in
-      λ f h. c .not-read2 .ensures ∙ ap notRead (c .before .enum-told2 .given .1)
+      λ f h. c .one-unit2 .ensures ∙ ap oneUnit (c .before .refused .ensures)
       ∙ second-not-read (both s) (s .args .e) (s .args .level) (s .args .nest) (s .args .s .now) (s .args .t .now) (s .args .left) (sym (k .equal .ensures) ∙ i .if1 .left)
-      (j .before .if2 .left) (j .if3 .left) (first o) _ (sym (q .read-block2 .ensures) ∙ c .before .enum-told2 .given .1) f h
+      (j .before .if2 .left) (j .if3 .left) (first o) _ (sym (q .read-block2 .ensures) ∙ u .other2 .given .1) f h
 
   -- the second block that was found
   second : (c : lts.After-other (blocks-calls t) (blocks-at t) Post)
@@ -113,7 +114,7 @@ module _ (t : ℕ) where
       let z = ap (λ (x : Compared). x .units) (c .compare-below .ensures (a .left) (omega (arith, j .if3 .left))) in
       omega (arith, z, below-units (a .left) (both s) (a .e) (a .level) (a .nest) b d (a .left - 1) (p .4), p .5)
 
-  below : lts.Need-returns-6 (blocks-calls t) (blocks-at t) Post
+  below : lts.Need-returns-4 (blocks-calls t) (blocks-at t) Post
   below c =
       let w = c .before in
       let u = w .before .before in
@@ -135,15 +136,17 @@ blocks-meets t =
     (spent t)
     (λ c κs. search needs)  -- read-block-requires
     (λ c. search needs)  -- enum-known-one
-    (λ c. search needs)  -- enum-told
-    (λ c κs. search needs)  -- not-read-requires
-    (first-refused t)
     (λ c κs. search needs)  -- read-block-requires-2
     (λ c. search needs)  -- enum-known-other
-    (λ c. search needs)  -- enum-told-2
-    (λ c κs. search needs)  -- not-read-requires-2
-    (second-refused t)
     (λ c. search needs)  -- sub-compare-below
     (compare-below-requires t)
     (one-unit-requires t)
+    (λ c. search needs)  -- enum-known-other-2
+    (λ c κs. search needs)  -- refused-requires
+    (λ c κs. omega (arith, ap (λ (x : Compared). x .units) (c .refused .ensures)))  -- one-unit-requires-2
+    (λ c. search needs)  -- enum-known-one-2
+    (λ c κs. search needs)  -- refused-requires-2
+    (λ c κs. omega (arith, ap (λ (x : Compared). x .units) (c .refused2 .ensures)))  -- one-unit-requires-3
     (below t)
+    (second-refused t)
+    (first-refused t)

@@ -15,9 +15,9 @@ use Rattle.compare.proofs.compare_position.Reads as position
 use Rattle.compare.proofs.compare_position.Kinds as position-kinds
 use Rattle.compare.proofs.+compare_below+compare_blocks+compare_entries+compare_position.Lts-compare_position as position-lts
 use Rattle.buffer.proofs.equal.Reads as equal
-use Rattle.compare.proofs.not_read.Reads as not-read
 use Rattle.compare.proofs.one_unit.Reads as one-unit
 use Rattle.compare.proofs.positions_of_both.Reads as positions-of-both
+use Rattle.compare.proofs.refused.Reads as refused
 use Rattle.entry.proofs.entry_at.Reads as entry-at
 use Rattle.pair.proofs.judge.Reads as judge
 use Rattle.pair.proofs.read_block.Reads as read-block
@@ -72,12 +72,12 @@ blocks-calls t = (
   equal.Learnt,
   read-block.Asked,
   read-block.Learnt,
-  not-read.Asked,
-  not-read.Learnt,
   below-under t,
   below.Post,
   one-unit.Asked,
   one-unit.Learnt,
+  refused.Asked,
+  refused.Learnt,
 )
 
 abbrev pub entries-calls : ℕ → entries-lts.Claims
