@@ -1,18 +1,14 @@
--- Bytes gathered one by one, split behind a front that is known; and the buffer they are written to.
+-- Bytes gathered one by one, split behind those gathered first; and the buffer they are written to.
 use mathlib.Core.Path.{_≡_, refl, sym, ap, ap₂, _∙_}
 use mathlib.Core.List.{[], _∷_, _++_}
 use Prim.Native.Nat.{ℕ, zero, suc, _+_, _-_, _≤_, _<_}
 use native.Mathlib.Nat.{sub-zero, add-zero, zero-add}
 use native.Mathlib.Omega.{arith}
-use lib.ListN.{length, getD, drop, length-append}
-use lib.Seq.{getD-drop}
+use lib.ListN.{length, getD, length-append}
 use Rattle.buffer.specs.Bytes.{Bytes, put}
 use Rattle.buffer.proofs.Put.{put-put}
 use Rattle.buffer.proofs.Put.{put-none as put-nothing}
 use Rattle.refusal.specs.declared.Refusal.{Refusal}
-use Rattle.sector.specs.Sector.{filled}
-use Rattle.block.proofs.Payloads.{filled-getD}
-use Rattle.tree.proofs.Filled.{length-filled}
 use Rattle.fill.specs.declared.Stop.the-variants.{Done, Refused}
 use Rattle.fill.specs.Fill.{Read, byte, refused, Gathered, infront, gathered, FillOutcome, fillOutcome, filledWith}
 
@@ -26,26 +22,64 @@ unfolding gathered
 gathered-same f g zero o e = refl
 gathered-same f g (suc n) o e = ap₂ infront (e o (omega arith) (omega arith)) (gathered-same f g n (suc o) (λ j a b. e j (omega arith) (omega arith)))
 
+-- a refusal is not the end
+not-done : (w : Refusal) → Refused w ≡ Done → ⊥
+not-done w q = let z : _≡_ {A = ℕ} 0 1 = cc in omega arith
+
+-- what the first m bytes give, those behind them, and all together: up to m bytes; and all of them, or a refusal that ends it
+pub record Split (m : ℕ) (front rest all : Gathered) : Type 0 where
+  pub short : length (front .bytes) ≤ m
+  pub whole : front .stop ≡ Done → length (front .bytes) ≡ m
+  pub goes-on : front .stop ≡ Done → all ≡ behind (front .bytes) rest
+  pub ends : (w : Refusal) → front .stop ≡ Refused w → all ≡ front
+
+split-infront : (r : Read) (m : ℕ) (front rest all : Gathered) → Split m front rest all → Split (suc m) (infront r front) rest (infront r all)
+split-infront (byte b) m front rest all s = record {
+  short = omega (arith, s .short);
+  whole = λ q. ap suc (s .whole q);
+  goes-on = λ q. ap (infront (byte b)) (s .goes-on q);
+  ends = λ w q. ap (infront (byte b)) (s .ends w q);
+}
+split-infront (refused v) m front rest all s = record {
+  short = omega arith;
+  whole = λ q. absurd (not-done v q);
+  goes-on = λ q. absurd (not-done v q);
+  ends = λ w q. refl;
+}
+
 module _ (read : ℕ → Read) where
-  -- a front that reads
-  pub gathered-front : (p : Bytes) (n o : ℕ) → length p ≤ n → ((j : ℕ) → j < length p → read (o + j) ≡ byte (getD p j 0))
-      → gathered read n o ≡ behind p (gathered read (n - length p) (o + length p))
+  -- bytes that are all read
+  pub gathered-all : (p : Bytes) (o : ℕ) → ((j : ℕ) → j < length p → read (o + j) ≡ byte (getD p j 0))
+      → gathered read (length p) o ≡ record { bytes = p; stop = Done }
   unfolding gathered
-  gathered-front [] n o h f = ap₂ (gathered read) (sym (sub-zero n)) (sym (add-zero o))
-  gathered-front (b ∷ p) zero o h f = absurd (omega arith)
-  gathered-front (b ∷ p) (suc n) o h f =
+  gathered-all [] o f = refl
+  gathered-all (b ∷ p) o f =
       let z : o ≡ o + 0 = omega arith in
-      let w : n - length p ≡ suc n - length (b ∷ p) = omega arith in
-      let v : suc o + length p ≡ o + length (b ∷ p) = omega arith in
       let here : read o ≡ byte b = ap read z ∙ f 0 (omega arith) in
-      let there = gathered-front p n (suc o) (omega arith) (λ j g. let q : suc o + j ≡ o + suc j = omega arith in ap read q ∙ f (suc j) (omega arith)) in
-      ap₂ infront here (there ∙ ap (behind p) (ap₂ (gathered read) w v))
+      let there = gathered-all p (suc o) (λ j g. let q : suc o + j ≡ o + suc j = omega arith in ap read q ∙ f (suc j) (omega arith)) in
+      ap₂ infront here there
 
   -- a refusal
   pub gathered-refused : (n o : ℕ) (w : Refusal) → 0 < n → read o ≡ refused w → gathered read n o ≡ record { bytes = []; stop = Refused w }
   unfolding gathered
   gathered-refused zero o w h e = absurd (omega arith)
   gathered-refused (suc n) o w h e = ap (λ (r : Read). infront r (gathered read n (suc o))) e
+
+  -- n bytes behind the first m
+  gathered-split : (m n k o p : ℕ) → k ≡ m + n → p ≡ o + m → Split m (gathered read m o) (gathered read n p) (gathered read k o)
+  unfolding gathered
+  gathered-split zero n k o p e h =
+      let en : k ≡ n = omega arith in
+      let eo : o ≡ p = omega arith in
+      record {
+        short = omega arith;
+        whole = λ q. refl;
+        goes-on = λ q. ap₂ (gathered read) en eo;
+        ends = λ w q. absurd (not-done w (sym q));
+      }
+  gathered-split (suc m) n zero o p e h = absurd (omega arith)
+  gathered-split (suc m) n (suc k) o p e h =
+      split-infront (read o) m (gathered read m (suc o)) (gathered read n p) (gathered read k (suc o)) (gathered-split m n k (suc o) p (omega arith) (omega arith))
 
 -- what is gathered written from byte `at` on, where so many were written before
 abbrev pub onward : Bytes → ℕ → Gathered → FillOutcome
@@ -75,25 +109,20 @@ module _ (read : ℕ → Read) (count offset : ℕ) (d₀ : Bytes) where
         (λ i. fillOutcome (record { count = sym (add-zero done) i; stop = Done }) (sym (put-nothing d done) i))
         ∙ ap (λ (n : ℕ). onward d done (gathered read n (offset + done))) (sym z) ∙ rest
 
-    pub rest-refused : (w : Refusal) → done < count → read (offset + done) ≡ refused w
-        → fillOutcome (record { count = done; stop = Refused w }) d ≡ filledWith d₀ (gathered read count offset)
-    rest-refused w h e =
-        (λ i. fillOutcome (record { count = sym (add-zero done) i; stop = Refused w }) (sym (put-nothing d done) i))
-        ∙ ap (onward d done) (sym (gathered-refused read (count - done) (offset + done) w (omega arith) e)) ∙ rest
+    -- m bytes more, as they are gathered
+    module _ (m : ℕ) (h : done + m ≤ count) where
+      pub rest-split : Split m (gathered read m (offset + done)) (gathered read (count - (done + m)) (offset + (done + m))) (gathered read (count - done) (offset + done))
+      rest-split = gathered-split read m (count - (done + m)) (count - done) (offset + done) (offset + (done + m)) (omega arith) (omega arith)
 
-    -- m bytes more, those of a leaf's bytes b from k on
-    pub rest-leaf : (b : Bytes) (k m : ℕ) (d′ : Bytes) → done + m ≤ count → done ≤ length d → ((j : ℕ) → j < m → read (offset + done + j) ≡ byte (getD b (k + j) 0))
-        → d′ ≡ put d done (filled m (drop k b)) → Rest read count offset d₀ d′ (done + m)
-    rest-leaf b k m d′ h l f e =
-        let p = filled m (drop k b) in
-        let lp : length p ≡ m = length-filled m (drop k b) in
-        let left : count - done - m ≡ count - (done + m) = omega arith in
-        let place : offset + done + m ≡ offset + (done + m) = omega arith in
-        let front : (j : ℕ) → j < length p → read (offset + done + j) ≡ byte (getD p j 0) =
-        λ j g. f j (omega (arith, lp)) ∙ ap byte (sym (filled-getD m (drop k b) j (omega (arith, lp)) ∙ getD-drop k b j 0)) in
-        let split : gathered read (count - done) (offset + done) ≡ behind p (gathered read (count - (done + m)) (offset + (done + m))) =
-        gathered-front read p (count - done) (offset + done) (omega (arith, lp)) front
-        ∙ ap (λ (n : ℕ). behind p (gathered read (count - done - n) (offset + done + n))) lp
-        ∙ ap₂ (λ (n o : ℕ). behind p (gathered read n o)) left place in
-        let g = gathered read (count - (done + m)) (offset + (done + m)) in
-        ap₂ (λ (x : Bytes) (n : ℕ). onward x (done + n) g) e (sym lp) ∙ onward-behind d done p g l ∙ ap (onward d done) (sym split) ∙ rest
+      pub rest-ends : (w : Refusal) → gathered read m (offset + done) .stop ≡ Refused w
+          → onward d done (gathered read m (offset + done)) ≡ filledWith d₀ (gathered read count offset)
+      rest-ends w q = ap (onward d done) (sym (rest-split .ends w q)) ∙ rest
+
+      pub rest-goes-on : gathered read m (offset + done) .stop ≡ Done → done ≤ length d
+          → let p = gathered read m (offset + done) .bytes in
+          Rest read count offset d₀ (put d done p) (done + length p)
+      rest-goes-on q l =
+          let p = gathered read m (offset + done) .bytes in
+          ap (λ (n : ℕ). onward (put d done p) (done + length p) (gathered read (count - (done + n)) (offset + (done + n)))) (rest-split .whole q)
+          ∙ onward-behind d done p (gathered read (count - (done + m)) (offset + (done + m))) l
+          ∙ ap (onward d done) (sym (rest-split .goes-on q)) ∙ rest

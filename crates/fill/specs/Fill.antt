@@ -8,8 +8,6 @@ use Rattle.buffer.specs.Bytes.{Bytes, put}
 use Rattle.refusal.specs.declared.Refusal.{Refusal}
 use Rattle.refusal.specs.declared.Refusal.the-variants as why
 use Rattle.refusal.specs.Number.{numberOf}
-use Rattle.log.specs.declared.Look.{Look}
-use Rattle.log.specs.declared.Look.the-variants as look
 use Rattle.log.specs.LookUp.{lentAllowed}
 use Rattle.log.specs.Parts.{tape}
 use Rattle.entry.specs.declared.Entry.{Entry}
@@ -26,11 +24,6 @@ use Rattle.fill.specs.declared.Filled.{Filled}
 abbrev pub stopNumber : Stop → ℕ
 stopNumber Done = 0
 stopNumber (Refused w) = numberOf w
-
--- how filling ends that ends with a look-up
-abbrev pub stopOf : Look → Stop
-stopOf (look.Found b) = Done
-stopOf (look.Refused w) = Refused w
 
 -- what is read at an offset: a byte, or why there is none
 pub data Read : Type 0 where
