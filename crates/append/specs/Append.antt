@@ -2,7 +2,7 @@
 use Prim.Native.Nat.{ℕ, _+_}
 use Rattle.buffer.specs.Bytes.{Bytes}
 use lib.ListN.{length}
-use Rattle.sector.specs.Sector.{payloadOf}
+use Rattle.sector.specs.Sector.{payloadOf, linesLength}
 use Rattle.block.specs.Block.{Row, partsOf}
 
 -- a row of the ledger from its fields: "type, score, bytes, first sector", and its date
@@ -11,4 +11,4 @@ rowOf kind score bytes first date = record { kind = kind; score = score; bytes =
 
 -- how many sectors data takes behind labels that have a line before their six
 abbrev pub partsBehind : Bytes → Bytes → ℕ
-partsBehind front d = partsOf (payloadOf (length front + 96)) (length d)
+partsBehind front d = partsOf (payloadOf (length front + linesLength)) (length d)

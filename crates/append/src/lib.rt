@@ -7,7 +7,7 @@ ghost use mathlib.Core.Path.{_≡_};
 ghost use Prim.Native.Nat.{_+_, _-_, _*_, _≤_, _<_, min};
 ghost use lib.ListN.{length};
 ghost use Rattle.buffer.specs.Bytes.{Bytes, put};
-ghost use Rattle.sector.specs.Sector.{frontOf};
+ghost use Rattle.sector.specs.Sector.{frontOf, sectorLength, bodyLength, linesLength};
 ghost use Rattle.kind.specs.Kind.{longest};
 ghost use Rattle.block.specs.Block.{image, images};
 ghost use Rattle.block.specs.Log.{sectors};
@@ -33,8 +33,8 @@ fn write_part(
     data: &[u8],
     k: usize,
 )
-    requires { ⌜ (length (now «data») ≤ longest) × (length (now score) ≡ 20) × (length (now front) + 96 < 499) × (512 * partsBehind (now front) (now «data») ≤ length (now part)) × (k < partsBehind (now front) (now «data»)) ⌝ }
-    ensures { λ _. ⌜ ((date : Bytes) → frontOf date ≡ now (front .entry) → now (part .exit) ≡ put (now (part .entry)) (512 * k) (image (rowOf kind (now (score .entry)) (now («data» .entry)) (first .0) date) k)) ⌝ }
+    requires { ⌜ (length (now «data») ≤ longest) × (length (now score) ≡ 20) × (length (now front) + linesLength < bodyLength) × (sectorLength * partsBehind (now front) (now «data») ≤ length (now part)) × (k < partsBehind (now front) (now «data»)) ⌝ }
+    ensures { λ _. ⌜ ((date : Bytes) → frontOf date ≡ now (front .entry) → now (part .exit) ≡ put (now (part .entry)) (sectorLength * k) (image (rowOf kind (now (score .entry)) (now («data» .entry)) (first .0) date) k)) ⌝ }
 {
     let label = front.len() + LABEL;
     let p = block::payload_of(label);
@@ -63,7 +63,7 @@ fn write_parts(
     score: &[u8],
     data: &[u8],
 )
-    requires { ⌜ (length (now «data») ≤ longest) × (length (now score) ≡ 20) × (length (now front) + 96 < 499) × (512 * partsBehind (now front) (now «data») ≤ length (now part)) ⌝ }
+    requires { ⌜ (length (now «data») ≤ longest) × (length (now score) ≡ 20) × (length (now front) + linesLength < bodyLength) × (sectorLength * partsBehind (now front) (now «data») ≤ length (now part)) ⌝ }
     ensures { λ _. ⌜ ((date : Bytes) → frontOf date ≡ now (front .entry) → now (part .exit) ≡ put (now (part .entry)) 0 (images (rowOf kind (now (score .entry)) (now («data» .entry)) (first .0) date) (partsBehind (now (front .entry)) (now («data» .entry))) 0)) ⌝ }
 {
     let count = block::parts_of(front.len() + LABEL, data.len());

@@ -1,12 +1,12 @@
 -- What a valid row is, as facts; and how many parts a block has.
 use mathlib.Core.Path.{_≡_, refl, ap, _∙_}
-use mathlib.Core.Bool.{Bool, true, false, _&&_}
+use mathlib.Core.Bool.{true}
 use mathlib.Core.Logic.{_⊎_, inl, inr}
 use Prim.Native.Nat.{ℕ, zero, suc, _+_, _-_, _*_, _/_, _%_, _^_, _≤_, _<_}
 use native.Mathlib.Nat.{mod-lt, div-add-mod, add-mul-div-left, mul-zero, mul-comm, div-eq-of-lt, div-lt-iff-lt-mul}
 use native.Mathlib.Omega.{arith}
 use lib.Dec.{leb}
-use borrow.Author.Tests.{leb-true, le-leb, eqb-true}
+use borrow.Author.Tests.{leb-true, le-leb}
 use lib.ListN.{length}
 use Rattle.ground.proofs.Choices.{and-true}
 use Rattle.buffer.specs.Bytes.{Bytes, same}
@@ -101,14 +101,6 @@ facts-valid r F = rw (
   le-leb (r .first + parts r) (16 ^ 8) (F .place),
   F .dated,
 )
-
-pub lawful-lt : (t : ℕ) → lawful t ≡ true → t < 256
-unfolding lawful
-lawful-lt t e = go (leb 1 t && leb t 9) refl
-  where
-    go : (b : Bool) → (leb 1 t && leb t 9) ≡ b → t < 256
-    go true q = omega (arith, leb-true t 9 ((and-true (leb 1 t) (leb t 9) q) .1))
-    go false q = omega (arith, eqb-true t 13 (rw q at e))
 
 module _ (r : Row) (v : valid r ≡ true) where
   F : Facts r

@@ -23,11 +23,11 @@ abbrev pub partsBy : Bytes → ℕ → ℕ
 partsBy date size = partsOf (payloadOf (labelLength date)) size
 
 -- such a block that starts at n: its payloads, and the row that these make
-abbrev pub whole : Bytes → ℕ → Bytes → ℕ → Bytes
-whole log n date size = payloads (labelLength date) log (partsBy date size) n
+abbrev pub payloadsBy : Bytes → ℕ → Bytes → ℕ → Bytes
+payloadsBy log n date size = payloads (labelLength date) log (partsBy date size) n
 
 abbrev pub rowAt : Bytes → ℕ → ℕ → Bytes → Bytes → ℕ → Row
-rowAt log n kind score date size = record { kind = kind; score = score; bytes = take size (whole log n date size); first = n; date = date }
+rowAt log n kind score date size = record { kind = kind; score = score; bytes = take size (payloadsBy log n date size); first = n; date = date }
 
 pub record Passed (log : Bytes) (n kind : ℕ) (score date : Bytes) (size : ℕ) : Type 0 where
   pub dated : isDateOrNone date ≡ true
@@ -38,9 +38,9 @@ pub record Passed (log : Bytes) (n kind : ℕ) (score date : Bytes) (size : ℕ)
   pub place : n + partsBy date size ≤ 16 ^ 8
   pub labels : (k : ℕ) → k < partsBy date size → take (labelLength date) (at log (n + k)) ≡ datedLabel date (labelAt (partsBy date size) n k kind size) score
   pub checks : (k : ℕ) → k < partsBy date size → fits (at log (n + k)) ≡ true
-  pub unused : zeros (drop size (whole log n date size)) ≡ true
-  pub of-bytes : small (take size (whole log n date size)) ≡ true
-  pub scored : sha1Of (take size (whole log n date size)) ≡ score
+  pub unused : zeros (drop size (payloadsBy log n date size)) ≡ true
+  pub of-bytes : small (take size (payloadsBy log n date size)) ≡ true
+  pub scored : sha1Of (take size (payloadsBy log n date size)) ≡ score
 
 module _ (log : Bytes) (n kind : ℕ) (score date : Bytes) (size : ℕ) where
   -- whether sector n + k has the label of part k
@@ -103,7 +103,7 @@ module _ (log : Bytes) (n kind : ℕ) (score : Bytes) where
           checks = checked-facts log n (partsBy date size) (h .0);
           unused = i .0;
           of-bytes = j .0;
-          scored = same-true (sha1Of (take size (whole log n date size))) score (k .0);
+          scored = same-true (sha1Of (take size (payloadsBy log n date size))) score (k .0);
         },
         p .1,
       )

@@ -18,10 +18,11 @@ use Rattle.sector.proofs.Editions.{label-lengths, length-dated}
 use Rattle.sector.proofs.Unfit.{fits-reads}
 use Rattle.block.specs.Block.{Row, parts, labelAt, rowLabel, image, valid}
 use Rattle.block.specs.Log.{sectors, at, soundAs, sound}
-use Rattle.block.proofs.Facts.{parts-bounds, Facts, valid-facts, facts-valid, lawful-lt, parts-pos}
+use Rattle.block.proofs.Facts.{parts-bounds, Facts, valid-facts, facts-valid, parts-pos}
 use Rattle.block.proofs.Image.{image-fits, image-date, image-label, image-kind, image-size, image-score}
 use Rattle.block.proofs.Payloads.{zero-tail, filled-getD, load, length-load, length-payloads, payloads-getD, take-payloads, drop-payloads}
-use Rattle.block.proofs.Passed.{partsBy, whole, rowAt, Passed, passed-as}
+use Rattle.block.proofs.Passed.{partsBy, payloadsBy, rowAt, Passed, passed-as}
+use Rattle.kind.proofs.Types.{lawful-lt}
 
 -- the sectors from n on are the image of a valid row that starts there
 abbrev pub Stands : Bytes → ℕ → Row → Type 0
@@ -43,17 +44,17 @@ module _ (log : Bytes) (n kind : ℕ) (score date : Bytes) (size : ℕ) (P : Pas
   pos = omega (arith, short)
 
   bytes : Bytes
-  bytes = take size (whole log n date size)
+  bytes = take size (payloadsBy log n date size)
 
   row : Row
   row = rowAt log n kind score date size
 
   length-bytes : length bytes ≡ size
   unfolding bytes
-  length-bytes = length-take-le size (whole log n date size) (omega (arith, length-payloads ℓ short log (partsBy date size) n, parts-bounds p pos size))
+  length-bytes = length-take-le size (payloadsBy log n date size) (omega (arith, length-payloads ℓ short log (partsBy date size) n, parts-bounds p pos size))
 
   length-score : length score ≡ 20
-  length-score = ap length (sym (P .scored)) ∙ digest-length (take size (whole log n date size))
+  length-score = ap length (sym (P .scored)) ∙ digest-length (take size (payloadsBy log n date size))
 
   row-valid : valid row ≡ true
   unfolding row bytes
@@ -74,8 +75,8 @@ module _ (log : Bytes) (n kind : ℕ) (score date : Bytes) (size : ℕ) (P : Pas
       ext-getD 0 (load ℓ short log (n + k)) (filled p (drop (p * k) bytes)) (length-load ℓ short log (n + k) ∙ sym (length-filled p (drop (p * k) bytes)))
       (λ i lt. let g : i < p = omega (arith, length-load ℓ short log (n + k)) in
       sym (payloads-getD ℓ short log (partsBy date size) n k i h g)
-      ∙ ap (λ (x : Bytes). getD x (p * k + i) 0) (sym (take-append-drop size (whole log n date size)))
-      ∙ zero-tail bytes (drop size (whole log n date size)) (p * k + i) (P .unused)
+      ∙ ap (λ (x : Bytes). getD x (p * k + i) 0) (sym (take-append-drop size (payloadsBy log n date size)))
+      ∙ zero-tail bytes (drop size (payloadsBy log n date size)) (p * k + i) (P .unused)
       ∙ sym (filled-getD p (drop (p * k) bytes) i g ∙ getD-drop (p * k) bytes i 0))
 
   sector-is : (k : ℕ) → k < partsBy date size → at log (n + k) ≡ image row k

@@ -8,7 +8,7 @@ use Rattle.buffer.specs.Bytes.{Bytes, same}
 use Rattle.word.specs.Number.{small}
 use Rattle.sha1.specs.Sha1.{sha1Of}
 use Rattle.kind.specs.Kind.{lawful, longest}
-use Rattle.sector.specs.Sector.{datedLabel, encode, isDateOrNone, labelLength, payloadOf}
+use Rattle.sector.specs.Sector.{datedLabel, encode, isDateOrNone, labelLength, payloadOf, sectorLength, bodyLength}
 use Rattle.sector.specs.declared.Label.{Label}
 use Rattle.block.specs.declared.Block.{Block}
 
@@ -41,7 +41,7 @@ partsIn b = partsOf (payloadOf (b .label)) (b .size)
 
 -- a place among n sectors, whose labels leave room for a payload
 abbrev pub Inside : ℕ → Block → Type 0
-Inside n b = (b .first .0 + partsIn b ≤ n) × (b .label < 499)
+Inside n b = (b .first .0 + partsIn b ≤ n) × (b .label < bodyLength)
 
 -- the label of part k of a block of `of` parts, beside the score
 abbrev pub labelAt : ℕ → ℕ → ℕ → ℕ → ℕ → Label
@@ -62,7 +62,7 @@ images r (suc k) i = image r i ++ images r k (suc i)
 
 -- "changes no other byte": a log with a row written at its place
 unfoldable pub written : Bytes → Row → Bytes
-written log r = take (512 * r .first) log ++ (images r (parts r) 0 ++ drop (512 * (r .first + parts r)) log)
+written log r = take (sectorLength * r .first) log ++ (images r (parts r) 0 ++ drop (sectorLength * (r .first + parts r)) log)
 
 -- a row that can be written: one of the ten types, a size in bounds, of bytes, the score of the bytes, a place that eight digits name, a date of eight
 -- digits or none

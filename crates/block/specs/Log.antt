@@ -9,18 +9,18 @@ use lib.ListN.{length, take, drop}
 use Rattle.buffer.specs.Bytes.{Bytes, same, zeros}
 use Rattle.word.specs.Number.{small}
 use Rattle.sha1.specs.Sha1.{sha1Of}
-use Rattle.sector.specs.Sector.{datedLabel, labelLength, payloadOf, dateField, behind, fits, blank, kindField, sizeField, scoreField}
+use Rattle.sector.specs.Sector.{datedLabel, labelLength, payloadOf, dateField, behind, fits, blank, kindField, sizeField, scoreField, sectorLength}
 use Rattle.kind.specs.Kind.{lawful, longest}
 use Rattle.block.specs.Block.{Row, partsOf, partsIn, labelAt}
 use Rattle.block.specs.declared.Block.{Block}
 
 -- "The log is sectors of 512 bytes": how many whole ones a log of m bytes has
 abbrev pub sectors : ℕ → ℕ
-sectors m = m / 512
+sectors m = m / sectorLength
 
 -- sector n; past the end a blank one
 unfoldable pub at : Bytes → ℕ → Bytes
-at log n = cond (ltb n (sectors (length log))) (take 512 (drop (512 * n) log)) blank
+at log n = cond (ltb n (sectors (length log))) (take sectorLength (drop (sectorLength * n) log)) blank
 
 -- two logs with the same sectors
 abbrev pub Alike : Bytes → Bytes → Type 0
@@ -28,7 +28,7 @@ Alike a b = (n : ℕ) → at a n ≡ at b n
 
 -- two runs of sectors read as one: the first u sectors of the log, and then those of a second run
 unfoldable pub joined : ℕ → Bytes → Bytes → Bytes
-joined u log second = take (512 * u) log ++ second
+joined u log second = take (sectorLength * u) log ++ second
 
 -- "The used part ends with the last sector that isn't blank": of the first n sectors, and of all
 unfoldable pub usedOf : Bytes → ℕ → ℕ

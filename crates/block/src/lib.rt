@@ -4,7 +4,7 @@ use sector::BODY;
 use sector_number::SectorNumber;
 ghost use mathlib.Core.Path.{_≡_};
 ghost use Prim.Native.Nat.{_+_, _^_, _≤_, _<_};
-ghost use Rattle.sector.specs.Sector.{payloadOf};
+ghost use Rattle.sector.specs.Sector.{payloadOf, bodyLength};
 ghost use Rattle.block.specs.Block.{partsOf};
 
 // Where a block stands: its first sector, its size in bytes, and how long its sectors' labels are.
@@ -16,7 +16,7 @@ pub struct Block {
 
 // How many bytes of a block a sector holds behind a label.
 pub fn payload_of(label: usize) -> usize
-    requires { ⌜ label ≤ 499 ⌝ }
+    requires { ⌜ label ≤ bodyLength ⌝ }
     ensures { λ r. ⌜ r ≡ payloadOf label ⌝ }
 {
     BODY - label
@@ -24,7 +24,7 @@ pub fn payload_of(label: usize) -> usize
 
 // How many sectors `size` bytes take, behind labels of this length.
 pub fn parts_of(label: usize, size: usize) -> usize
-    requires { ⌜ (label < 499) × (size + 499 < 2 ^ 64) ⌝ }
+    requires { ⌜ (label < bodyLength) × (size + bodyLength < 2 ^ 64) ⌝ }
     ensures { λ r. ⌜ r ≡ partsOf (payloadOf label) size ⌝ }
 {
     let p = payload_of(label);

@@ -8,7 +8,7 @@ use native.Mathlib.Omega.{arith}
 use lib.Dec.{ltb, eqb}
 use borrow.Author.Tests.{ltb-true, eqb-true, eqb-false, lt-ltb, eq-eqb, ne-eqb}
 use lib.ListN.{length, getD, take, drop, replicate}
-use Rattle.ground.proofs.Choices.{and-true}
+use Rattle.ground.proofs.Choices.{and-true, and-assoc}
 use Rattle.word.specs.Number.{small}
 use Rattle.buffer.specs.Bytes.{Bytes, same, zeros}
 
@@ -28,6 +28,17 @@ same-false x y n = go (same x y) refl
     go : (b : Bool) → same x y ≡ b → same x y ≡ false
     go true q = absurd (n (same-true x y q))
     go false q = q
+
+-- compared by two parts
+pub same-append : (a b x y : Bytes) → length a ≡ length b → same (a ++ x) (b ++ y) ≡ (same a b && same x y)
+same-append [] [] x y e = refl
+same-append [] (b ∷ bs) x y e = absurd (omega arith)
+same-append (a ∷ ts) [] x y e = absurd (omega arith)
+same-append (a ∷ ts) (b ∷ bs) x y e = ap (λ (z : Bool). eqb a b && z) (same-append ts bs x y (omega arith)) ∙ sym (and-assoc (eqb a b) (same ts bs) (same x y))
+
+pub no-bytes : (b : Bytes) → length b ≡ 0 → b ≡ []
+no-bytes [] e = refl
+no-bytes (a ∷ b) e = absurd (omega arith)
 
 pub zeros-replicate : (n : ℕ) → zeros (replicate n 0) ≡ true
 zeros-replicate zero = refl

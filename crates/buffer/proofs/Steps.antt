@@ -11,7 +11,7 @@ use lib.Bits.{bitOr, bitAnd, or-add-and, and-le-l, and-le-r, or-zero-r}
 use borrow.Author.Tests.{eqb-true, eqb-false, eq-eqb, ne-eqb}
 use lib.ListN.{length, getD, take, drop, set, drop-of-length-le}
 use lib.Seq.{drop-cons, drop-length, paste, paste-suc, take-all}
-use Rattle.ground.proofs.Choices.{and-true}
+use Rattle.ground.proofs.Choices.{and-one, and-assoc}
 use Rattle.buffer.specs.Bytes.{Bytes, same, zeros, put}
 use Rattle.buffer.proofs.Bytes.{same-true, same-false, zeros-getD}
 
@@ -40,20 +40,12 @@ or-test a b = go (eqb a 0) (eqb b 0) refl refl
     go true false ea eb = ne-eqb (bitOr a b) 0 (λ z. eqb-false b 0 eb ((or-nothing a b z) .1))
     go false q ea eb = ne-eqb (bitOr a b) 0 (λ z. eqb-false a 0 ea ((or-nothing a b z) .0))
 
-and-assoc : (a b c : Bool) → ((a && b) && c) ≡ (a && (b && c))
-and-assoc true b c = refl
-and-assoc false b c = refl
-
 pub zeros-step : (s : Bytes) (i seen : ℕ) → i < length s → (eqb (bitOr seen (getD s i 0)) 0 && zeros (drop (i + 1) s)) ≡ (eqb seen 0 && zeros (drop i s))
 zeros-step s i seen h =
     rw (drop-cons s i 0, add-one, or-test seen (getD s i 0)) (and-assoc (eqb seen 0) (eqb (getD s i 0) 0) (zeros (drop (suc i) s)))
 
 pub zeros-end : (s : Bytes) (i seen : ℕ) → length s ≤ i → (eqb seen 0 && zeros (drop i s)) ≡ eqb seen 0
-zeros-end s i seen h = rw (drop-of-length-le s h) (go (eqb seen 0))
-  where
-    go : (b : Bool) → (b && true) ≡ b
-    go true = refl
-    go false = refl
+zeros-end s i seen h = rw (drop-of-length-le s h) (and-one (eqb seen 0))
 
 -- put: one byte more, none, all
 pub put-all : (d : Bytes) (at : ℕ) (s : Bytes) → paste d at s (length s) ≡ put d at s

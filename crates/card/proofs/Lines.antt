@@ -10,6 +10,7 @@ use borrow.Author.Tests.{eq-eqb}
 use lib.ListN.{length, take, drop, length-append, length-drop, take-append-drop}
 use lib.Seq.{drop-append-seam}
 use Rattle.ground.specs.Choice.{on}
+use Rattle.ground.proofs.Choices.{and-one}
 use Rattle.buffer.specs.Bytes.{Bytes, same}
 use Rattle.buffer.proofs.Bytes.{same-true}
 use Rattle.kleene.specs.declared.Value.the-variants.{NotKnown}
@@ -120,11 +121,7 @@ lawfulFrom n s = same (text (frontLines s)) s && goodFrom n (frontLines s)
 
 pub lawful-none : (n s : Bytes) → lineOf s ≡ none → lawfulFrom n s ≡ same [] s
 unfolding lawfulFrom text goodFrom
-lawful-none n s e = rw (front-none s e) (and-right (same [] s))
-  where
-    and-right : (t : Bool) → (t && true) ≡ t
-    and-right true = refl
-    and-right false = refl
+lawful-none n s e = rw (front-none s e) (and-one (same [] s))
 
 shuffle : (a b c d : Bool) → (a && (b && (c && d))) ≡ (b && (c && (a && d)))
 shuffle a true true d = refl

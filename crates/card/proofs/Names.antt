@@ -1,6 +1,6 @@
 -- Names: the cases of the tests, one turn of each loop.
 use mathlib.Core.Path.{_≡_, refl, sym, _∙_}
-use mathlib.Core.Bool.{Bool, true, false, _||_}
+use mathlib.Core.Bool.{Bool, true, false}
 use mathlib.Core.List.{[], _∷_}
 use Prim.Native.Nat.{ℕ, _+_, _≤_, _<_}
 use native.Mathlib.Omega.{arith}
@@ -9,6 +9,7 @@ use lib.Dec.{leb, ltb}
 use borrow.Author.Tests.{le-leb, lt-leb, le-ltb, eq-eqb, ne-eqb}
 use lib.ListN.{length, getD, drop, drop-of-length-le}
 use lib.Seq.{drop-cons}
+use Rattle.ground.proofs.Choices.{or-none}
 use Rattle.buffer.specs.Bytes.{Bytes, same}
 use Rattle.card.specs.Name.{letterOrDigit, lettersAndDigits, reserved, isName, before}
 
@@ -58,11 +59,7 @@ module _ (a b : Bytes) (i : ℕ) where
 
   pub before-differ : i < length a → i < length b → (getD a i 0 ≡ getD b i 0 → ⊥) → ltb (getD a i 0) (getD b i 0) ≡ before (drop i a) (drop i b)
   unfolding before
-  before-differ h k n = rw (drop-cons a i 0, drop-cons b i 0, ne-eqb (getD a i 0) (getD b i 0) n) (sym (or-nothing (ltb (getD a i 0) (getD b i 0))))
-    where
-      or-nothing : (t : Bool) → (t || false) ≡ t
-      or-nothing true = refl
-      or-nothing false = refl
+  before-differ h k n = rw (drop-cons a i 0, drop-cons b i 0, ne-eqb (getD a i 0) (getD b i 0) n) (sym (or-none (ltb (getD a i 0) (getD b i 0))))
 
   pub before-on : i < length a → i < length b → getD a i 0 ≡ getD b i 0 → before (drop (i + 1) a) (drop (i + 1) b) ≡ before (drop i a) (drop i b)
   unfolding before

@@ -47,7 +47,7 @@ unfolding lineWith
 with-ending n true t = refl
 with-ending n false t = refl
 
-name-letters : (n : Bytes) → isName n ≡ true → lettersAndDigits n ≡ true
+pub name-letters : (n : Bytes) → isName n ≡ true → lettersAndDigits n ≡ true
 unfolding isName
 name-letters n e = and-true (not (reserved n)) (lettersAndDigits n) (and-true (leb 1 (length n) && leb (length n) 8) (not (reserved n) && lettersAndDigits n) e .1) .1
 

@@ -1,6 +1,7 @@
 // What changed between two days: the first difference of two directory blocks, and the differences between two trees, of a log and of the
 // sectors that wait behind its used part.
 use difference::Difference;
+use tree_calls::ABOVE_VISITS;
 ghost use mathlib.Core.Path.{_≡_};
 ghost use Rattle.difference.specs.Difference.{differenceOf};
 ghost use Rattle.comparison.specs.Differences.{differencesOf};
@@ -37,5 +38,5 @@ pub fn differences<'a>(
     let number = walk::number(end);
     let sector = tree_calls::end_sector(end);
     *told = sector as u64;
-    number as u64 + 256 * (compared.units as u64 + 1048576 * (compared.count as u64))
+    number as u64 + 256 * (compared.units as u64 + ABOVE_VISITS * (compared.count as u64))
 }

@@ -8,10 +8,10 @@ use lib.Seq.{take-all}
 use borrow.Author.Tests.{eq-eqb, ne-eqb}
 use Rattle.buffer.specs.Bytes.{Bytes}
 use Rattle.sector.specs.Sector.{filled}
+use Rattle.sector.proofs.Encode.{length-filled}
 use Rattle.entry.specs.declared.Entry.{Entry}
 use Rattle.entry.specs.Entry.{entryOf, scoreOf}
 use Rattle.tree.specs.Tree.{pointer}
-use Rattle.tree.proofs.Filled.{length-filled}
 use Rattle.pair.specs.declared.Verdict.{Verdict}
 use Rattle.pair.specs.declared.Verdict.the-variants.{Open}
 use Rattle.pair.specs.Verdict.{verdict}

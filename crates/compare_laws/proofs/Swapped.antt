@@ -21,7 +21,7 @@ use Rattle.pair.specs.declared.Verdict.{Verdict}
 use Rattle.pair.specs.declared.Verdict.the-variants.{Skip, IllFormed, Open, Differ}
 use Rattle.pair.specs.Verdict.{verdict}
 use Rattle.pair.specs.Opened.{opened}
-use Rattle.pair.proofs.Verdicts.{Opening, open-says, verdict-comm, same-comm, and-comm}
+use Rattle.pair.proofs.Verdicts.{Opening, open-says, verdict-comm, same-comm}
 use Rattle.comparison.specs.declared.Compared.{Compared}
 use Rattle.comparison.specs.Compared.{none, refused, oneUnit, andThen, inOrder}
 use Rattle.comparison.specs.Compare.{Blocks, byVerdict, entriesBy, listed, positionBy, positions, spending, belowBy, pairBy, compareBlocks}
@@ -29,6 +29,7 @@ use Rattle.comparison.specs.Differences.{directoryAllowed, differencesIn}
 use Rattle.compare_laws.specs.Swapped.{SwappedAlike}
 use Rattle.compare_laws.specs.Again.{ComparedAgain}
 use Rattle.compare_laws.proofs.Done.{Read, read-done, read-is, and-then-done}
+use Rattle.ground.proofs.Choices.{and-comm}
 
 -- c, if it ends with number 0, is c′ too
 abbrev Same : Compared → Compared → Type 0

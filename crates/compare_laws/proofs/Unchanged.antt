@@ -1,7 +1,7 @@
 -- No difference is counted exactly where the two trees are unchanged.
 use mathlib.Core.Path.{_≡_, refl, sym, ap, ap₂, subst, _∙_}
 use mathlib.Core.Bool.{Bool, true, false, not, cond, _&&_, true≢false}
-use mathlib.Core.List.{[], _∷_}
+use mathlib.Core.List.{[]}
 use mathlib.Core.Logic.{_⊎_, inl, inr}
 use mathlib.Core.Option.{some}
 use Prim.Native.Nat.{ℕ, zero, suc, _+_, _-_, _*_, _/_, _%_, _≤_, _<_, max}
@@ -9,8 +9,9 @@ use native.Mathlib.Omega.{arith}
 use lib.Dec.{eqb, ltb}
 use lib.ListN.{length, drop, length-drop}
 use borrow.Author.Tests.{ltb-true, ltb-false, eqb-true, ne-eqb}
+use Rattle.ground.proofs.Choices.{some-same}
 use Rattle.buffer.specs.Bytes.{Bytes, same}
-use Rattle.buffer.proofs.Bytes.{same-refl, same-true}
+use Rattle.buffer.proofs.Bytes.{same-refl, same-true, no-bytes}
 use Rattle.refusal.specs.declared.Refusal.the-variants.{LogLength, Entry as EntryRefused, Allowance}
 use Rattle.sector.specs.Sector.{filled}
 use Rattle.block.specs.Block.{Row}
@@ -35,17 +36,10 @@ use Rattle.comparison.specs.Differences.{directoryAllowed, differencesIn}
 use Rattle.compare_laws.specs.Unchanged.{Unchanged, UnchangedBlocks, same-entry, both-inactive, same-below, same-score, leaves, pointers, NoneCountedUnchanged, UnchangedNoneCounted}
 use Rattle.compare_laws.proofs.Done.{Read, read-done, read-is, spending-done, each-none, none-counted}
 
-some-one : (r q : Row) → some r ≡ some q → r ≡ q
-some-one r q e = cc
-
 -- ---- past the end of both
 
-none-of : (b : Bytes) → length b ≡ 0 → b ≡ []
-none-of [] h = refl
-none-of (a ∷ b) h = absurd (omega arith)
-
 drop-past : (b : Bytes) (k : ℕ) → length b ≤ k → drop k b ≡ []
-drop-past b k h = none-of (drop k b) (simp length-drop (omega arith))
+drop-past b k h = no-bytes (drop k b) (simp length-drop (omega arith))
 
 listed-past : (b c : Bytes) (p : ℕ) → max (positions 0 (length b)) (positions 0 (length c)) ≤ p → listed b p ≡ listed c p
 unfolding positions
@@ -207,16 +201,16 @@ module _ (B : Blocks) (log : Bytes) (f : CountsNone B log) where
   below-none e zero nest s t r q left hr hq n (leaves r′ q′ hr′ hq′ g) d =
       none-counted (λ i a. positionBy B e 0 nest (r .bytes) (q .bytes) i a) left
       (λ i a z. entries-none nest (listed (r .bytes) i) (listed (q .bytes) i) a
-      (subst (λ (u : Row). Unchanged log (listed (u .bytes) i) (listed (q .bytes) i)) (some-one r′ r (sym hr′ ∙ hr))
-      (subst (λ (u : Row). Unchanged log (listed (r′ .bytes) i) (listed (u .bytes) i)) (some-one q′ q (sym hq′ ∙ hq)) (g i))) z)
+      (subst (λ (u : Row). Unchanged log (listed (u .bytes) i) (listed (q .bytes) i)) (some-same r′ r (sym hr′ ∙ hr))
+      (subst (λ (u : Row). Unchanged log (listed (r′ .bytes) i) (listed (u .bytes) i)) (some-same q′ q (sym hq′ ∙ hq)) (g i))) z)
       _ 0 0 0 d
   below-none e (suc l) nest s t r q left hr hq n (pointers r′ q′ hr′ hq′ g) d =
       none-counted (λ i a. positionBy B e (suc l) nest (r .bytes) (q .bytes) i a) left
       (λ i a z. let k = position-above B e l nest (r .bytes) (q .bytes) i a in
       ap (λ (c : Compared). c .count) k
       ∙ f e l nest (pointer (r .bytes) i) (pointer (q .bytes) i) a
-      (subst (λ (u : Row). UnchangedBlocks log e l (pointer (u .bytes) i) (pointer (q .bytes) i)) (some-one r′ r (sym hr′ ∙ hr))
-      (subst (λ (u : Row). UnchangedBlocks log e l (pointer (r′ .bytes) i) (pointer (u .bytes) i)) (some-one q′ q (sym hq′ ∙ hq)) (g i)))
+      (subst (λ (u : Row). UnchangedBlocks log e l (pointer (u .bytes) i) (pointer (q .bytes) i)) (some-same r′ r (sym hr′ ∙ hr))
+      (subst (λ (u : Row). UnchangedBlocks log e l (pointer (r′ .bytes) i) (pointer (u .bytes) i)) (some-same q′ q (sym hq′ ∙ hq)) (g i)))
       (ap (λ (c : Compared). c .end) (sym k) ∙ z))
       _ 0 0 0 d
 

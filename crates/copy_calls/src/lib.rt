@@ -1,4 +1,5 @@
 // A copy of all that a root reaches into another log, its outcome as numbers.
+use tree_calls::ABOVE_VISITS;
 ghost use mathlib.Core.Path.{_≡_};
 ghost use Rattle.copying.specs.Copy.{copyOf};
 ghost use Rattle.results.specs.Copies.{transfer, copyResult};
@@ -19,5 +20,5 @@ pub fn copy<'a>(
     let end = copied.end;
     let number = walk::number(end);
     let sector = tree_calls::end_sector(end);
-    number as u64 + 256 * (copied.visits as u64 + 1048576 * (sector as u64))
+    number as u64 + 256 * (copied.visits as u64 + ABOVE_VISITS * (sector as u64))
 }

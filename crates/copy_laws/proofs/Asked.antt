@@ -1,6 +1,6 @@
 -- Write messages one after the other to a log for which nothing waits.
 use mathlib.Core.Path.{_≡_, refl, sym, ap, ap₂, subst, _∙_}
-use mathlib.Core.Bool.{Bool, true, false, cond}
+use mathlib.Core.Bool.{true}
 use mathlib.Core.List.{List, [], _∷_, _++_, map}
 use mathlib.Core.Logic.{_⊎_, inl, inr}
 use mathlib.Core.Option.{Option, none, some}
@@ -8,6 +8,7 @@ use Prim.Native.Nat.{ℕ, zero, suc, _≤_, _<_}
 use native.Mathlib.Omega.{arith}
 use lib.ListN.{length, getD, replicate, length-append}
 use Rattle.ground.specs.Choice.{on}
+use Rattle.ground.proofs.Choices.{cond-ind}
 use Rattle.buffer.specs.Bytes.{Bytes, same}
 use Rattle.sha1.specs.Sha1.{sha1Of}
 use Rattle.sector.specs.Sector.{isDate}
@@ -44,17 +45,13 @@ use Rattle.copy_laws.proofs.Messages.{small-message, one-write}
 abbrev Alone : AfterStore → Type 0
 Alone a = a .lent ≡ alone (a .lent .log)
 
-either : (q : Bool) (x y : AfterStore) → Alone x → Alone y → Alone (cond q x y)
-either true x y f g = f
-either false x y f g = g
-
 pub still-alone : (s date : Bytes) (t : ℕ) (b : Bytes) → Alone (store (alone s) date t b)
 unfolding store appendRow
 still-alone s date t b = go (held s t (sha1Of b))
   where
     go : (o : Option Row) → Alone (on o (appended (alone s) date t b) (λ r. compared (alone s) (r .bytes) (r .first) b))
-    go none = either (roomFor (alone s) (partsFor date b)) _ _ refl refl
-    go (some r) = either (same (r .bytes) b) _ _ refl refl
+    go none = cond-ind Alone (roomFor (alone s) (partsFor date b)) _ _ (λ _. refl) (λ _. refl)
+    go (some r) = cond-ind Alone (same (r .bytes) b) _ _ (λ _. refl) (λ _. refl)
 
 pub as-long : (s date : Bytes) (t : ℕ) (b : Bytes) (a : AfterStore) → Stored s date t b a → length (a .lent .log) ≡ length s
 as-long s date t b a (new r v f room k sc eb d h e _) = ap length e ∙ length-written s r v room

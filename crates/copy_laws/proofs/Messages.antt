@@ -1,19 +1,18 @@
 -- One write message, and a hello, to any log that is lent.
-use mathlib.Core.Path.{_≡_, refl, sym, ap, ap₂, _∙_}
-use mathlib.Core.Bool.{Bool, true, false, _&&_, _||_, true≢false}
+use mathlib.Core.Path.{_≡_, refl, ap, _∙_}
+use mathlib.Core.Bool.{true}
 use mathlib.Core.List.{_∷_}
 use mathlib.Core.Option.{some}
-use Prim.Native.Nat.{ℕ, _+_, _-_, _≤_, _<_}
+use Prim.Native.Nat.{_+_, _-_, _≤_}
 use native.Mathlib.Omega.{arith}
-use lib.Dec.{leb, eqb}
 use lib.ListN.{length, take}
 use lib.Seq.{take-at}
-use borrow.Author.Tests.{le-leb, leb-true, eq-eqb, eqb-true, le-ltb, lt-ltb}
+use borrow.Author.Tests.{le-leb, eq-eqb, le-ltb, lt-ltb}
 use Rattle.buffer.specs.Bytes.{Bytes}
 use Rattle.buffer.proofs.Bytes.{small-append}
 use Rattle.word.specs.Number.{small, digits, valueFrom, beNumber}
 use Rattle.word.proofs.NumberLaws.{length-digits, value-digits, below-digits}
-use Rattle.kind.specs.Kind.{lawful}
+use Rattle.kind.proofs.Types.{lawful-lt}
 use Rattle.sector.specs.Sector.{isDate}
 use Rattle.log.specs.Parts.{Lent}
 use Rattle.log.specs.Store.{AfterStore, store}
@@ -34,22 +33,6 @@ use Rattle.writer.specs.Blocks.{Typed}
 use Rattle.writer.specs.WriteFile.{endOf, endNumber}
 use Rattle.writer_laws.specs.Held.{Writable}
 use Rattle.writer_laws.specs.Asking.{helloMessage, writeMessage}
-
-or-none : (a : Bool) → ((a && false) || false) ≡ false
-or-none true = refl
-or-none false = refl
-
--- a type is a byte
-kind-small : (t : ℕ) → lawful t ≡ true → t < 256
-unfolding lawful
-kind-small t l = go (leb t 9) refl (eqb t 13) refl
-  where
-    go : (a : Bool) → leb t 9 ≡ a → (b : Bool) → eqb t 13 ≡ b → t < 256
-    go true p b q = omega (arith, leb-true t 9 p)
-    go false p true q = omega (arith, eqb-true t 13 q)
-    go false p false q =
-        let n : ((leb 1 t && false) || false) ≡ true = sym (ap₂ (λ (a b : Bool). (leb 1 t && a) || b) p q) ∙ l in
-        absurd (true≢false (sym n ∙ or-none (leb 1 t)))
 
 module _ (x : Typed) (W : Writable x) where
   message-length : length (writeMessage x) ≡ 8 + length (x .bytes)
@@ -72,7 +55,7 @@ module _ (x : Typed) (W : Writable x) where
   request-is = rw (le-leb 8 (length (writeMessage x)) (omega arith)) refl
 
   small-kind : small (14 ∷ 0 ∷ x .kind ∷ 0 ∷ 0 ∷ 0 ∷ x .bytes) ≡ true
-  small-kind = rw (lt-ltb (x .kind) 256 (kind-small (x .kind) (W .0))) (W .2)
+  small-kind = rw (lt-ltb (x .kind) 256 (lawful-lt (x .kind) (W .0))) (W .2)
 
   pub small-message : small (writeMessage x) ≡ true
   small-message = small-append (digits 256 2 (6 + length (x .bytes))) (14 ∷ 0 ∷ x .kind ∷ 0 ∷ 0 ∷ 0 ∷ x .bytes) (below-digits 256 2 (6 + length (x .bytes)) (omega arith)) small-kind

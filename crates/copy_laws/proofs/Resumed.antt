@@ -1,11 +1,11 @@
 -- Blocks stored in a log that is lent with more blank sectors: the same blocks at the same places.
 use mathlib.Core.Path.{_≡_, refl, sym, ap, ap₂, subst, _∙_}
-use mathlib.Core.Bool.{Bool, true, false, cond}
+use mathlib.Core.Bool.{true}
 use mathlib.Core.List.{List, [], _∷_, _++_, append-assoc, append-nil}
 use mathlib.Core.Logic.{_⊎_, inl, inr}
-use Prim.Native.Nat.{ℕ, _+_, _*_, _/_, _%_, _≤_, _^_}
+use Prim.Native.Nat.{ℕ, _+_, _*_, _%_, _≤_, _^_}
 use native.Mathlib.Omega.{arith}
-use lib.Dec.{eqb, leb}
+use lib.Dec.{eqb}
 use borrow.Author.Tests.{le-leb, eqb-true}
 use lib.ListN.{length, take, drop, replicate}
 use lib.Seq.{take-append-le, drop-append-le}
@@ -14,10 +14,11 @@ use Rattle.sha1.specs.Sha1.{sha1Of}
 use Rattle.sector.specs.Sector.{isDate}
 use Rattle.block.specs.Block.{Row, parts, images, written}
 use Rattle.block.specs.Log.{sectors, used}
-use Rattle.log.specs.LookUp.{held, logAllowed, mostSectors}
+use Rattle.log.specs.LookUp.{held}
 use Rattle.log.specs.Parts.{alone, tape, roomFor, appendRow}
 use Rattle.log.specs.Store.{AfterStore, store, newRow, partsFor}
 use Rattle.log.proofs.Alike.{held-alike}
+use Rattle.log.proofs.Allowed.{allowed-whole}
 use Rattle.visit.specs.declared.Walked.{Walked}
 use Rattle.refusal.specs.declared.Refusal.the-variants.{Spent}
 use Rattle.visit.specs.declared.End.the-variants.{Done, Refused}
@@ -108,14 +109,6 @@ module _ (k : ℕ) (first date : Bytes) (d : isDate date ≡ true) where
       ∙ ap (λ (x : Bytes). copied (walked 0 Done) (grown k x)) e
       ∙ sym (writes-grown W fit whole (walked 0 Done)))
       ∙ sym (store-append date before rest 0 w (grown k s))
-
-allowed-whole : (m : ℕ) → logAllowed m ≡ true → eqb (m % 512) 0 ≡ true
-unfolding logAllowed
-allowed-whole m e = go (eqb (m % 512) 0) e
-  where
-    go : (b : Bool) → cond b (leb (m / 512) mostSectors) false ≡ true → b ≡ true
-    go true q = refl
-    go false q = q
 
 -- a copy with allowance m, and one with allowance n behind it, whose blocks begin with those that the first one wrote
 module _ (log waiting date score second : Bytes) (m n k : ℕ) (l′ : copyAllowed (length log) (length waiting) (length (grown k second)) ≡ true) where

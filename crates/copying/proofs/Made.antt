@@ -1,6 +1,6 @@
 -- The visits that a copy made: of those that it went through, all; of a refused one and those behind it, none. A walk that spent no visit made none.
 use mathlib.Core.Path.{_≡_, refl, sym, ap, subst, _∙_}
-use mathlib.Core.Bool.{Bool, true, false, cond}
+use mathlib.Core.Bool.{Bool, cond}
 use mathlib.Core.List.{List, [], _∷_, _++_, append-nil}
 use mathlib.Core.Option.{Option, none as nothing, some}
 use Prim.Native.Nat.{ℕ, _+_}
@@ -8,6 +8,7 @@ use native.Mathlib.Omega.{arith}
 use lib.Dec.{eqb, ltb}
 use lib.ListN.{length}
 use Rattle.ground.specs.Choice.{on}
+use Rattle.ground.proofs.Choices.{cond-ind}
 use Rattle.buffer.specs.Bytes.{Bytes}
 use Rattle.refusal.specs.declared.Refusal.the-variants.{OverCount}
 use Rattle.block.specs.Block.{Row}
@@ -56,10 +57,6 @@ taken-before first date before after v s e w R =
 abbrev Unspent : PostOrder → Type 0
 Unspent p = p .answer .visits ≡ 0 → p .visits ≡ []
 
-cond-unspent : (b : Bool) (p q : PostOrder) → Unspent p → Unspent q → Unspent (cond b p q)
-cond-unspent true p q f g = f
-cond-unspent false p q f g = g
-
 behind-unspent : (role : Role) (score b : Bytes) (p : PostOrder) → Unspent (behind role score b p)
 behind-unspent role score b p = go (p .answer .end) _
   where
@@ -71,14 +68,14 @@ behind-unspent role score b p = go (p .answer .end) _
 visit-unspent : (log : Bytes) (nest left : ℕ) (role : Role) (count : ℕ) (score : Bytes) (B : Bytes → PostOrder) → Unspent (visitLast log nest left role count score B)
 unfolding visitLast
 visit-unspent log nest left role count score B =
-    cond-unspent (ltb 16 nest) _ _ (λ z. refl) (cond-unspent (eqb left 0) _ _ (λ z. refl) (found (held log (typeOf role) score)))
+    cond-ind Unspent (ltb 16 nest) _ _ (λ _ z. refl) (λ _. cond-ind Unspent (eqb left 0) _ _ (λ _ z. refl) (λ _. found (held log (typeOf role) score)))
   where
     found : (o : Option Row)
         → Unspent (on o (postOrder [] (walked 1 (Refused (absence log))))
         (λ r. cond (ltb count (length (r .bytes))) (postOrder [] (walked 1 (Refused OverCount))) (behind role score (r .bytes) (B (r .bytes)))))
     found nothing = λ z. refl
-    found (some r) = cond-unspent (ltb count (length (r .bytes))) _ _ (λ z. refl) (behind-unspent role score (r .bytes) (B (r .bytes)))
+    found (some r) = cond-ind Unspent (ltb count (length (r .bytes))) _ _ (λ _ z. refl) (λ _. behind-unspent role score (r .bytes) (B (r .bytes)))
 
 pub unspent : (lent : Bool) (log score : Bytes) (n : ℕ) → Unspent (postOrderIn lent log score n)
 unfolding postOrderIn rootLast
-unspent lent log score n = cond-unspent lent _ _ (cond-unspent (ltb mostAllowance n) _ _ (λ z. refl) (visit-unspent log 0 n _ 300 score _)) (λ z. refl)
+unspent lent log score n = cond-ind Unspent lent _ _ (λ _. cond-ind Unspent (ltb mostAllowance n) _ _ (λ _ z. refl) (λ _. visit-unspent log 0 n _ 300 score _)) (λ _ z. refl)

@@ -3,10 +3,9 @@ use mathlib.Core.Path.{_≡_, refl, sym, ap, subst, _∙_}
 use mathlib.Core.Bool.{Bool, true, false, cond, true≢false}
 use mathlib.Core.List.{List, [], _∷_, _++_, append-nil, List·Memᴰ, List·Memᴰ·not-nil}
 use mathlib.Core.Logic.{inl, inr}
-use Prim.Native.Nat.{ℕ, _/_, _%_, _≤_, _^_}
+use Prim.Native.Nat.{ℕ, _≤_, _^_}
 use native.Mathlib.Omega.{arith}
-use lib.Dec.{eqb, ltb, leb}
-use borrow.Author.Tests.{leb-true}
+use lib.Dec.{ltb}
 use lib.ListN.{length}
 use Rattle.ground.proofs.Choices.{and-true}
 use Rattle.buffer.specs.Bytes.{Bytes}
@@ -16,9 +15,10 @@ use Rattle.refusal.specs.declared.Refusal.the-variants.{LogLength, Allowance, D
 use Rattle.sector.specs.Sector.{isDate}
 use Rattle.block.specs.Block.{Row}
 use Rattle.block.specs.Log.{sectors}
-use Rattle.log.specs.LookUp.{blocks, mostSectors, logAllowed, lentAllowed}
+use Rattle.log.specs.LookUp.{blocks, logAllowed, lentAllowed}
 use Rattle.log.specs.Parts.{tape}
 use Rattle.log.proofs.Parts.{held-alone, lent-alone}
+use Rattle.log.proofs.Allowed.{allowed-sectors}
 use Rattle.visit.specs.declared.Walked.{Walked}
 use Rattle.visit.specs.declared.End.the-variants.{Done, Refused}
 use Rattle.visit.specs.Visit.{walked}
@@ -58,12 +58,7 @@ module _ (first date score : Bytes) (n : ℕ) (s : Bytes) where
   tested lent = by-tests lent (isDate date) (ltb mostAllowance n) refl refl
 
 pub allowed-fits : (m : ℕ) → logAllowed m ≡ true → sectors m ≤ 16 ^ 8
-unfolding logAllowed
-allowed-fits m e = go (eqb (m % 512) 0) e
-  where
-    go : (b : Bool) → cond b (leb (m / 512) mostSectors) false ≡ true → sectors m ≤ 16 ^ 8
-    go true q = omega (arith, leb-true (m / 512) mostSectors q)
-    go false q = absurd (true≢false (sym q))
+allowed-fits m e = omega (arith, allowed-sectors m e)
 
 pub second-allowed : (m w k : ℕ) → copyAllowed m w k ≡ true → logAllowed k ≡ true
 unfolding copyAllowed

@@ -1,7 +1,6 @@
 -- One block stored in a log alone: appended, there already, or refused.
 use mathlib.Core.Path.{_≡_, refl, sym, ap, subst, _∙_}
 use mathlib.Core.Bool.{Bool, true, false, cond, _&&_, true≢false}
-use mathlib.Core.List.{[], _∷_}
 use mathlib.Core.Option.{Option, none, some}
 use Prim.Native.Nat.{ℕ, _+_, _≤_, _^_}
 use native.Mathlib.Omega.{arith}
@@ -15,7 +14,8 @@ use Rattle.word.specs.Number.{small}
 use Rattle.sha1.specs.Sha1.{sha1Of}
 use Rattle.refusal.specs.declared.Refusal.the-variants.{NoRoom, Clash}
 use Rattle.kind.specs.Kind.{lawful, longest, zeroScore}
-use Rattle.sector.specs.Sector.{isDate, isDateOrNone}
+use Rattle.sector.specs.Sector.{isDate}
+use Rattle.sector.proofs.Dates.{date-or-none}
 use Rattle.block.specs.Block.{Row, parts, valid, written}
 use Rattle.block.specs.Log.{sectors, used, sound}
 use Rattle.block.proofs.Facts.{valid-facts, facts-valid}
@@ -25,6 +25,7 @@ use Rattle.log.specs.Parts.{alone, roomFor, appendRow}
 use Rattle.log.specs.Store.{AfterStore, afterStore, receipt, newRow, partsFor, appended, compared, store}
 use Rattle.log.specs.declared.Stored.the-variants.{New, Duplicate, Refused as NotStored}
 use Rattle.log.proofs.First.{first-sound}
+use Rattle.log.proofs.Allowed.{some-bytes}
 use Rattle.visit.specs.declared.End.the-variants.{Done}
 use Rattle.copying.specs.Copy.{storeEnd}
 use Rattle.copying.specs.Promises.{Refuses, no-room, clash}
@@ -78,18 +79,6 @@ pub data Stored (s date : Bytes) (t : ℕ) (b : Bytes) (a : AfterStore) : Type 0
 -- a log whose sectors eight digits name
 abbrev pub Fits : Bytes → Type 0
 Fits s = sectors (length s) ≤ 16 ^ 8
-
-some-bytes : (s : Bytes) (t : ℕ) (b : Bytes) → lawful t ≡ true → held s t (sha1Of b) ≡ none → 1 ≤ length b
-unfolding held zeroScore
-some-bytes s t [] l e =
-    let q : (lawful t && same (sha1Of []) (sha1Of [])) ≡ true = rw (l, same-refl (sha1Of [])) in
-    let y : some (emptyRow t) ≡ none = rw q at e in
-    let z : _≡_ {A = ℕ} 0 1 = cc in absurd (omega arith)
-some-bytes s t (x ∷ b) l e = omega arith
-
-date-or-none : (date : Bytes) → isDate date ≡ true → isDateOrNone date ≡ true
-date-or-none [] e = refl
-date-or-none (x ∷ d) e = e
 
 room-alone : (s : Bytes) (k : ℕ) → roomFor (alone s) k ≡ true → used s + k ≤ sectors (length s)
 unfolding roomFor

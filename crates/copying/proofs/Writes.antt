@@ -1,13 +1,13 @@
 -- A list of writes: what it leaves of the second log, and how storing a list ends.
 use mathlib.Core.Path.{_≡_, refl, sym, ap, ap₂, subst, _∙_}
-use mathlib.Core.Bool.{Bool, true, false}
+use mathlib.Core.Bool.{true}
 use mathlib.Core.List.{List, [], _∷_, _++_, List·Memᴰ, List·Memᴰ·head, List·Memᴰ·tail, List·Memᴰ·not-nil, List·Memᴰ·cases-cons}
 use mathlib.Core.Logic.{_⊎_, inl, inr}
 use mathlib.Core.Option.{none as nothing, some}
 use Prim.Native.Nat.{ℕ, _≤_, _^_}
 use lib.ListN.{length}
 use Rattle.buffer.specs.Bytes.{Bytes, same}
-use Rattle.buffer.proofs.Bytes.{same-refl, same-true}
+use Rattle.buffer.proofs.Bytes.{same-refl, same-false}
 use Rattle.word.specs.Number.{small}
 use Rattle.sha1.specs.Sha1.{sha1Of}
 use Rattle.kind.specs.Kind.{lawful, longest}
@@ -65,17 +65,10 @@ there-stored s date t score b S =
     let q : same (S .row .bytes) b ≡ true = rw (S .these) (same-refl b) in
     rw (h, q) (refl, refl)
 
-differ : (a b : Bytes) → (a ≡ b → ⊥) → same a b ≡ false
-differ a b f = go (same a b) refl
-  where
-    go : (t : Bool) → same a b ≡ t → t ≡ false
-    go true q = absurd (f (same-true a b q))
-    go false q = refl
-
 pub refused-stored : (s date : Bytes) (t : ℕ) (b : Bytes) (e : End) → Refuses s date t b e → Leaves (store (alone s) date t b) e s
 unfolding store
 refused-stored s date t b _ (no-room h q) = rw (h, q) (refl, refl)
-refused-stored s date t b _ (clash x h f) = rw (h, differ (x .bytes) b f) (refl, refl)
+refused-stored s date t b _ (clash x h f) = rw (h, same-false (x .bytes) b f) (refl, refl)
 
 stored-grown : (vs : List Visit) (s date : Bytes) (v : Visit) (a : AfterStore) → Stored s date (typeOf (v .role)) (v .bytes) a → List·Memᴰ v vs → Grown vs date s (a .lent .log)
 stored-grown vs s date v a (new r w f room k sc eb d h e _) m =

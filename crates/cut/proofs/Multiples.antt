@@ -36,8 +36,8 @@ prior w n h p = go (n / w) refl
         record { count = k; quotient = e; enough = omega arith; rest = omega arith }
 
 -- the multiple after one
-pub next : (w n : ℕ) → 0 < w → n % w ≡ 0 → ((n + w) / w ≡ suc (n / w)) × ((n + w) % w ≡ 0)
-next w n p h =
+pub next-multiple : (w n : ℕ) → 0 < w → n % w ≡ 0 → ((n + w) / w ≡ suc (n / w)) × ((n + w) % w ≡ 0)
+next-multiple w n p h =
     let e : n + w ≡ w * suc (n / w) = ap (λ (m : ℕ). m + w) (times w n h) ∙ sym (mul-suc w (n / w)) in
     (times-div w (suc (n / w)) (n + w) p e, times-mod w (suc (n / w)) (n + w) e)
 

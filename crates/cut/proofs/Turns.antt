@@ -12,7 +12,7 @@ use lib.Seq.{take-at, drop-cons, drop-drop, drop-append-add, drop-length}
 use Rattle.buffer.specs.Bytes.{Bytes, same, put}
 use Rattle.cut.specs.Cut.{zeroByte, repeat, unitAt, kept, cutLength, wholeUnits}
 use Rattle.cut.proofs.Units.{length-repeat, repeat-snoc, kept-more, kept-stop}
-use Rattle.cut.proofs.Multiples.{times, times-div, times-mod, Prior, prior, next, next-le}
+use Rattle.cut.proofs.Multiples.{times, times-div, times-mod, Prior, prior, next-multiple, next-le}
 
 -- ---- cutting: n bytes are left, and what is kept of them is what is kept of all
 
@@ -98,7 +98,7 @@ module _ (u d₀ d : Bytes) (w at : ℕ) (e : length u ≡ w) (q : 0 < w) (h : l
       let k = at / length u in
       let f : length (repeat u k) ≡ at = length-repeat u k ∙ sym (times (length u) at (c .units)) in
       let a : at + w ≡ at + length u = ap (λ (m : ℕ). at + m) (sym e) in
-      let j = next (length u) at (omega arith) (c .units) in
+      let j = next-multiple (length u) at (omega arith) (c .units) in
       let g : drop (at + length u) d ≡ drop (at + length u) d₀ =
       ap₂ (λ (m : ℕ) (y : Bytes). drop (m + length u) y) (sym f) (c .filled)
       ∙ drop-append-add (repeat u k) (drop at d₀) (length u)

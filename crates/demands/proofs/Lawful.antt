@@ -10,10 +10,11 @@ use Rattle.block.proofs.Sound.{sound-reads}
 use Rattle.log.specs.Parts.{oneLog}
 use Rattle.ledger.specs.Lawful.{Lawful}
 use Rattle.demands.specs.Instance.{archive}
-use Rattle.demands.proofs.LogLaws.{zeros-unfit, sound-finds, used-grown, used-void}
+use Rattle.demands.proofs.LogLaws.{sound-finds, used-grown, used-void}
 use Rattle.demands.proofs.LentLaws as lent
 use Rattle.demands.proofs.Step.{agrees}
 use Rattle.demands.proofs.TellAdds.{tell-adds}
+use Rattle.sector.proofs.Unfit.{zeros-unfit}
 
 pub lawful : Lawful archive
 lawful = record {

@@ -1,4 +1,4 @@
--- Laws of a log of bytes that the ledger's theorem asks for: growth, a block's sectors are inside, a sector of zeros does not fit.
+-- Laws of a log of bytes that the ledger's theorem asks for: growth, a block's sectors are inside.
 use mathlib.Core.Path.{_≡_, refl, sym, ap, _∙_}
 use mathlib.Core.Bool.{Bool, true, false, cond}
 use mathlib.Core.Option.{some}
@@ -6,14 +6,10 @@ use Prim.Native.Nat.{ℕ, _+_, _-_, _*_, _%_, _<_}
 use native.Mathlib.Nat.{le-antisymm}
 use native.Mathlib.Omega.{arith}
 use lib.Dec.{ltb, eqb}
-use lib.ListN.{length, getD, replicate, length-append, length-replicate}
-use lib.Seq.{getD-drop}
+use lib.ListN.{length, replicate, length-append, length-replicate}
 use borrow.Author.Tests.{ltb-true, ltb-false, eqb-true}
 use Rattle.buffer.specs.Bytes.{Bytes, zeros}
-use Rattle.buffer.proofs.Bytes.{zeros-getD}
-use Rattle.word.specs.Hex.{hex}
-use Rattle.sector.specs.Sector.{fits, check, blank}
-use Rattle.sector.proofs.Unfit.{fits-reads}
+use Rattle.sector.specs.Sector.{blank}
 use Rattle.block.specs.Block.{Row, parts, image, valid}
 use Rattle.block.specs.Log.{sectors, at, used, sound}
 use Rattle.block.proofs.At.{piece-front, piece-skip, at-piece, at-past, at-void, blank-is}
@@ -22,15 +18,6 @@ use Rattle.block.proofs.Facts.{parts-pos}
 use Rattle.block.proofs.Image.{image-used}
 use Rattle.block.proofs.Sound as sounds
 use Rattle.demands.specs.Instance.{grown}
-
--- a sector of zeros does not fit: its check would begin with "c"
-pub zeros-unfit : (t : Bytes) → zeros t ≡ true → fits t ≡ false
-unfolding check hex
-zeros-unfit t z = go (fits t) refl
-  where
-    go : (b : Bool) → fits t ≡ b → fits t ≡ false
-    go true q = absurd (omega (arith, zeros-getD t 499 z, sym (getD-drop 499 t 0 0) ∙ ap (λ (x : Bytes). getD x 0 0) (fits-reads t q)))
-    go false q = q
 
 -- a block's sectors are not blank, so that they are inside
 pub sound-finds : (log : Bytes) (r : Row) → valid r ≡ true → ((k : ℕ) → k < parts r → at log (r .first + k) ≡ image r k) → sound log (r .first) ≡ some r

@@ -1,15 +1,15 @@
 -- A row that the ledger adds can be written, stands at the end, has room, is not of the zero score, and is what a write asked for.
 use mathlib.Core.Path.{_≡_, refl, ap, _∙_, sym, subst}
-use mathlib.Core.Bool.{Bool, true, false, cond, not, false≢true}
+use mathlib.Core.Bool.{Bool, true, false, not}
 use mathlib.Core.List.{List, [], _∷_}
 use mathlib.Core.Option.{Option, none, some}
-use Prim.Native.Nat.{ℕ, _+_, _%_, _/_, _≤_}
+use Prim.Native.Nat.{ℕ}
 use native.Mathlib.Omega.{arith}
 use lib.Dec.{leb, ltb, eqb}
 use lib.ListN.{length}
 use borrow.Author.Tests.{ltb-false, leb-true, le-leb, eqb-false}
 use Rattle.ground.specs.Choice.{on}
-use Rattle.ground.proofs.Choices.{on-ind, and-true}
+use Rattle.ground.proofs.Choices.{on-ind, and-true, cond-ind}
 use Rattle.buffer.specs.Bytes.{Bytes, same}
 use Rattle.buffer.proofs.Bytes.{small-drop}
 use Rattle.word.specs.Number.{small}
@@ -21,10 +21,9 @@ use Rattle.message.specs.declared.Request.the-variants.{Ping, Hello, Goodbye, R
 use Rattle.kind.specs.Kind.{lawful, longest, zeroScore}
 use Rattle.sector.specs.Sector.{isDateOrNone}
 use Rattle.block.specs.Block.{Row, parts, valid}
-use Rattle.block.specs.Log.{sectors}
-use Rattle.block.proofs.Facts.{facts-valid}
-use Rattle.log.specs.LookUp.{logAllowed, waitingAllowed, lentAllowed, mostSectors}
+use Rattle.log.specs.LookUp.{logAllowed, waitingAllowed, lentAllowed}
 use Rattle.log.specs.Store.{partsFor}
+use Rattle.log.proofs.Allowed.{row-valid}
 use Rattle.request.specs.Step as steps
 use Rattle.request.specs.Step.{replyRoom, version, dateAllowed, dateOf}
 use Rattle.request.specs.declared.Session.{Session}
@@ -34,14 +33,6 @@ use Rattle.ledger.specs.Ledger.{Ledger, intact, end}
 use Rattle.demands.specs.Ledger.{Asked, Extent, allowed, roomFrom, Decision, silence, refusal, reply, close, rulingOf, firstRow, writeRow, readRow, decide, bySession, decision, tell}
 use Rattle.demands.specs.Instance.{archive}
 use Rattle.demands.proofs.LentLaws.{room-inside}
-
-log-allowed : (m : ℕ) → logAllowed m ≡ true → sectors m ≤ mostSectors
-unfolding logAllowed
-log-allowed m e = go (eqb (m % 512) 0) e
-  where
-    go : (b : Bool) → cond b (leb (m / 512) mostSectors) false ≡ true → sectors m ≤ mostSectors
-    go true q = leb-true (m / 512) mostSectors q
-    go false q = absurd (false≢true q)
 
 -- test 3 of all that is lent is that of the log, too
 allowed-log : (x : Extent) → allowed x ≡ true → logAllowed (x .size) ≡ true
@@ -66,20 +57,6 @@ pub date-or-none : (date : Option Bytes) → dateAllowed date ≡ true → isDat
 date-or-none none a = refl
 date-or-none (some []) a = refl
 date-or-none (some (b ∷ d)) a = a
-
--- it can be written in a log of m bytes that has room
-pub row-valid : (date : Bytes) (t : ℕ) (d : Bytes) (e m : ℕ) → isDateOrNone date ≡ true → logAllowed m ≡ true → lawful t ≡ true
-    → length d ≤ longest → (length d ≡ 0 → ⊥) → small d ≡ true → e + partsFor date d ≤ sectors m
-    → valid (rowOf date t d e) ≡ true
-row-valid date t d e m w a l le n sm room = facts-valid (rowOf date t d e) (record {
-  lawful-kind = l;
-  some-bytes = omega arith;
-  not-many = le;
-  of-bytes = sm;
-  scored = refl;
-  place = omega (arith, log-allowed m a);
-  dated = w;
-})
 
 -- what holds of a row that is added: rows are the intact ones, e is the end, the rows wait from st on, x is what is lent, q and m the request
 pub record Fits (rows : List Row) (e st : ℕ) (x : Extent) (date : Bytes) (q : Request) (m : Bytes) (r : Row) : Type 0 where
@@ -119,27 +96,22 @@ module _ {rows : List Row} {e st : ℕ} {x : Extent} {date : Bytes} {q : Request
   nothing : {d : Decision} → Quiet (added d) → Good rows e st x date q m d
   nothing n = record { fits = λ r g. absurd (subst Quiet g n) }
 
-  by-test : (b : Bool) {c d : Decision} → (b ≡ true → Good rows e st x date q m c)
-      → (b ≡ false → Good rows e st x date q m d) → Good rows e st x date q m (cond b c d)
-  by-test true f g = f refl
-  by-test false f g = g refl
-
 module _ (rows : List Row) (e st : ℕ) (x : Extent) (date : Bytes) where
   write-good : (t : ℕ) (m : Bytes) → isDateOrNone date ≡ true → allowed x ≡ true → lawful t ≡ true → leb (length (dataOf m)) longest ≡ true → small (dataOf m) ≡ true
       → Good rows e st x date (Write t) m (writeRow rows e st x date t (dataOf m) (tagOf m))
   write-good t m w a l le sm =
-      by-test (eqb (length (dataOf m)) 0) (λ _. nothing tt) (λ n.
-      on-ind (λ d. Good rows e st x date (Write t) m d) (firstRow t (sha1Of (dataOf m)) rows) _ _
-      (λ f. by-test (same (sha1Of (dataOf m)) zeroScore) (λ _. nothing tt) (λ z.
-      by-test (roomFrom x st e (partsFor date (dataOf m)))
+      cond-ind (Good rows e st x date (Write t) m) (eqb (length (dataOf m)) 0) _ _ (λ _. nothing tt) (λ n.
+      on-ind (Good rows e st x date (Write t) m) (firstRow t (sha1Of (dataOf m)) rows) _ _
+      (λ f. cond-ind (Good rows e st x date (Write t) m) (same (sha1Of (dataOf m)) zeroScore) _ _ (λ _. nothing tt) (λ z.
+      cond-ind (Good rows e st x date (Write t) m) (roomFrom x st e (partsFor date (dataOf m))) _ _
       (λ room. record { fits = λ r q. let eq : rowOf date t (dataOf m) e ≡ r = cc in rw (← eq) (new f n z room) })
       (λ _. nothing tt)))
-      (λ r _. by-test (same (r .bytes) (dataOf m)) (λ _. nothing tt) (λ _. nothing tt)))
+      (λ r _. cond-ind (Good rows e st x date (Write t) m) (same (r .bytes) (dataOf m)) _ _ (λ _. nothing tt) (λ _. nothing tt)))
     where
       new : firstRow t (sha1Of (dataOf m)) rows ≡ none → eqb (length (dataOf m)) 0 ≡ false → same (sha1Of (dataOf m)) zeroScore ≡ false
           → roomFrom x st e (partsFor date (dataOf m)) ≡ true → Fits rows e st x date (Write t) m (rowOf date t (dataOf m) e)
       new f n z room = record {
-        ok = row-valid date t (dataOf m) e (x .size) w (allowed-log x a) l (leb-true (length (dataOf m)) longest le) (eqb-false (length (dataOf m)) 0 n) sm
+        ok = row-valid date t (dataOf m) e (x .size) w (allowed-log x a) l (leb-true (length (dataOf m)) longest le) (omega (arith, eqb-false (length (dataOf m)) 0 n)) sm
             (room-inside x st e (partsFor date (dataOf m)) room);
         here = refl;
         room = room;
@@ -152,17 +124,17 @@ module _ (rows : List Row) (e st : ℕ) (x : Extent) (date : Bytes) where
 
   read-good : (q : Request) (m : Bytes) (t count : ℕ) (s : Bytes) (tag : ℕ) → Good rows e st x date q m (readRow rows e st x date t count s tag)
   read-good q m t count s tag =
-      by-test (same s zeroScore) (λ _. nothing tt) (λ _.
-      on-ind (λ d. Good rows e st x date q m d) (firstRow t s rows) _ _
+      cond-ind (Good rows e st x date q m) (same s zeroScore) _ _ (λ _. nothing tt) (λ _.
+      on-ind (Good rows e st x date q m) (firstRow t s rows) _ _
       (λ _. nothing tt)
-      (λ r _. by-test (leb (length (r .bytes)) count) (λ _. nothing tt) (λ _. nothing tt)))
+      (λ r _. cond-ind (Good rows e st x date q m) (leb (length (r .bytes)) count) _ _ (λ _. nothing tt) (λ _. nothing tt)))
 
   decide-good : (g : Bool) (q : Request) (m : Bytes) → isDateOrNone date ≡ true → allowed x ≡ true
       → small m ≡ true → Good rows e st x date q m (decide rows e st x date g q m)
   decide-good g Unknown m w a sm = nothing tt
   decide-good g Ill m w a sm = nothing tt
   decide-good g Goodbye m w a sm = nothing tt
-  decide-good false Hello m w a sm = by-test (same (versionOf m) version) (λ _. nothing tt) (λ _. nothing tt)
+  decide-good false Hello m w a sm = cond-ind (Good rows e st x date Hello m) (same (versionOf m) version) _ _ (λ _. nothing tt) (λ _. nothing tt)
   decide-good false Ping m w a sm = nothing tt
   decide-good false Sync m w a sm = nothing tt
   decide-good false (Read t c) m w a sm = nothing tt
@@ -170,10 +142,10 @@ module _ (rows : List Row) (e st : ℕ) (x : Extent) (date : Bytes) where
   decide-good true Hello m w a sm = nothing tt
   decide-good true Ping m w a sm = nothing tt
   decide-good true Sync m w a sm = nothing tt
-  decide-good true (Read t c) m w a sm = by-test (lawful t) (λ _. read-good (Read t c) m t c (scoreOf m) (tagOf m)) (λ _. nothing tt)
+  decide-good true (Read t c) m w a sm = cond-ind (Good rows e st x date (Read t c) m) (lawful t) _ _ (λ _. read-good (Read t c) m t c (scoreOf m) (tagOf m)) (λ _. nothing tt)
   decide-good true (Write t) m w a sm =
-      by-test (lawful t) (λ l.
-      by-test (leb (length (dataOf m)) longest) (λ le. write-good t m w a l le (small-drop 8 m sm)) (λ _. nothing tt))
+      cond-ind (Good rows e st x date (Write t) m) (lawful t) _ _ (λ l.
+      cond-ind (Good rows e st x date (Write t) m) (leb (length (dataOf m)) longest) _ _ (λ le. write-good t m w a l le (small-drop 8 m sm)) (λ _. nothing tt))
       (λ _. nothing tt)
 
   by-session : {q : Request} {m : Bytes} (s : Session) {f : Bool → Decision} → ((g : Bool) → Good rows e st x date q m (f g))
@@ -186,11 +158,12 @@ decision-good : (rows : List Row) (e st : ℕ) (x : Extent) (s : Session) (q : A
     → Good rows e st x (dateOf (q .date)) (requestOf (q .message)) (q .message) (decision rows e st x s q)
 unfolding decision
 decision-good rows e st x s q sm =
-    by-test (framed (q .message)) (λ _.
-    by-test (leb replyRoom (length (q .buffer))) (λ _.
-    by-test (allowed x) (λ a.
+    let G : Decision → Type 0 = Good rows e st x (dateOf (q .date)) (requestOf (q .message)) (q .message) in
+    cond-ind G (framed (q .message)) _ _ (λ _.
+    cond-ind G (leb replyRoom (length (q .buffer))) _ _ (λ _.
+    cond-ind G (allowed x) _ _ (λ a.
     by-session rows e st x (dateOf (q .date)) s (λ g.
-    by-test (dateAllowed (q .date)) (λ w.
+    cond-ind G (dateAllowed (q .date)) _ _ (λ w.
     decide-good rows e st x (dateOf (q .date)) g (requestOf (q .message)) (q .message) (date-or-none (q .date) w) a sm)
     (λ _. nothing tt)))
     (λ _. nothing tt)) (λ _. nothing tt)) (λ _. nothing tt)

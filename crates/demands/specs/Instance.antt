@@ -10,7 +10,7 @@ use Rattle.ground.specs.Choice.{on}
 use Rattle.buffer.specs.Bytes.{Bytes, same, zeros}
 use Rattle.word.specs.Number.{small}
 use Rattle.kind.specs.Kind.{zeroScore}
-use Rattle.sector.specs.Sector.{fits, blank}
+use Rattle.sector.specs.Sector.{fits, blank, sectorLength}
 use Rattle.sector.specs.Near.{Near}
 use Rattle.block.specs.Block.{Row, parts, image, valid}
 use Rattle.block.specs.Log.{sectors, at, used, sound}
@@ -50,7 +50,7 @@ relent o L = record { log = L .log; waiting = blankPart o }
 
 -- a log of whole sectors lent on with k more of them, all blank
 unfoldable pub grown : ℕ → Bytes → Bytes
-grown k log = log ++ replicate (512 * k) 0
+grown k log = log ++ replicate (sectorLength * k) 0
 
 abbrev pub archive : Archive
 archive = record {
@@ -74,8 +74,8 @@ archive = record {
   lent = λ o x. record { size = x .size; waiting = o };
   Growth = ℕ;
   grown = λ k L. record { log = grown k (L .log); waiting = L .waiting };
-  wider = λ k x. record { size = x .size + 512 * k; waiting = x .waiting };
-  growable = λ x. eqb (x .size % 512) 0;
+  wider = λ k x. record { size = x .size + sectorLength * k; waiting = x .waiting };
+  growable = λ x. eqb (x .size % sectorLength) 0;
   Row = Row;
   first = λ r. r .first;
   parts = parts;

@@ -8,6 +8,7 @@ use lib.Seq.{take-all}
 use Rattle.buffer.specs.Bytes.{Bytes}
 use Rattle.refusal.specs.declared.Refusal.the-variants.{Entry as IllFormed}
 use Rattle.sector.specs.Sector.{filled}
+use Rattle.sector.proofs.Encode.{length-filled}
 use Rattle.block.specs.declared.Block.{Block}
 use Rattle.block.specs.Log.{bytesOf}
 use Rattle.reader.proofs.Pieces.{length-bytes}
@@ -18,7 +19,6 @@ use Rattle.visit.specs.declared.End.the-variants.{Done, Refused as Stopped}
 use Rattle.visit.specs.Visit.{walked}
 use Rattle.descent.specs.Descent.{paddedTo, inOrder, nestOf, entriesOf, judged, visitDirectory, visitEntry}
 use Rattle.descent.specs.Parts.{entryIn, visitListed}
-use Rattle.tree.proofs.Filled.{length-filled}
 use Rattle.descent.proofs.Padded.{entry-piece}
 use Rattle.descent.proofs.InOrder.{OfAll}
 

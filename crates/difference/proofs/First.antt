@@ -7,7 +7,7 @@ use native.Mathlib.Omega.{arith}
 use lib.Dec.{ltb, eqb}
 use lib.ListN.{length, length-take, length-drop}
 use borrow.Author.Tests.{ltb-true, ltb-false, eqb-true, eqb-false}
-use Rattle.ground.proofs.Choices.{cond-ind, and-true}
+use Rattle.ground.proofs.Choices.{cond-ind, and-true, and-comm}
 use Rattle.buffer.specs.Bytes.{Bytes}
 use Rattle.refusal.specs.declared.Refusal.the-variants.{Entry as IllFormed}
 use Rattle.difference.specs.declared.Side.{Side}
@@ -32,12 +32,6 @@ both-past a b i p q = record {
 -- where whole entries are
 within : (b : Bytes) (i at : ℕ) → at ≡ 40 * i → length (entryAt b i) ≡ 40 → at + 40 ≤ length b
 within b i at e w = let l : length (entryAt b i) ≡ min 40 (length b - 40 * i) = simp (length-take, length-drop) in omega arith
-
-and-comm : (p q : Bool) → (p && q) ≡ (q && p)
-and-comm true true = refl
-and-comm true false = refl
-and-comm false true = refl
-and-comm false false = refl
 
 -- ---- what the first of all positions says
 

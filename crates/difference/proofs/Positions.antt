@@ -1,14 +1,14 @@
 -- One position of two directory blocks: past the end, within a block, and which entry is handed back.
 use mathlib.Core.Path.{_≡_, refl, sym, ap, _∙_}
 use mathlib.Core.Bool.{Bool, true, false, cond, _&&_, true≢false, false≢true}
-use mathlib.Core.List.{[], _∷_}
+use mathlib.Core.List.{[]}
 use Prim.Native.Nat.{ℕ, _+_, _-_, _*_, _%_, _≤_}
 use native.Mathlib.Omega.{arith}
 use lib.Dec.{leb}
 use lib.ListN.{length, take, drop, length-take, length-drop}
 use borrow.Author.Tests.{leb-true, leb-false}
 use Rattle.buffer.specs.Bytes.{Bytes, same}
-use Rattle.buffer.proofs.Bytes.{same-refl, same-true}
+use Rattle.buffer.proofs.Bytes.{same-refl, same-true, no-bytes}
 use Rattle.word.specs.Number.{valueFrom}
 use Rattle.entry.specs.Entry.{entryOf}
 use Rattle.difference.specs.declared.Side.{Side}
@@ -18,16 +18,12 @@ use Rattle.difference.specs.First.{Agree}
 
 -- ---- where an entry is
 
-none-of : (b : Bytes) → length b ≡ 0 → b ≡ []
-none-of [] h = refl
-none-of (a ∷ b) h = absurd (omega arith)
-
 nothing-inactive : active [] ≡ false
 unfolding entryOf valueFrom
 nothing-inactive = refl
 
 pub past-end : (b : Bytes) (i : ℕ) → length b ≤ 40 * i → active (entryAt b i) ≡ false
-past-end b i h = ap active (none-of (entryAt b i) (simp (length-take, length-drop) (omega arith))) ∙ nothing-inactive
+past-end b i h = ap active (no-bytes (entryAt b i) (simp (length-take, length-drop) (omega arith))) ∙ nothing-inactive
 
 -- an active entry of whole entries lies within them
 pub active-within : (b : Bytes) (i : ℕ) → length b % 40 ≡ 0 → active (entryAt b i) ≡ true → 40 * i + 40 ≤ length b

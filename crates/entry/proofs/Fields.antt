@@ -1,27 +1,20 @@
 -- The fields of an entry that stands at an offset.
-use mathlib.Core.Path.{_≡_, refl, sym, ap, _∙_}
+use mathlib.Core.Path.{_≡_, sym, ap, _∙_}
 use mathlib.Core.Bool.{Bool}
-use mathlib.Core.List.{[], _∷_}
-use Prim.Native.Nat.{ℕ, zero, suc, _+_, _-_, _/_, _%_, _≤_}
+use Prim.Native.Nat.{ℕ, _+_, _-_, _/_, _%_, _≤_}
 use native.Mathlib.Omega.{arith}
 use lib.Dec.{eqb}
 use lib.ListN.{take, drop}
-use lib.Seq.{take-take, drop-drop}
+use lib.Seq.{drop-drop}
 use Rattle.buffer.specs.Bytes.{Bytes, zeros}
+use Rattle.buffer.proofs.Parts.{part-within}
 use Rattle.word.specs.Number.{beNumber}
 use Rattle.entry.specs.Entry.{field, padOf, entryOf}
 use Rattle.entry.specs.declared.Entry.{Entry}
 
--- a part of the first n bytes
-pub part-within : (from w n : ℕ) (l : Bytes) → from + w ≤ n → take w (drop from (take n l)) ≡ take w (drop from l)
-part-within zero w n l h = take-take w n l (omega arith)
-part-within (suc from) w zero l h = absurd (omega arith)
-part-within (suc from) w (suc n) [] h = refl
-part-within (suc from) w (suc n) (a ∷ l) h = part-within from w n l (omega arith)
-
 -- a field of the n bytes at an offset
 pub field-at : (s : Bytes) (at n from w : ℕ) → from + w ≤ n → field (at + from) w s ≡ field from w (take n (drop at s))
-field-at s at n from w h = ap beNumber (sym (part-within from w n (drop at s) h ∙ ap (take w) (drop-drop from at s)))
+field-at s at n from w h = ap beNumber (sym (part-within w from n (drop at s) h ∙ ap (take w) (drop-drop from at s)))
 
 -- a field of a part that the code ends at `at + w`
 pub field-part : (s : Bytes) (at w : ℕ) → beNumber (take (at + w - at) (drop at s)) ≡ field at w s
@@ -31,7 +24,7 @@ field-part s at w = let e : at + w - at ≡ w = omega arith in ap (λ (k : ℕ).
 pub pad-part : (s : Bytes) (at : ℕ) → zeros (take (at + 9 + 5 - (at + 9)) (drop (at + 9) s)) ≡ zeros (padOf (take 40 (drop at s)))
 pad-part s at =
     let e : at + 9 + 5 - (at + 9) ≡ 5 = omega arith in
-    ap (λ (k : ℕ). zeros (take k (drop (at + 9) s))) e ∙ ap zeros (sym (part-within 9 5 40 (drop at s) (omega arith) ∙ ap (take 5) (drop-drop 9 at s)))
+    ap (λ (k : ℕ). zeros (take k (drop (at + 9) s))) e ∙ ap zeros (sym (part-within 5 9 40 (drop at s) (omega arith) ∙ ap (take 5) (drop-drop 9 at s)))
 
 -- an entry by its fields
 pub entry-fields : (s : Bytes) (at flags psize dsize size : ℕ) (clean : Bool)

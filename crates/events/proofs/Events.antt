@@ -26,11 +26,12 @@ use Rattle.demands.specs.Instance.{archive}
 use Rattle.events.specs.Events as claims
 use Rattle.events.specs.Events.{Past, logThen, ledgerThen, Unchanged}
 use Rattle.demands.proofs.Lawful.{lawful}
-use Rattle.demands.proofs.First.{same-some, first-in, first-none, first-least}
+use Rattle.demands.proofs.First.{first-in, first-none, first-least}
 use Rattle.promises.proofs.Uncovered.{uncovered-at, changed-uncovered}
 use Rattle.promises.proofs.Doubt.{cell-none, uncovered-intact}
 use Rattle.promises.proofs.Corollaries.{nothing-stored-changes}
 use Rattle.promises.proofs.Moment.{read-row, write-row, read-unknown, answers-stored, eleven-covered, twelve-first, then-reads, then-writes}
+use Rattle.ground.proofs.Choices.{some-same}
 
 pub never-written-over : claims.NeverWrittenOver
 never-written-over s m date log buffer k sm D = nothing-stored-changes s m date log buffer sm .1 k (D .0)
@@ -74,7 +75,7 @@ module _ (h : Past) (t : ℕ) (s : Bytes) (x : Row) (u : Unchanged h t s x) wher
   pub copy-least : (y : Row) → Unchanged h t s y → copy .first ≤ y .first
   copy-least y v =
       let g = least h t s y v in
-      let same-row : copy ≡ g .0 = same-some copy (g .0) (sym copy-first ∙ g .1) in
+      let same-row : copy ≡ g .0 = some-same copy (g .0) (sym copy-first ∙ g .1) in
       rw same-row (g .2)
 
 pub unchanged-is-answered : claims.UnchangedIsAnswered

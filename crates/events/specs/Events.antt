@@ -16,6 +16,7 @@ use Rattle.refusal.specs.declared.Refusal.the-variants.{NotKnown, OverCount, Cl
 use Rattle.message.specs.Message.{tagOf}
 use Rattle.message.specs.Reply.{readReply, writeReply}
 use Rattle.kind.specs.Kind.{zeroScore}
+use Rattle.sector.specs.Sector.{sectorLength}
 use Rattle.block.specs.Block.{Row, parts}
 use Rattle.block.specs.Log.{at, Alike, used, sound}
 use Rattle.log.specs.Parts.{Lent, oneLog}
@@ -210,4 +211,4 @@ StopDropsWaiting = (h : Past) (lend : Option ℕ) → Alike (oneLog (relent lend
 -- ---- growth: whole sectors, all blank, behind those that are there
 
 abbrev pub GrowthAddsBlanks : Type 0
-GrowthAddsBlanks = (k : ℕ) (log : Bytes) → eqb (length log % 512) 0 ≡ true → (length (grown k log) ≡ length log + 512 * k) × Alike (grown k log) log
+GrowthAddsBlanks = (k : ℕ) (log : Bytes) → eqb (length log % sectorLength) 0 ≡ true → (length (grown k log) ≡ length log + sectorLength * k) × Alike (grown k log) log

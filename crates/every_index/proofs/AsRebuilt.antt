@@ -27,6 +27,7 @@ use Rattle.log.specs.Parts.{Lent, oneLog, roomFor, appendRow, canSettle, settle
 use Rattle.log.proofs.Parts.{tape-alone}
 use Rattle.log.specs.Store.{AfterStore, afterStore, receipt, partsFor, newRow, appended, compared, store}
 use Rattle.log.specs.declared.Stored.the-variants.{New, Duplicate, Refused}
+use Rattle.log.proofs.Allowed.{row-valid}
 use Rattle.index.specs.Index.{cleared}
 use Rattle.hint.specs.Rebuilt.{enteredRow, enteredAll, rebuilt}
 use Rattle.hint.specs.Promises.{RoomForAll, Exact}
@@ -45,7 +46,7 @@ use Rattle.demands.specs.Ledger.{Extent}
 use Rattle.demands.specs.Instance.{archive}
 use Rattle.demands.proofs.LentLaws.{at-blank, room-one, one-appended, settle-fits, at-settled}
 use Rattle.demands.proofs.Seen.{held-zero, empty-score}
-use Rattle.demands.proofs.TellAdds.{date-or-none, row-valid, log-allowed-of}
+use Rattle.demands.proofs.TellAdds.{date-or-none, log-allowed-of}
 use Rattle.every_index.specs.AsRebuilt.{KeptIsRebuilt, SettledRebuilt, Keeping, answerKeeping, keptBy, Leads, KeptByRequests, KeptHits}
 use Rattle.every_index.proofs.Free.{free-cleared}
 
@@ -83,7 +84,7 @@ module _ (index : Bytes) (L : Lent) where
         go true q =
             let room = room-one (L .log) (L .waiting) (partsFor (dateOf date) d) q in
             rw q (appended-kept (newRow L (dateOf date) t d)
-            (row-valid (dateOf date) t d (used (oneLog L)) (length (L .log)) (date-or-none date w) (log-allowed-of (L .log) (L .waiting) a) l le n sm (room .1)) refl q)
+            (row-valid (dateOf date) t d (used (oneLog L)) (length (L .log)) (date-or-none date w) (log-allowed-of (L .log) (L .waiting) a) l le (omega (arith, n)) sm (room .1)) refl q)
         go false q = rw q refl
 
     old-shows : (d : Bytes) (r : Row) → Shows (compared L (r .bytes) (r .first) d)

@@ -26,6 +26,7 @@ use Rattle.log.specs.Parts.{Lent, oneLog, roomFor, canSettle, settled, appendRo
 use Rattle.log.specs.Store.{AfterStore, newRow, partsFor, appended, compared, store}
 use Rattle.log.specs.declared.Stored.{Stored}
 use Rattle.log.specs.declared.Stored.the-variants.{New, Duplicate, Refused}
+use Rattle.log.proofs.Allowed.{row-valid}
 use Rattle.refusal.specs.declared.Refusal.the-variants.{BlockType, DataLength}
 use Rattle.hint.specs.Hint.{heldBy, hint}
 use Rattle.hint.specs.Rebuilt.{enteredRow}
@@ -46,7 +47,7 @@ use Rattle.demands.specs.Instance.{void, archive}
 use Rattle.demands.specs.Ledger.{Extent}
 use Rattle.demands.proofs.Lawful.{lawful as laws}
 use Rattle.demands.proofs.LentLaws.{one-appended, room-one, at-settled, settle-fits}
-use Rattle.demands.proofs.TellAdds.{rowOf, date-or-none, row-valid, log-allowed-of}
+use Rattle.demands.proofs.TellAdds.{rowOf, date-or-none, log-allowed-of}
 use Rattle.demands.proofs.Seen.{held-zero, empty-score}
 use Rattle.every_index.specs.Kept.{HasPlace, KeepsComplete, Kept, keep, NeverFull, KeptIndexHits}
 
@@ -78,7 +79,7 @@ module _ (m : Bytes) (date : Option Bytes) (index : Bytes) (L : Lent) (buffer : 
         stored q =
             let r = newRow L day kind d in
             let room = room-one (L .log) (L .waiting) (partsFor day d) q in
-            let ok = row-valid day kind d (used (oneLog L)) (length (L .log)) (date-or-none date w) (log-allowed-of (L .log) (L .waiting) a) l le some-bytes sd (room .1) in
+            let ok = row-valid day kind d (used (oneLog L)) (length (L .log)) (date-or-none date w) (log-allowed-of (L .log) (L .waiting) a) l le (omega (arith, some-bytes)) sd (room .1) in
             let free = rw of at (place kind (record { 0 = used (oneLog L) }) (asks, rw (of, absent, q) refl)) in
             subst (λ (log : Bytes). Complete log (enteredRow index r)) (sym (one-appended (L .log) (L .waiting) r refl))
             (entered-hits (oneLog L) index r (ok, refl, room .0) free C)

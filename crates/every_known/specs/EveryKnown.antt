@@ -23,6 +23,7 @@ use Rattle.ledger.specs.Events.{Shown, Event, ask, harm, stop, crash, grow, ans
 use Rattle.demands.specs.Ledger.{Asked, Answer, Extent}
 use Rattle.demands.specs.Instance.{grown, archive}
 use Rattle.every_index.specs.EveryIndex.{seenOf, Agreeing, Unhealed}
+use Rattle.sector.specs.Sector.{sectorLength}
 
 -- a server: the log with its waiting part and the sessions so far, the index that it keeps, and what it knows of them
 pub record Serving : Type 0 where
@@ -106,4 +107,4 @@ EveryKnownFrom = (h : EventHistory archive) (index : Bytes) (ms : List Moment) �
 
 -- a log of whole sectors that grows by blank ones: what is known of it stays
 abbrev pub GrowthLeavesKnown : Type 0
-GrowthLeavesKnown = (k : ℕ) (log waiting index : Bytes) → eqb (length log % 512) 0 ≡ true → learned (grown k log) waiting index ≡ learned log waiting index
+GrowthLeavesKnown = (k : ℕ) (log waiting index : Bytes) → eqb (length log % sectorLength) 0 ≡ true → learned (grown k log) waiting index ≡ learned log waiting index

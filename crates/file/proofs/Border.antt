@@ -1,13 +1,12 @@
 -- Where the sectors of both parts are read on from makes no difference: the run is found at the same place, in the same part.
 use mathlib.Core.Path.{_≡_, refl, sym, ap, _∙_}
 use mathlib.Core.Bool.{cond}
-use mathlib.Core.Option.{Option, none, some}
 use Prim.Native.Nat.{ℕ, zero, suc, _+_, _-_, _*_, _%_, _≤_, _<_}
 use native.Mathlib.Omega.{arith}
 use lib.Dec.{leb, eqb}
 use borrow.Author.Tests.{lt-ltb}
 use lib.ListN.{length}
-use Rattle.ground.specs.Choice.{on}
+use Rattle.ground.proofs.Choices.{on-same}
 use Rattle.buffer.specs.Bytes.{Bytes, same}
 use Rattle.kind.specs.Kind.{zeroScore}
 use Rattle.refusal.specs.declared.Refusal.the-variants as why
@@ -27,10 +26,6 @@ use Rattle.file.specs.File.{split}
 use Rattle.file.proofs.Inside.{Inside, under-in}
 
 -- ---- logs with the same sectors
-
-on-same : (o : Option Row) (x : Extent) (f g : Row → Extent) → ((r : Row) → f r ≡ g r) → on o x f ≡ on o x g
-on-same none x f g e = refl
-on-same (some r) x f g e = e r
 
 module _ (a b : Bytes) (f : Alike a b) (page : ℕ) (e : Entry) (offset : ℕ) where
   fetched-alike : (t : ℕ) (s : Bytes) (count : ℕ) (g h : Row → Extent) → ((r : Row) → g r ≡ h r) → fetched a t s count g ≡ fetched b t s count h

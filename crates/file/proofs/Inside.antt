@@ -68,7 +68,7 @@ Shown u w p (part.Zeros n) = n ≤ p
 Shown u w p (part.Refused v) = Unit {0}
 
 -- a sector that starts before a border ends before it
-one-part : (u at n : ℕ) → at < 512 * u → at % 512 + n ≤ 512 → at + n ≤ 512 * u
+pub one-part : (u at n : ℕ) → at < 512 * u → at % 512 + n ≤ 512 → at + n ≤ 512 * u
 one-part u at n a b = let q : at / 512 < u = omega arith in omega arith
 
 split-in : (u w p : ℕ) (x : Extent) → Inside (u + w) p x → Shown u w p (split (512 * u) x)

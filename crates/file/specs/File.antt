@@ -17,6 +17,7 @@ use Rattle.leaf.specs.declared.Extent.the-variants.{Stored, Zeros, Refused}
 use Rattle.file.specs.declared.Located.{Located}
 use Rattle.file.specs.declared.Located.the-variants as part
 use Rattle.leaf.specs.Leaf.{under}
+use Rattle.sector.specs.Sector.{sectorLength}
 
 -- 19 is "blank page empty or not all zeros"
 unfoldable pub pageAllowed : Bytes → Bool
@@ -47,7 +48,7 @@ split border (Refused w) = part.Refused w
 -- where the bytes of a file at an offset lie: in the log's used part and then the waiting part as one log, and from there in either
 unfoldable pub located : Bytes → Bytes → Bytes → Bytes → ℕ → Located
 located log waiting page entry offset =
-    split (512 * used log) (extentAt (lentAllowed (length log) (length waiting)) (tape log waiting) page entry offset)
+    split (sectorLength * used log) (extentAt (lentAllowed (length log) (length waiting)) (tape log waiting) page entry offset)
 
 -- "a second answer gives the number, 0 for none"
 abbrev pub answerOf : Located → ℕ

@@ -10,6 +10,7 @@ ghost use lib.ListN.{length};
 ghost use Rattle.file.specs.File.{pageAllowed, entryReadable, located, answerOf};
 ghost use Rattle.file.specs.File.{split as splitAt};
 ghost use Rattle.file.specs.Run.{runOf};
+ghost use Rattle.sector.specs.Sector.{sectorLength};
 
 // Where it lies in what is lent: at a byte of the log or of the waiting part, or at the front of the page; or why there is none.
 pub enum Located {
@@ -21,8 +22,8 @@ pub enum Located {
 
 // The run in the part in which it lies: before the end of the log's sectors in the log, from there on in the waiting part.
 fn split(end: SectorNumber, run: Extent) -> Located
-    requires { ⌜ 512 * end .0 < 2 ^ 64 ⌝ }
-    ensures { λ r. ⌜ r ≡ splitAt (512 * end .0) run ⌝ }
+    requires { ⌜ sectorLength * end .0 < 2 ^ 64 ⌝ }
+    ensures { λ r. ⌜ r ≡ splitAt (sectorLength * end .0) run ⌝ }
 {
     let border = SECTOR * end.0;
     match run {

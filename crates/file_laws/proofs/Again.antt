@@ -93,9 +93,9 @@ module _ (log log′ : Bytes) (more : (t : ℕ) (s : Bytes) (r : Row) → held l
       let T = through lent log page entry offset a in
       let e = entryOf entry in
       let same-place = extent-again lent page entry offset a in
-      let run = under-run log (length page) e offset (e .depth) (scoreOf entry) (rw (T .is) a) in (
+      let run = under-run log (length page) e offset (e .depth) (scoreOf entry) (rw (T .goes-down-to) a) in (
         same-place,
-        ap (extentBytes log′ page) same-place ∙ rw (← T .is) (bytes-again page e offset (λ o. byteUnder log e o (e .depth) (scoreOf entry)) _ (T .bounds .inside) run),
+        ap (extentBytes log′ page) same-place ∙ rw (← T .goes-down-to) (bytes-again page e offset (λ o. byteUnder log e o (e .depth) (scoreOf entry)) _ (T .bounds .inside) run),
       )
 
 -- the parts of a log that hold what earlier ones held answer with the same bytes, at the same place of both read as one

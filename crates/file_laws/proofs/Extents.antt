@@ -1,7 +1,7 @@
 -- A run in both parts read as one, and the same run in the part in which it lies: it answers or not, and has the same bytes.
 use mathlib.Core.Path.{_≡_, refl, sym, ap, _∙_}
 use mathlib.Core.List.{[], _++_}
-use Prim.Native.Nat.{ℕ, _+_, _-_, _*_, _/_, _%_, _≤_, _<_}
+use Prim.Native.Nat.{ℕ, _+_, _-_, _*_, _≤_, _<_}
 use native.Mathlib.Omega.{arith}
 use lib.Dec.{ltb}
 use borrow.Author.Tests.{ltb-true, ltb-false}
@@ -18,7 +18,7 @@ use Rattle.leaf.specs.declared.Extent.the-variants.{Stored, Zeros, Refused}
 use Rattle.file.specs.declared.Located.{Located}
 use Rattle.file.specs.declared.Located.the-variants as part
 use Rattle.file.specs.File.{extentAt, split, located}
-use Rattle.file.proofs.Inside.{Inside, extent-in}
+use Rattle.file.proofs.Inside.{Inside, extent-in, one-part}
 use Rattle.file_laws.specs.Path.{Answers}
 use Rattle.file_laws.specs.Bytes.{runBytes}
 
@@ -65,10 +65,6 @@ back-bytes log second k at h g =
     let lf : length f ≡ k = length-take-le k log h in
     let e : at ≡ length f + (at - k) = omega (arith, lf) in
     sym (ap (λ (x : ℕ). drop x (f ++ second)) e ∙ drop-append-add f second (at - k))
-
--- a sector that starts before a border ends before it
-one-part : (u at n : ℕ) → at < 512 * u → at % 512 + n ≤ 512 → at + n ≤ 512 * u
-one-part u at n a b = let q : at / 512 < u = omega arith in omega arith
 
 module _ (log waiting : Bytes) where
   split-bytes : (page : Bytes) (u p : ℕ) (x : Extent) → Inside u p x → runBytes log waiting page (split (512 * used log) x) ≡ extentBytes (tape log waiting) page x

@@ -94,8 +94,8 @@ run-in lent log page entry offset a =
     let T = through lent log page entry offset a in
     let e = entryOf entry in
     let byte : ℕ → Option ℕ = λ o. byteUnder log e o (e .depth) (scoreOf entry) in
-    rw (← T .is) (run-next log page e offset byte (omega (arith, T .bounds .dsize-from)) (T .bounds .inside) _ (T .zeros)
-    (under-run log (length page) e offset (e .depth) (scoreOf entry) (rw (T .is) a)))
+    rw (← T .goes-down-to) (run-next log page e offset byte (omega (arith, T .bounds .dsize-from)) (T .bounds .inside) _ (T .zeros)
+    (under-run log (length page) e offset (e .depth) (scoreOf entry) (rw (T .goes-down-to) a)))
 
 pub run-bytes : RunIsTheFiles
 run-bytes log waiting page entry offset a =

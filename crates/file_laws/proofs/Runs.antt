@@ -38,7 +38,7 @@ least-below a b c = (omega arith, omega arith, omega arith)
 pub record Through (lent : Bool) (log page entry : Bytes) (offset : ℕ) : Type 0 where
   pub zeros : pageAllowed page ≡ true
   pub bounds : Open (entryOf entry) offset
-  pub is : under log (length page) (entryOf entry) offset ((entryOf entry) .depth) (scoreOf entry) ≡ extentAt lent log page entry offset
+  pub goes-down-to : under log (length page) (entryOf entry) offset ((entryOf entry) .depth) (scoreOf entry) ≡ extentAt lent log page entry offset
 
 pub through : (lent : Bool) (log page entry : Bytes) (offset : ℕ) → Reads (extentAt lent log page entry offset) → Through lent log page entry offset
 unfolding extentAt
@@ -53,7 +53,7 @@ through lent log page entry offset a =
     record {
       zeros = p;
       bounds = opened entry (entryOf entry) offset true (sym r) refl refl o;
-      is = goes-down lent log page entry offset true (sym l) refl true (sym p) refl true (sym r) refl (entryOf entry) refl o;
+      goes-down-to = goes-down lent log page entry offset true (sym l) refl true (sym p) refl true (sym r) refl (entryOf entry) refl o;
     }
 
 -- ---- the tree

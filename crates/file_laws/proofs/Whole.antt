@@ -2,13 +2,14 @@
 use mathlib.Core.Path.{_≡_, refl, sym, ap, _∙_}
 use mathlib.Core.Bool.{Bool, true, false}
 use mathlib.Core.List.{_++_}
-use mathlib.Core.Option.{Option, some}
+use mathlib.Core.Option.{some}
 use Prim.Native.Nat.{ℕ, zero, suc, _+_, _-_, _≤_, _<_, min}
 use native.Mathlib.Omega.{arith}
 use lib.Dec.{ltb}
 use borrow.Author.Tests.{ltb-true, ltb-false, lt-ltb}
 use lib.ListN.{length, take, getD, length-append, List·getD-append}
 use lib.Seq.{ext-getD, getD-take, getD-append-add, length-take-le}
+use Rattle.ground.proofs.Choices.{some-same}
 use Rattle.buffer.specs.Bytes.{Bytes}
 use Rattle.buffer.proofs.Put.{length-put}
 use Rattle.refusal.specs.declared.Refusal.{Refusal}
@@ -103,9 +104,6 @@ buffer-long lent log entry offset d (down inside e) =
     let x = gathered (byteAt lent log entry) (min (length d) ((entryOf entry) .size - offset)) offset .bytes in
     let few = gathers (byteAt lent log entry) (min (length d) ((entryOf entry) .size - offset)) offset .few in
     rw e (omega (arith, few, length-put d 0 x (omega (arith, few))))
-
-some-same : (a b : ℕ) → _≡_ {A = Option ℕ} (some a) (some b) → a ≡ b
-some-same a b e = cc
 
 pub fill-runs : FillIsTheRuns
 unfolding size

@@ -10,6 +10,7 @@ use Rattle.buffer.specs.Bytes.{Bytes, put}
 use Rattle.buffer.proofs.Put.{length-put, put-front, put-none}
 use Rattle.refusal.specs.declared.Refusal.{Refusal}
 use Rattle.sector.specs.Sector.{filled}
+use Rattle.sector.proofs.Encode.{length-filled}
 use Rattle.block.specs.declared.Block.{Block}
 use Rattle.block.specs.Block.{Inside}
 use Rattle.block.specs.Log.{sectors, joined, bytesOf}
@@ -18,7 +19,6 @@ use Rattle.block.proofs.Payloads.{filled-getD}
 use Rattle.log.specs.declared.Look.{Look}
 use Rattle.log.specs.declared.Look.the-variants as look
 use Rattle.entry.specs.declared.Entry.{Entry}
-use Rattle.tree.proofs.Filled.{length-filled}
 use Rattle.leaf.specs.Leaf.{under}
 use Rattle.leaf.specs.Fetch.{LiesIn, runIn}
 use Rattle.fill.specs.declared.Stop.the-variants.{Done, Refused}

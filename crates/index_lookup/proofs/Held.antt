@@ -9,27 +9,14 @@ use Rattle.ground.specs.Choice.{on}
 use Rattle.buffer.specs.Bytes.{Bytes}
 use Rattle.refusal.specs.declared.Refusal.{Refusal}
 use Rattle.kind.specs.Kind.{longest}
-use Rattle.block.specs.Block.{Row, partsOf, placeOf, Inside}
+use Rattle.block.specs.Block.{Row, placeOf, Inside}
 use Rattle.block.specs.declared.Block.{Block}
-use Rattle.block.specs.Log.{sectors, bytesOf, sound}
-use Rattle.block.proofs.Facts.{valid-facts, inside}
-use Rattle.block.proofs.Sound.{sound-reads, sound-bytes}
-use Rattle.block.proofs.Apart.{sound-used}
+use Rattle.block.specs.Log.{sectors, bytesOf}
 use Rattle.log.specs.declared.Look.the-variants.{Found, Refused}
-use Rattle.log.specs.LookUp.{emptyRow, absence}
+use Rattle.log.specs.LookUp.{absence}
 use Rattle.hint.specs.Hint.{heldBy, lookUpBy}
 use Rattle.hint.proofs.Scan.{hint-holds}
-use Rattle.lookup.proofs.Held.{Stands}
-
-sound-stands : (log : Bytes) (r : Row) → sound log (r .first) ≡ some r → Stands log r
-sound-stands log r e =
-    let p = sound-reads log (r .first) r e in
-    record { bytes-there = sound-bytes log (r .first) r e; in-used = sound-used log (r .first) r e; within = inside r (p .0) (sectors (length log)) (omega (arith, p .2)); not-many = (valid-facts r (p .0)) .not-many }
-
--- the empty block is held in any log
-empty-stands : (log : Bytes) (t : ℕ) → Stands log (emptyRow t)
-unfolding partsOf
-empty-stands log t = record { bytes-there = refl; in-used = omega arith; within = (omega arith, omega arith); not-many = omega arith }
+use Rattle.lookup.proofs.Held.{Stands, sound-stands, empty-stands}
 
 -- what was found, as a row
 pub record ShownBy (log index : Bytes) (t : ℕ) (s : Bytes) (b : Block) : Type 0 where

@@ -2,25 +2,23 @@
 use mathlib.Core.Path.{_≡_, refl, ap, _∙_}
 use mathlib.Core.Bool.{Bool, true, false, cond, not}
 use mathlib.Core.Logic.{_⊎_, inl, inr}
-use mathlib.Core.Option.{Option, none, some}
+use mathlib.Core.Option.{Option}
 use Prim.Native.Nat.{ℕ}
 use lib.Dec.{ltb}
 use lib.ListN.{length, getD}
 use borrow.Author.Tests.{le-ltb}
 use Rattle.sector_number.specs.declared.SectorNumber.{SectorNumber}
-use Rattle.ground.specs.Choice.{on}
-use Rattle.buffer.specs.Bytes.{Bytes, same}
+use Rattle.buffer.specs.Bytes.{Bytes}
 use Rattle.sha1.specs.Sha1.{sha1Of}
 use Rattle.sha1.proofs.Digest.{digest-length, digest-bytes}
 use Rattle.message.specs.Message.{tagOf, scoreOf, dataOf, requestOf}
 use Rattle.message.specs.declared.Request.the-variants.{Write}
 use Rattle.kind.specs.Kind.{lawful, longest}
-use Rattle.block.specs.Block.{Row}
-use Rattle.log.specs.LookUp.{held}
-use Rattle.log.specs.Parts.{Lent, oneLog, roomFor}
-use Rattle.log.specs.Store.{AfterStore, partsFor, appended, compared, store}
+use Rattle.log.specs.Parts.{Lent}
+use Rattle.log.specs.Store.{store}
 use Rattle.log.specs.declared.Stored.{Stored}
 use Rattle.log.specs.declared.Stored.the-variants.{New, Duplicate, Refused}
+use Rattle.log.proofs.Receipts.{store-score}
 use Rattle.index.specs.Index.{entered, leftOver}
 use Rattle.index.proofs.Entered.{entered-keeps}
 use Rattle.refusal.specs.Number.{numberOf}
@@ -32,23 +30,10 @@ use Rattle.indexed.specs.Indexed.{Indexed, keeping, readBy, enteredBy, i
 use Rattle.indexed.specs.Promises.{Stores, EntersWhatItStores, OnlyAStoreEnters}
 use Rattle.indexed.proofs.Ways.{step-ways}
 
--- a receipt has the score of the data
-pub score-stored : (L : Lent) (date : Bytes) (t : ℕ) (d : Bytes) → store L date t d .receipt .score ≡ sha1Of d
-unfolding store
-score-stored L date t d = go (held (oneLog L) t (sha1Of d))
-  where
-    any : (b : Bool) (x y : AfterStore) → x .receipt .score ≡ sha1Of d → y .receipt .score ≡ sha1Of d → cond b x y .receipt .score ≡ sha1Of d
-    any true x y p q = p
-    any false x y p q = q
-
-    go : (o : Option Row) → on o (appended L date t d) (λ r. compared L (r .bytes) (r .first) d) .receipt .score ≡ sha1Of d
-    go none = any (roomFor L (partsFor date d)) _ _ refl refl
-    go (some r) = any (same (r .bytes) d) _ _ refl refl
-
 pub enters-what-it-stores : EntersWhatItStores
 unfolding stepBy inSessionBy greetedBy writeBy indexAfter
 enters-what-it-stores m date index L buffer kind at f room a w l le p =
-    rw (f, le-ltb (length buffer) replyRoom room, a, w, p .0, l, le-ltb longest (length (dataOf m)) le, score-stored L (dateOf date) kind (dataOf m), p .1)
+    rw (f, le-ltb (length buffer) replyRoom room, a, w, p .0, l, le-ltb longest (length (dataOf m)) le, store-score L (dateOf date) kind (dataOf m), p .1)
 
 module _ (m : Bytes) (date : Option Bytes) (index : Bytes) (L : Lent) (buffer : Bytes) where
   abbrev Kept : Session → ℕ → Bytes → Type 0
@@ -71,7 +56,7 @@ module _ (m : Bytes) (date : Option Bytes) (index : Bytes) (L : Lent) (buffer : 
   by-write : (kind : ℕ) → requestOf m ≡ Write kind
       → Kept Greeted (write (dateOf date) kind (tagOf m) (dataOf m) L buffer .number) (indexAfter (dateOf date) kind (dataOf m) index L)
   unfolding indexAfter write
-  by-write kind e = rw (score-stored L (dateOf date) kind (dataOf m)) (go (not (lawful kind)) (ltb longest (length (dataOf m))))
+  by-write kind e = rw (store-score L (dateOf date) kind (dataOf m)) (go (not (lawful kind)) (ltb longest (length (dataOf m))))
     where
       go : (a b : Bool) → let w = store L (dateOf date) kind (dataOf m) in
           Kept Greeted

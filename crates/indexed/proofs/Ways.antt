@@ -9,6 +9,7 @@ use native.Mathlib.Omega.{arith}
 use lib.Dec.{ltb}
 use lib.ListN.{length}
 use borrow.Author.Tests.{not-false}
+use Rattle.ground.proofs.Choices.{cond-ind}
 use Rattle.buffer.specs.Bytes.{Bytes, same}
 use Rattle.refusal.specs.Number.{numberOf}
 use Rattle.refusal.specs.declared.Refusal.{Refusal}
@@ -32,10 +33,6 @@ module _ (m : Bytes) (L : Lent) (buffer : Bytes) where
   refusal : {o : Outcome} → o .lent ≡ L → o .number ≢ 0 → Quiet m L o
   refusal e n = record { left = inl e; no-read = λ kind count _. n }
 
-  by-either : (b : Bool) {o u : Outcome} → (b ≡ true → Quiet m L o) → (b ≡ false → Quiet m L u) → Quiet m L (cond b o u)
-  by-either true f g = f refl
-  by-either false f g = g refl
-
   -- answered, and what is lent stays
   answer : {o : Outcome} → ((kind count : ℕ) → requestOf m ≢ Read kind count) → o .lent ≡ L → Quiet m L o
   answer n e = record { left = inl e; no-read = λ kind count p. absurd (n kind count p) }
@@ -54,7 +51,7 @@ module _ (m : Bytes) (L : Lent) (buffer : Bytes) where
   fresh-quiet Unknown e = refusal refl (λ n. omega arith)
   fresh-quiet Ill e = refusal refl (λ n. omega arith)
   fresh-quiet Goodbye e = answer (goodbye e) refl
-  fresh-quiet Hello e = by-either (same (versionOf m) version) (λ _. answer (hello e) refl) (λ _. refusal refl (λ n. omega arith))
+  fresh-quiet Hello e = cond-ind (Quiet m L) (same (versionOf m) version) _ _ (λ _. answer (hello e) refl) (λ _. refusal refl (λ n. omega arith))
   fresh-quiet Ping e = refusal refl (λ n. omega arith)
   fresh-quiet Sync e = refusal refl (λ n. omega arith)
   fresh-quiet (Read kind count) e = refusal refl (λ n. omega arith)
@@ -63,7 +60,7 @@ module _ (m : Bytes) (L : Lent) (buffer : Bytes) where
   sync-quiet : requestOf m ≡ Sync → Quiet m L (sync (tagOf m) L buffer)
   unfolding sync
   sync-quiet e =
-      by-either (canSettle L) (λ c. record { left = inr (refl, c); no-read = λ kind count p. let z : _≡_ {A = ℕ} 0 1 = cc in absurd (omega arith) })
+      cond-ind (Quiet m L) (canSettle L) _ _ (λ c. record { left = inr (refl, c); no-read = λ kind count p. let z : _≡_ {A = ℕ} 0 1 = cc in absurd (omega arith) })
       (λ _. refusal refl (λ n. omega arith))
 
 module _ (m : Bytes) (date : Option Bytes) (index : Bytes) (L : Lent) (buffer : Bytes) (P : Session → Indexed → Outcome → Type 0)
@@ -94,7 +91,7 @@ module _ (m : Bytes) (date : Option Bytes) (index : Bytes) (L : Lent) (buffer : 
   unfolding inSessionBy inSession
   session-ways Shut a = others Shut (inSession Shut m date L buffer) (refusal m L buffer refl (λ n. omega arith))
   session-ways Fresh a = others Fresh (inSession Fresh m date L buffer)
-      (by-either m L buffer (dateAllowed date) (λ _. fresh-quiet m L buffer (requestOf m) refl) (λ _. refusal m L buffer refl (λ n. omega arith)))
+      (cond-ind (Quiet m L) (dateAllowed date) _ _ (λ _. fresh-quiet m L buffer (requestOf m) refl) (λ _. refusal m L buffer refl (λ n. omega arith)))
   session-ways Greeted a =
       by-test Greeted (dateAllowed date) (greetedBy (dateOf date) (requestOf m) (tagOf m) m index L buffer) (keeping index (silent Date Greeted L buffer))
       (greeted (dateOf date) (requestOf m) (tagOf m) m L buffer) (silent Date Greeted L buffer)

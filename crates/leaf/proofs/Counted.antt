@@ -34,7 +34,7 @@ pub record Fetched (log : Bytes) (t : ℕ) (s : Bytes) (count : ℕ) (b : Block)
   pub row : Row
   pub stands : Stands log row
   pub place : b ≡ placeOf row
-  pub is : (f : Row → Extent) → f row ≡ fetched log t s count f
+  pub goes-on : (f : Row → Extent) → f row ≡ fetched log t s count f
 
 pub fetched-found : (log : Bytes) (t : ℕ) (s : Bytes) (count : ℕ) (b : Block) → look.Found b ≡ counted count (lookUp log t s) → Fetched log t s count b
 fetched-found log t s count b e =
@@ -45,5 +45,5 @@ fetched-found log t s count b e =
       row = S .row;
       stands = held-stands log t s (S .row) (S .is-held);
       place = S .place;
-      is = λ f. rw (S .is-held, le-leb (length (S .row .bytes)) count few) refl;
+      goes-on = λ f. rw (S .is-held, le-leb (length (S .row .bytes)) count few) refl;
     }

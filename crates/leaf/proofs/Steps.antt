@@ -94,7 +94,7 @@ module _ (log : Bytes) (page : ℕ) (e : Entry) (offset : ℕ) where
         go (look.Refused y) z = fetched-refused log t s (e .dsize) leaf-run y (sym z ∙ el)
         go (look.Found b) z =
             let F = fetched-found log t s (e .dsize) b (sym z ∙ el) in
-            ap (leafRun page e offset) (F .place) ∙ F .is leaf-run
+            ap (leafRun page e offset) (F .place) ∙ F .goes-on leaf-run
 
     -- the zero score's block is the empty one, whose run is of zeros
     leaf-zero : (b : Bool) → same s zeroScore ≡ b → fetched log t s (e .dsize) leaf-run ≡ under log page e offset 0 s
@@ -130,7 +130,7 @@ module _ (log : Bytes) (page : ℕ) (e : Entry) (offset : ℕ) where
       unfolding below
       level-ragged h =
           let k : length (F .row .bytes) % 20 ≡ 0 → ⊥ = λ x. h (rw size at x) in
-          sym (rw (ne-eqb (length (F .row .bytes) % 20) 0 k) refl) ∙ F .is below ∙ level-opened
+          sym (rw (ne-eqb (length (F .row .bytes) % 20) 0 k) refl) ∙ F .goes-on below ∙ level-opened
 
       pub level-next : (i : ℕ) (next : Bytes) → g .size % 20 ≡ 0 → i ≡ pointerIndex e offset d → next ≡ pointer (bytesOf log g) i
           → under log page e offset d next ≡ under log page e offset level s
@@ -139,4 +139,4 @@ module _ (log : Bytes) (page : ℕ) (e : Entry) (offset : ℕ) where
           let k : length (F .row .bytes) % 20 ≡ 0 = ap (λ (x : ℕ). x % 20) size ∙ h in
           let same-bytes : bytesOf log g ≡ F .row .bytes = ap (bytesOf log) (F .place) ∙ sym (F .stands .bytes-there) in
           ap (under log page e offset d) (en ∙ ap₂ pointer same-bytes ei)
-          ∙ sym (rw (eq-eqb (length (F .row .bytes) % 20) 0 k) refl) ∙ F .is below ∙ level-opened
+          ∙ sym (rw (eq-eqb (length (F .row .bytes) % 20) 0 k) refl) ∙ F .goes-on below ∙ level-opened

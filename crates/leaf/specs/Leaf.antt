@@ -7,7 +7,7 @@ use Rattle.ground.specs.Choice.{on}
 use Rattle.buffer.specs.Bytes.{Bytes, same}
 use Rattle.kind.specs.Kind.{zeroScore}
 use Rattle.refusal.specs.declared.Refusal.the-variants as why
-use Rattle.sector.specs.Sector.{payloadOf}
+use Rattle.sector.specs.Sector.{payloadOf, sectorLength}
 use Rattle.block.specs.Block.{Row, placeOf}
 use Rattle.block.specs.declared.Block.{Block}
 use Rattle.log.specs.LookUp.{held, absence}
@@ -27,7 +27,7 @@ payloadIn b = payloadOf (b .label)
 
 -- where byte k of the block at a place lies in the log: in one sector, behind its label
 abbrev pub placeIn : Block → ℕ → ℕ
-placeIn b k = 512 * (b .first .0 + k / payloadIn b) + (b .label + k % payloadIn b)
+placeIn b k = sectorLength * (b .first .0 + k / payloadIn b) + (b .label + k % payloadIn b)
 
 -- "from stored data, up to the end of payload, block or file", of the leaf at a place; "The file run ends at 389 where the block is dated"
 abbrev pub storedRun : Entry → ℕ → Block → Extent

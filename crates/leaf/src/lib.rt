@@ -13,6 +13,7 @@ ghost use Rattle.block.specs.Block.{Inside};
 ghost use Rattle.block.specs.Log.{sectors, joined};
 ghost use Rattle.leaf.specs.Leaf.{zeroRun, placeIn, leafRun, under};
 ghost use Rattle.leaf.specs.Fetch.{LiesIn, runIn, Open};
+ghost use Rattle.sector.specs.Sector.{bodyLength};
 
 // Where the run at an offset lies in one log of bytes: at a byte of it, or at the front of the page; or why there is none.
 pub enum Extent {
@@ -37,7 +38,7 @@ fn digit(n: u64, p: u64, d: usize) -> u64
 
 // Where byte k of the block at a place lies in the log.
 fn place_in(b: Block, k: usize) -> usize
-    requires { ⌜ (placeIn b k < 2 ^ 64) × (b .label < 499) ⌝ }
+    requires { ⌜ (placeIn b k < 2 ^ 64) × (b .label < bodyLength) ⌝ }
     ensures { λ r. ⌜ r ≡ placeIn b k ⌝ }
 {
     let p = block::payload_of(b.label);

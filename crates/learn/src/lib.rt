@@ -3,6 +3,7 @@ use known::Doubt;
 use known::Known;
 use reader::Place;
 use refusal::Refusal;
+use sector::KIND;
 use sector::SCORE;
 use sector::SECTOR;
 use sector_number::SectorNumber;
@@ -11,16 +12,13 @@ ghost use mathlib.Core.Bool.{true};
 ghost use mathlib.Core.Logic.{_≢_};
 ghost use mathlib.Core.Option.{none};
 ghost use Prim.Native.Nat.{_+_, _≤_, _<_};
-ghost use lib.ListN.{length, take, drop};
+ghost use lib.ListN.{length};
 ghost use Rattle.word.specs.Hex.{isHex};
-ghost use Rattle.sector.specs.Sector.{behind, kindField, scoreDigits, scoreField};
+ghost use Rattle.sector.specs.Sector.{behind, kindField, scoreDigits, scoreField, sectorLength, kindDigits};
 ghost use Rattle.block.specs.Log.{sectors, joined, sound};
 ghost use Rattle.hint.specs.Hint.{soundWith, hint};
 ghost use Rattle.known.specs.Known.{doubtOf, exactly, learned};
 ghost use Rattle.learn.specs.Learn.{foundBy, leadsFound, tells};
-
-// Where the digits of the type stand among the six lines of a label.
-const KIND: usize = 36;
 
 // Whether the first entry of the bucket that names a type and score tells sector n.
 fn tells_first(index: &[u8], kind: u8, score: &[u8], n: SectorNumber) -> bool
@@ -49,7 +47,7 @@ fn leads_from<'a>(
     s: &[u8],
     n: SectorNumber,
 ) -> bool
-    requires { ⌜ (end .0 ≤ sectors (length (now log))) × (length (now s) ≡ 512) × (isHex (take 2 (drop 36 (behind (now s)))) ≡ true) × (isHex (scoreDigits (behind (now s))) ≡ true) × (soundWith (joined (end .0) (now log) (now waiting)) (n .0) (kindField (behind (now s))) (scoreField (behind (now s))) ≢ none) ⌝ }
+    requires { ⌜ (end .0 ≤ sectors (length (now log))) × (length (now s) ≡ sectorLength) × (isHex (kindDigits (behind (now s))) ≡ true) × (isHex (scoreDigits (behind (now s))) ≡ true) × (soundWith (joined (end .0) (now log) (now waiting)) (n .0) (kindField (behind (now s))) (scoreField (behind (now s))) ≢ none) ⌝ }
     ensures { λ r. ⌜ r ≡ foundBy (hint (joined (end .0) (now (log .entry)) (now (waiting .entry))) (now (index .entry)) (kindField (behind (now (s .entry)))) (scoreField (behind (now (s .entry))))) (n .0) ⌝ }
 {
     let k = sector::front_length(s);

@@ -1,7 +1,7 @@
 -- Laws of a log and its waiting part: a row written there is written behind the used part of both; moving changes no sector; where nothing
 -- waits all is the log's.
 use mathlib.Core.Path.{_≡_, refl, sym, ap, ap₂, _∙_}
-use mathlib.Core.Bool.{Bool, true, false, cond, _&&_}
+use mathlib.Core.Bool.{Bool, true, false, cond}
 use mathlib.Core.List.{[], _++_, append-assoc}
 use mathlib.Core.Logic.{_⊎_, inl, inr}
 use Prim.Native.Nat.{ℕ, _+_, _-_, _*_, _≤_, _<_}
@@ -10,6 +10,7 @@ use lib.Dec.{ltb}
 use borrow.Author.Tests.{ltb-true, ltb-false}
 use lib.ListN.{length, take, drop, length-take, length-drop, take-append-drop}
 use lib.Seq.{take-append-add, drop-append-add, length-take-le, drop-drop}
+use Rattle.ground.proofs.Choices.{and-one}
 use Rattle.buffer.specs.Bytes.{Bytes}
 use Rattle.block.specs.Block.{Row, parts, images, written}
 use Rattle.block.specs.Log.{sectors, at, Alike, joined, usedOf, used}
@@ -22,7 +23,7 @@ use Rattle.refusal.specs.declared.Refusal.the-variants.{LogLength, BlockType}
 use Rattle.log.specs.declared.Look.the-variants.{Refused}
 use Rattle.log.specs.LookUp.{held, absence, lookUp, firstDoubtful, logAllowed, waitingAllowed, lentAllowed, lookUpAsked}
 use Rattle.log.specs.Parts.{tape, writtenFrom, moved}
-use Rattle.log.specs.Promises.{LookUpAlone}
+use Rattle.log.specs.Promises.{LookUpAlone, WrittenBehindBoth, MovedAlike}
 use Rattle.log.proofs.Alike.{held-alike, absence-alike, first-doubtful-alike, look-up-alike}
 
 module _ (log waiting : Bytes) where
@@ -106,6 +107,13 @@ module _ (log waiting : Bytes) where
 pub used-moved : (log waiting : Bytes) → used log + used waiting ≤ sectors (length log) → used (moved log waiting) ≡ used (tape log waiting)
 used-moved log waiting room = used-alike (moved log waiting) (tape log waiting) (at-moved log waiting room)
 
+-- the promises
+pub written-behind-both : WrittenBehindBoth
+written-behind-both log waiting r h = tape-written log waiting r h
+
+pub moved-alike : MovedAlike
+moved-alike log waiting room = (at-moved log waiting room, used-moved log waiting room)
+
 -- nothing waits: the sectors are the log's
 pub tape-alone : (log waiting : Bytes) → used waiting ≡ 0 → Alike (tape log waiting) log
 tape-alone log waiting e n = at-alone (used log) log waiting (used-le-sectors log) (omega arith) e n
@@ -113,11 +121,7 @@ tape-alone log waiting e n = at-alone (used log) log waiting (used-le-sectors lo
 -- test 3 of a log with no waiting part is the log's
 pub lent-alone : (m : ℕ) → lentAllowed m 0 ≡ logAllowed m
 unfolding lentAllowed waitingAllowed
-lent-alone m = and-true (logAllowed m)
-  where
-    and-true : (b : Bool) → (b && true) ≡ b
-    and-true true = refl
-    and-true false = refl
+lent-alone m = and-one (logAllowed m)
 
 -- and with them look-up and doubt
 module _ (log : Bytes) where

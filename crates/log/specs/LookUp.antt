@@ -2,7 +2,7 @@
 use mathlib.Core.Bool.{Bool, false, cond, _&&_, _||_}
 use mathlib.Core.List.{List, [], _∷_}
 use mathlib.Core.Option.{Option, none, some}
-use Prim.Native.Nat.{ℕ, zero, suc, _/_, _%_}
+use Prim.Native.Nat.{ℕ, zero, suc, _%_}
 use lib.Dec.{leb, ltb, eqb}
 use lib.ListN.{length}
 use Rattle.ground.specs.Choice.{on}
@@ -18,6 +18,7 @@ use Rattle.block.specs.Log.{sectors, used, sound}
 use Rattle.log.specs.Parts.{tape}
 use Rattle.log.specs.declared.Look.{Look}
 use Rattle.log.specs.declared.Look.the-variants.{Found, Refused}
+use Rattle.sector.specs.Sector.{sectorLength}
 
 -- the sound blocks, in the log's order
 unfoldable pub blocks : Bytes → List Row
@@ -90,14 +91,14 @@ mostSectors = 1048576
 
 -- "log not whole sectors, or over [mostSectors] of them (none is allowed)": refusal 3 is the contrary
 unfoldable pub logAllowed : ℕ → Bool
-logAllowed m = cond (eqb (m % 512) 0) (leb (m / 512) mostSectors) false
+logAllowed m = cond (eqb (m % sectorLength) 0) (leb (sectors m) mostSectors) false
 
 -- "It must be whole sectors, at most 256, or it is 3": of the waiting part
 abbrev pub mostWaiting : ℕ
 mostWaiting = 256
 
 unfoldable pub waitingAllowed : ℕ → Bool
-waitingAllowed m = cond (eqb (m % 512) 0) (leb (m / 512) mostWaiting) false
+waitingAllowed m = cond (eqb (m % sectorLength) 0) (leb (sectors m) mostWaiting) false
 
 -- test 3 is one over all that is lent as sectors: a log of m bytes and a waiting part of w
 unfoldable pub lentAllowed : ℕ → ℕ → Bool

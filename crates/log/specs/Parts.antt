@@ -9,6 +9,7 @@ use Rattle.ground.specs.Choice.{on}
 use Rattle.buffer.specs.Bytes.{Bytes, put}
 use Rattle.block.specs.Block.{Row, parts, images, written}
 use Rattle.block.specs.Log.{sectors, joined, used}
+use Rattle.sector.specs.Sector.{sectorLength}
 
 -- "the log's used part and then the waiting part as one log": its sectors are numbered on from the end of the used part
 abbrev pub tape : Bytes → Bytes → Bytes
@@ -17,11 +18,11 @@ tape log waiting = joined (used log) log waiting
 -- a row written among the waiting sectors, which are numbered on from sector `from`
 unfoldable pub writtenFrom : ℕ → Bytes → Row → Bytes
 writtenFrom from waiting r =
-    take (512 * (r .first - from)) waiting ++ (images r (parts r) 0 ++ drop (512 * (r .first - from + parts r)) waiting)
+    take (sectorLength * (r .first - from)) waiting ++ (images r (parts r) 0 ++ drop (sectorLength * (r .first - from + parts r)) waiting)
 
 -- "moves them in order into the log": the log with the waiting part's used sectors right after its own
 unfoldable pub moved : Bytes → Bytes → Bytes
-moved log waiting = put log (512 * used log) (take (512 * used waiting) waiting)
+moved log waiting = put log (sectorLength * used log) (take (sectorLength * used waiting) waiting)
 
 -- what is lent as a log: the log and, from its first lending on, the waiting part
 pub record Lent : Type 0 where

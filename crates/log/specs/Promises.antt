@@ -12,7 +12,7 @@ use Rattle.refusal.specs.declared.Refusal.the-variants.{LogLength, BlockType, N
 use Rattle.kind.specs.Kind.{lawful}
 use Rattle.block.specs.Block.{Row, parts, placeOf, valid, written}
 use Rattle.block.specs.Log.{sectors, Alike, used, sound}
-use Rattle.log.specs.Parts.{tape}
+use Rattle.log.specs.Parts.{tape, writtenFrom, moved}
 use Rattle.log.specs.declared.Look.the-variants.{Refused}
 use Rattle.log.specs.LookUp.{blocks, inBlock, outside, firstDoubtful, held, absence, lookUp, lookNumber, lookPlace, lookSector, logAllowed, lookUpAsked}
 
@@ -30,6 +30,15 @@ BlocksAppended = (log : Bytes) (r : Row) → valid r ≡ true → r .first ≡ u
 abbrev pub AppendedIsHeld : Type 0
 AppendedIsHeld = (log : Bytes) (r : Row) → valid r ≡ true → r .first ≡ used log → r .first + parts r ≤ sectors (length log)
     → held log (r .kind) (r .score) ≡ none → held (written log r) (r .kind) (r .score) ≡ some r
+
+-- a row that is written among the waiting sectors is written behind both parts, read as one log
+abbrev pub WrittenBehindBoth : Type 0
+WrittenBehindBoth = (log waiting : Bytes) (r : Row) → used log ≤ r .first → tape log (writtenFrom (used log) waiting r) ≡ written (tape log waiting) r
+
+-- moving the waiting sectors into the log changes none of them, and its used part is then that of both
+abbrev pub MovedAlike : Type 0
+MovedAlike = (log waiting : Bytes) → used log + used waiting ≤ sectors (length log)
+    → Alike (moved log waiting) (tape log waiting) × (used (moved log waiting) ≡ used (tape log waiting))
 
 -- a pass from the front stands at n: no block that starts before n reaches past it
 abbrev pub PassedTo : Bytes → ℕ → Type 0

@@ -43,15 +43,16 @@ use Rattle.log.proofs.Doubt.{walked-some, doubtful-at, doubt-some}
 use Rattle.log.proofs.FirstDoubt.{first-at, first-end, absence-known, absence-held}
 use Rattle.log.proofs.Alike.{look-up-alike}
 use Rattle.log.proofs.Parts.{tape-alone}
+use Rattle.log.proofs.Allowed.{allowed-sectors}
 
 -- a log's length
 pub ragged : (m : ℕ) → (m % 512 ≡ 0 → ⊥) → false ≡ logAllowed m
 unfolding logAllowed
 ragged m h = rw (ne-eqb (m % 512) 0 h)
 
-pub whole : (m : ℕ) → m % 512 ≡ 0 → leb (m / 512) mostSectors ≡ logAllowed m
+pub whole-allowed : (m : ℕ) → m % 512 ≡ 0 → leb (m / 512) mostSectors ≡ logAllowed m
 unfolding logAllowed
-whole m h = rw (eq-eqb (m % 512) 0 h)
+whole-allowed m h = rw (eq-eqb (m % 512) 0 h)
 
 -- test 3 of a log and a waiting part
 pub lent-log : (m w : ℕ) (a : Bool) → a ≡ logAllowed m → a ≡ false → false ≡ lentAllowed m w
@@ -237,14 +238,6 @@ module _ (log waiting : Bytes) (t : ℕ) (s : Bytes) (a : Bool) (p : a ≡ lentA
   unfolding lookUpAsked
   ask-look b u r q v w f e = rw (sym p ∙ q, sym v ∙ w) (e ∙ look-up-alike (joined u log waiting) (tape log waiting) f t s)
 
-pub allowed-sectors : (m : ℕ) (a : Bool) → a ≡ logAllowed m → a ≡ true → m / 512 ≤ mostSectors
-unfolding logAllowed
-allowed-sectors m a p q = go (eqb (m % 512) 0) refl
-  where
-    go : (b : Bool) → eqb (m % 512) 0 ≡ b → m / 512 ≤ mostSectors
-    go true e = leb-true (m / 512) mostSectors (rw e at (sym p ∙ q))
-    go false e = absurd (true≢false (sym (rw e at (sym p ∙ q))))
-
 waiting-sectors : (m : ℕ) → waitingAllowed m ≡ true → m / 512 ≤ mostWaiting
 unfolding waitingAllowed
 waiting-sectors m q = go (eqb (m % 512) 0) refl
@@ -257,7 +250,7 @@ pub lent-sectors : (m w : ℕ) (a : Bool) → a ≡ lentAllowed m w → a ≡ tr
 unfolding lentAllowed
 lent-sectors m w a p q =
     let t = and-true (logAllowed m) (waitingAllowed w) (sym p ∙ q) in
-    (allowed-sectors m true (sym (t .0)) refl, waiting-sectors w (t .1))
+    (allowed-sectors m (t .0), waiting-sectors w (t .1))
 
 -- where the waiting sectors are read on from
 pub border-used : (u : ℕ) (log waiting : Bytes) → u ≡ used log → (u ≤ sectors (length log)) × Alike (joined u log waiting) (tape log waiting)

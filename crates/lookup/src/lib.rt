@@ -3,7 +3,9 @@ use block::Block;
 use log::Look;
 use reader::Place;
 use refusal::Refusal;
+use sector::FRONT;
 use sector::LABEL;
+use sector::SCORE;
 use sector::SECTOR;
 use sector_number::SectorNumber;
 ghost use mathlib.Core.Path.{_≡_};
@@ -14,12 +16,26 @@ ghost use Rattle.log.specs.Parts.{tape};
 ghost use Rattle.log.specs.LookUp.{blocks, firstOf, held, absence, lookUp, counted, lookNumber, lookUpAsked, firstDoubtful, logAllowed, lentAllowed};
 ghost use Rattle.reader.specs.Reader.{placed};
 ghost use Rattle.lookup.specs.Digits.{mayHold};
+ghost use Rattle.sector.specs.Sector.{sectorLength};
 
 // The most sectors of a log.
 pub const MOST_SECTORS: usize = 1048576;
 
 // The most sectors of a waiting part.
 pub const MOST_WAITING: usize = 256;
+
+// Where the digits of the score begin and end in a sector that begins with the line of a date.
+const DATED: usize = FRONT + SCORE;
+
+const DATED_END: usize = DATED + 40;
+
+// Where they end in one that does not.
+const UNDATED_END: usize = SCORE + 40;
+
+// Where a line of a processor's cache starts that has digits of the score in either edition, and how many of them stand before it in the first.
+const LINE_START: usize = 64;
+
+const BEFORE: usize = LINE_START - SCORE;
 
 // The number of a look-up: 0 for a block that is found.
 pub fn number(look: Look) -> u8
@@ -69,13 +85,13 @@ pub fn border(log: &[u8], waiting: &[u8]) -> SectorNumber
 
 // Whether a sector may hold a block of the score with these digits, by its label. Only a few bytes next to each other are looked at.
 fn may_hold(s: &[u8], digits: &[u8]) -> bool
-    requires { ⌜ (length (now s) ≡ 512) × (length (now digits) ≡ 40) ⌝ }
+    requires { ⌜ (length (now s) ≡ sectorLength) × (length (now digits) ≡ 40) ⌝ }
     ensures { λ r. ⌜ r ≡ mayHold (now (s .entry)) (now (digits .entry)) ⌝ }
 {
-    if buffer::equal(&s[69..109], digits) {
+    if buffer::equal(&s[DATED..DATED_END], digits) {
         return true;
     }
-    buffer::equal(&s[64..95], &digits[9..])
+    buffer::equal(&s[LINE_START..UNDATED_END], &digits[BEFORE..])
 }
 
 // The first sound block of a type and score. Only a block whose label has the score is looked at.

@@ -1,6 +1,6 @@
 -- What is known of a message from what it asks.
 use mathlib.Core.Path.{_≡_, refl, ap}
-use mathlib.Core.Bool.{Bool, true, false, cond, _&&_}
+use mathlib.Core.Bool.{true, _&&_}
 use Prim.Native.Nat.{ℕ, _-_, _≤_, _<_, _^_}
 use native.Mathlib.Nat.{pow-le-pow-right, lt-of-lt-of-le}
 use native.Mathlib.Omega.{arith}
@@ -8,7 +8,7 @@ use lib.Dec.{leb, eqb}
 use borrow.Author.Tests.{leb-true, eqb-true}
 use lib.ListN.{length, getD, take, drop, length-take, length-drop}
 use lib.Seq.{take-length}
-use Rattle.ground.proofs.Choices.{and-true}
+use Rattle.ground.proofs.Choices.{and-true, cond-ind}
 use Rattle.buffer.specs.Bytes.{Bytes, zeros}
 use Rattle.buffer.proofs.Bytes.{small-getD, small-take, small-drop}
 use Rattle.word.specs.Number.{beNumber, small}
@@ -57,15 +57,10 @@ Asks m Sync = length m ≡ 4
 Asks m Unknown = Unit
 Asks m Ill = Unit
 
--- a test by its cases
-cond-cases : (P : Request → Type 0) (t : Bool) (x y : Request) → (t ≡ true → P x) → P y → P (cond t x y)
-cond-cases P true x y f g = f refl
-cond-cases P false x y f g = g
-
 exactly-asks : (m : Bytes) (n : Next) (q : Request) → (n ≡ At (length m) → Asks m q) → Asks m (exactly m n q)
 unfolding exactly
 exactly-asks m Bad q f = tt
-exactly-asks m (At at) q f = cond-cases (Asks m) (eqb at (length m)) q Ill (λ t. f (ap At (eqb-true at (length m) t))) tt
+exactly-asks m (At at) q f = cond-ind (Asks m) (eqb at (length m)) q Ill (λ t. f (ap At (eqb-true at (length m) t))) (λ _. tt)
 
 empty : (m : Bytes) → At 4 ≡ At (length m) → length m ≡ 4
 empty m e = cc
@@ -73,24 +68,24 @@ empty m e = cc
 read-asks : (m : Bytes) → Asks m (readOf m)
 unfolding readOf
 read-asks m =
-    cond-cases (Asks m) (eqb (length m) 28 && zeros (take 1 (drop 25 m))) (Read (getD m 24 0) (beNumber (take 2 (drop 26 m)))) Ill
-    (λ t. (eqb-true (length m) 28 (and-true (eqb (length m) 28) _ t .0), refl, refl)) tt
+    cond-ind (Asks m) (eqb (length m) 28 && zeros (take 1 (drop 25 m))) (Read (getD m 24 0) (beNumber (take 2 (drop 26 m)))) Ill
+    (λ t. (eqb-true (length m) 28 (and-true (eqb (length m) 28) _ t .0), refl, refl)) (λ _. tt)
 
 write-asks : (m : Bytes) → Asks m (writeOf m)
 unfolding writeOf
 write-asks m =
-    cond-cases (Asks m) (leb 8 (length m) && zeros (take 3 (drop 5 m))) (Write (getD m 4 0)) Ill
-    (λ t. (leb-true 8 (length m) (and-true (leb 8 (length m)) _ t .0), refl)) tt
+    cond-ind (Asks m) (leb 8 (length m) && zeros (take 3 (drop 5 m))) (Write (getD m 4 0)) Ill
+    (λ t. (leb-true 8 (length m) (and-true (leb 8 (length m)) _ t .0), refl)) (λ _. tt)
 
 pub request-asks : (m : Bytes) → Asks m (requestOf m)
 unfolding requestOf
 request-asks m =
-    cond-cases (Asks m) (eqb (typeOf m) 2) _ _ (λ _. exactly-asks m (At 4) Ping (empty m))
-    (cond-cases (Asks m) (eqb (typeOf m) 4) _ _ (λ _. exactly-asks m (helloEnd m) Hello (λ e. e))
-    (cond-cases (Asks m) (eqb (typeOf m) 6) _ _ (λ _. exactly-asks m (At 4) Goodbye (empty m))
-    (cond-cases (Asks m) (eqb (typeOf m) 12) _ _ (λ _. read-asks m)
-    (cond-cases (Asks m) (eqb (typeOf m) 14) _ _ (λ _. write-asks m)
-    (cond-cases (Asks m) (eqb (typeOf m) 16) _ _ (λ _. exactly-asks m (At 4) Sync (empty m)) tt)))))
+    cond-ind (Asks m) (eqb (typeOf m) 2) _ _ (λ _. exactly-asks m (At 4) Ping (empty m))
+    (λ _. cond-ind (Asks m) (eqb (typeOf m) 4) _ _ (λ _. exactly-asks m (helloEnd m) Hello (λ e. e))
+    (λ _. cond-ind (Asks m) (eqb (typeOf m) 6) _ _ (λ _. exactly-asks m (At 4) Goodbye (empty m))
+    (λ _. cond-ind (Asks m) (eqb (typeOf m) 12) _ _ (λ _. read-asks m)
+    (λ _. cond-ind (Asks m) (eqb (typeOf m) 14) _ _ (λ _. write-asks m)
+    (λ _. cond-ind (Asks m) (eqb (typeOf m) 16) _ _ (λ _. exactly-asks m (At 4) Sync (empty m)) (λ _. tt))))))
 
 pub asks : (m : Bytes) (q : Request) → requestOf m ≡ q → Asks m q
 asks m q e = rw e at (request-asks m)

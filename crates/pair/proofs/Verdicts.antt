@@ -8,7 +8,7 @@ use lib.Dec.{eqb}
 use lib.ListN.{length, take, drop}
 use lib.Seq.{take-all}
 use borrow.Author.Tests.{eqb-true, eqb-false, eq-eqb, ne-eqb}
-use Rattle.ground.proofs.Choices.{and-true}
+use Rattle.ground.proofs.Choices.{and-true, and-comm}
 use Rattle.buffer.specs.Bytes.{Bytes, same}
 use Rattle.buffer.proofs.Bytes.{same-refl, same-true}
 use Rattle.entry.specs.declared.Entry.{Entry}
@@ -126,12 +126,6 @@ eqb-comm m n = go (eqb n m) refl
     go : (t : Bool) → eqb n m ≡ t → eqb m n ≡ t
     go true q = eq-eqb m n (sym (eqb-true n m q))
     go false q = ne-eqb m n (λ z. eqb-false n m q (sym z))
-
-pub and-comm : (p q : Bool) → (p && q) ≡ (q && p)
-and-comm true true = refl
-and-comm true false = refl
-and-comm false true = refl
-and-comm false false = refl
 
 or-comm : (p q : Bool) → (p || q) ≡ (q || p)
 or-comm true true = refl

@@ -9,7 +9,7 @@ use native.Mathlib.Omega.{arith}
 use lib.Dec.{leb}
 use lib.ListN.{length}
 use borrow.Author.Tests.{lt-leb, le-ltb, leb-true, leb-false}
-use Rattle.ground.proofs.Choices.{cond-ind}
+use Rattle.ground.proofs.Choices.{cond-ind, some-same}
 use Rattle.buffer.specs.Bytes.{Bytes, same}
 use Rattle.buffer.proofs.Bytes.{same-false, same-true, same-refl}
 use Rattle.sha1.specs.Sha1.{sha1Of}
@@ -37,7 +37,7 @@ use Rattle.demands.specs.Instance.{extentOf, archive}
 use Rattle.promises.specs.Histories.{History, cleanLog, atDamage, logOf, toldLedger, ledgerOf, NoneIntact}
 use Rattle.promises.specs.Corollaries as claims
 use Rattle.promises.specs.Corollaries.{AtMostOne, alike, adds, settles}
-use Rattle.demands.proofs.First.{same-some, first-in, first-none}
+use Rattle.demands.proofs.First.{first-in, first-none}
 use Rattle.demands.proofs.Seen.{given, storedAs, kept, held-zero, empty-score, held-other}
 use Rattle.promises.proofs.Greeted.{asked, write-step, read-step}
 use Rattle.demands.proofs.LentLaws.{room-one, room-same, one-appended, front-appended, settle-fits, at-settled, front-settled}
@@ -158,7 +158,7 @@ write-fails-by-the-ledger h t d m date buffer W = go (write-fails-only-so t d m 
   where
     owner : (r : Row) → look.held (oneLog (logOf h)) t (sha1Of d) ≡ some r → r .bytes ≢ d → (b : Bool) → same (sha1Of d) zeroScore ≡ b → Owned h t d
     owner r e n true q =
-        let empty : look.emptyRow t ≡ r = same-some (look.emptyRow t) r (sym (held-zero (oneLog (logOf h)) t (sha1Of d) (W .lawful-type) q) ∙ e) in
+        let empty : look.emptyRow t ≡ r = some-same (look.emptyRow t) r (sym (held-zero (oneLog (logOf h)) t (sha1Of d) (W .lawful-type) q) ∙ e) in
         inl (same-true (sha1Of d) zeroScore q, λ z. n (ap (λ (x : Row). x .bytes) (sym empty) ∙ sym z))
     owner r e n false q =
         let M = mirrored (logOf h) (ledgerOf h) (reflected h) in
@@ -220,7 +220,7 @@ module _ (h : History) (t : ℕ) (s : Bytes) (z : s ≢ zeroScore) where
   first-clean x m k e = clean-first h t s (same-false s zeroScore z) ∙ ap₂ (λ (a : ℕ) (b : Bytes). firstRow a b (cleanLedger h .rows)) (sym k) (sym e) ∙ clean-single h .1 x m
 
   lost-one : (r : Row) → look.held (oneLog (cleanLog h)) t s ≡ some r → hit archive (h .changed) r ≡ true → NoneIntact t s (toldLedger h)
-  lost-one r found lost x m k e = let same-row : x ≡ r = same-some x r (sym (first-clean x m k e) ∙ found) in ap (hit archive (h .changed)) same-row ∙ lost
+  lost-one r found lost x m k e = let same-row : x ≡ r = some-same x r (sym (first-clean x m k e) ∙ found) in ap (hit archive (h .changed)) same-row ∙ lost
 
   never-one : look.held (oneLog (cleanLog h)) t s ≡ none → NoneIntact t s (toldLedger h)
   never-one absent x m k e = let c : none ≡ some x = sym absent ∙ first-clean x m k e in let n : _≡_ {A = ℕ} 0 1 = cc in absurd (omega arith)

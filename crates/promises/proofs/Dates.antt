@@ -1,7 +1,6 @@
 -- A date with each request: each claim of specs/Dates.antt.
 use mathlib.Core.Path.{_≡_, refl, sym, ap, _∙_}
 use mathlib.Core.Bool.{Bool, true, false}
-use mathlib.Core.List.{[], _∷_}
 use mathlib.Core.Option.{Option, none, some}
 use Prim.Native.Nat.{ℕ}
 use native.Mathlib.Omega.{arith}
@@ -17,12 +16,13 @@ use Rattle.log.specs.LookUp as look
 use Rattle.log.specs.Parts.{Lent, oneLog, roomFor, appendRow}
 use Rattle.log.specs.Store as stores
 use Rattle.log.proofs.Written.{held-appended}
+use Rattle.log.proofs.Allowed.{row-valid, some-bytes}
 use Rattle.request.specs.Step.{Outcome, replyRoom, dateOf, inSession, step}
 use Rattle.request.specs.declared.Session.the-variants.{Fresh, Greeted, Closed as Shut}
 use Rattle.promises.specs.Requests.{Writes}
 use Rattle.promises.specs.Dates as claims
-use Rattle.demands.proofs.Seen.{storedAs, kept, held-zero, empty-score}
-use Rattle.demands.proofs.TellAdds.{date-or-none, row-valid, log-allowed-of}
+use Rattle.demands.proofs.Seen.{storedAs, kept}
+use Rattle.demands.proofs.TellAdds.{date-or-none, log-allowed-of}
 use Rattle.demands.proofs.LentLaws.{room-one, one-appended}
 use Rattle.promises.proofs.Greeted.{write-step}
 use Rattle.promises.proofs.Keeps.{list-keeps}
@@ -55,18 +55,10 @@ module _ (t : ℕ) (d m : Bytes) (date : Option Bytes) (L : Lent) (buffer : Byte
   unfolding stores.store
   stored-new = write-step m date buffer L t d W ∙ ap (λ o. kept m buffer (storedAs L (dateOf date) t d o)) e
 
-  -- the empty block is found
-  some-data : (x : Bytes) → x ≡ d → length x ≡ 0 → ⊥
-  some-data [] q z =
-      let found = held-zero (oneLog L) t (sha1Of []) (W .lawful-type) empty-score in
-      let c : some (look.emptyRow t) ≡ none = sym found ∙ ap (λ (y : Bytes). look.held (oneLog L) t (sha1Of y)) q ∙ e in
-      let one : _≡_ {A = ℕ} 0 1 = cc in omega arith
-  some-data (c ∷ x) q z = omega arith
-
   added-valid : roomFor L (stores.partsFor (dateOf date) d) ≡ true → valid added ≡ true
   added-valid q =
       row-valid (dateOf date) t d (used (oneLog L)) (length (L .log)) (date-or-none date (W .asks .date-allowed)) (log-allowed-of (L .log) (L .waiting) (W .asks .lent-allowed))
-      (W .lawful-type) (W .not-long) (some-data d refl) (ap small (sym (W .content)) ∙ small-drop 8 m sm) (room-one (L .log) (L .waiting) (stores.partsFor (dateOf date) d) q .1)
+      (W .lawful-type) (W .not-long) (some-bytes (oneLog L) t d (W .lawful-type) e) (ap small (sym (W .content)) ∙ small-drop 8 m sm) (room-one (L .log) (L .waiting) (stores.partsFor (dateOf date) d) q .1)
 
   found-new : step Greeted m date L buffer .number ≡ 0 → look.held (oneLog (step Greeted m date L buffer .lent)) t (sha1Of d) ≡ some added
   found-new n = go (roomFor L (stores.partsFor (dateOf date) d)) refl

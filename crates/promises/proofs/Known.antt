@@ -11,7 +11,7 @@ use lib.ListN.{length}
 use borrow.Author.Tests.{eqb-true, eq-eqb, le-leb}
 use Rattle.ground.proofs.Choices.{cond-ind, on-ind}
 use Rattle.buffer.specs.Bytes.{Bytes, same}
-use Rattle.buffer.proofs.Bytes.{same-refl, same-true}
+use Rattle.buffer.proofs.Bytes.{same-refl, same-true, no-bytes}
 use Rattle.sha1.specs.Sha1.{sha1Of}
 use Rattle.message.specs.Message.{tagOf}
 use Rattle.kind.specs.Kind.{longest, zeroScore}
@@ -89,16 +89,12 @@ module _ (t : ℕ) (d : Bytes) where
 
     write-kept : Kept (writeRow (intact archive L) (end archive L) (L .start) x (dateOf date) t d (tagOf m))
     write-kept =
-        cond-ind Kept (eqb (length d) 0) _ _ (λ q _. inl (none-of d (eqb-true (length d) 0 q))) (λ _.
+        cond-ind Kept (eqb (length d) 0) _ _ (λ q _. inl (no-bytes d (eqb-true (length d) 0 q))) (λ _.
         on-ind Kept (firstRow t (sha1Of d) (intact archive L)) _ _
         (λ e. cond-ind Kept (same (sha1Of d) zeroScore) _ _ (λ _ n. absurd (omega arith)) (λ _.
         cond-ind Kept (roomFrom x (L .start) (end archive L) (partsFor (dateOf date) d)) _ _
         (λ _ n. cond-ind Known (waiting x) _ _ (λ _. known-new (dateOf date) L e) (λ _. known-new (dateOf date) L e)) (λ _ n. absurd (omega arith))))
         (λ r e. cond-ind Kept (same (r .bytes) d) _ _ (λ q n. inr (r, e, same-true (r .bytes) d q)) (λ _ n. absurd (omega arith))))
-      where
-        none-of : (b : Bytes) → length b ≡ 0 → b ≡ []
-        none-of [] e = refl
-        none-of (a ∷ b) e = absurd (omega arith)
 
   pub write-decision : (rows : List Row) (e st : ℕ) (m : Bytes) (date : Option Bytes) (buffer : Bytes) (log : Lent) → Writes m date buffer log t d
       → decision rows e st (extentOf log) Greeted (record { message = m; buffer = buffer; date = date }) ≡ writeRow rows e st (extentOf log) (dateOf date) t d (tagOf m)

@@ -9,7 +9,7 @@ use native.Mathlib.Omega.{arith}
 use lib.Dec.{ltb, eqb}
 use lib.ListN.{length}
 use borrow.Author.Tests.{ltb-false, eqb-true, not-false}
-use Rattle.ground.specs.Choice.{on}
+use Rattle.ground.proofs.Choices.{cond-ind, on-ind}
 use Rattle.buffer.specs.Bytes.{Bytes, same}
 use Rattle.buffer.proofs.Bytes.{small-drop}
 use Rattle.word.specs.Number.{small}
@@ -26,25 +26,18 @@ use Rattle.log.specs.LookUp as look
 use Rattle.log.specs.Store as stores
 use Rattle.log.specs.declared.Stored.the-variants.{Duplicate, Refused}
 use Rattle.log.specs.Parts.{Lent, oneLog, roomFor, canSettle}
+use Rattle.log.proofs.Allowed.{row-valid}
 use Rattle.request.specs.Step as steps
 use Rattle.request.specs.declared.Session.{Session}
 use Rattle.request.specs.declared.Session.the-variants.{Fresh, Greeted, Closed as Shut}
 use Rattle.promises.specs.Corollaries.{AtMostOne, alike, adds, settles, AppendsAtMostOne}
 use Rattle.demands.proofs.LentLaws.{room-one}
-use Rattle.demands.proofs.TellAdds.{rowOf, date-or-none, row-valid, log-allowed-of}
+use Rattle.demands.proofs.TellAdds.{rowOf, date-or-none, log-allowed-of}
 use Rattle.demands.proofs.Seen.{storedAs, kept, held-zero, empty-score}
 
 module _ {L : Lent} where
   plain : {o : steps.Outcome} → o .lent ≡ L → (o .number ≡ 11 → ⊥) → AtMostOne L o
   plain e n = alike e (λ f. absurd (n f))
-
-  by-test : (b : Bool) {x y : steps.Outcome} → (b ≡ true → AtMostOne L x) → (b ≡ false → AtMostOne L y) → AtMostOne L (cond b x y)
-  by-test true f g = f refl
-  by-test false f g = g refl
-
-  by-row : (o : Option Row) {x : steps.Outcome} {f : Row → steps.Outcome} → (o ≡ none → AtMostOne L x) → ((r : Row) → o ≡ some r → AtMostOne L (f r)) → AtMostOne L (on o x f)
-  by-row none g h = g refl
-  by-row (some r) g h = h r refl
 
 module _ (L : Lent) (m : Bytes) (date : Option Bytes) (buffer : Bytes) where
   absent : AtMostOne L (steps.refused (look.absence (oneLog L)) (tagOf m) Greeted L buffer)
@@ -58,9 +51,9 @@ module _ (L : Lent) (m : Bytes) (date : Option Bytes) (buffer : Bytes) where
   read-ways : (t count : ℕ) → AtMostOne L (steps.read t count (tagOf m) (scoreOf m) L buffer)
   unfolding steps.read
   read-ways t count =
-      by-test (not (lawful t)) (λ _. plain refl (λ e. omega arith)) (λ _.
-      by-row (look.held (oneLog L) t (scoreOf m)) (λ _. absent)
-      (λ r _. by-test (ltb count (length (r .bytes))) (λ _. plain refl (λ e. omega arith)) (λ _. plain refl (λ e. omega arith))))
+      cond-ind (AtMostOne L) (not (lawful t)) _ _ (λ _. plain refl (λ e. omega arith)) (λ _.
+      on-ind (AtMostOne L) (look.held (oneLog L) t (scoreOf m)) _ _ (λ _. absent)
+      (λ r _. cond-ind (AtMostOne L) (ltb count (length (r .bytes))) _ _ (λ _. plain refl (λ e. omega arith)) (λ _. plain refl (λ e. omega arith))))
 
   -- data that is not found
   new-ways : (t : ℕ) (d : Bytes) → steps.dateAllowed date ≡ true → steps.allowed L ≡ true → lawful t ≡ true → length d ≤ longest → small d ≡ true
@@ -71,7 +64,7 @@ module _ (L : Lent) (m : Bytes) (date : Option Bytes) (buffer : Bytes) where
       go true q =
           let room = room-one (L .log) (L .waiting) (stores.partsFor (steps.dateOf date) d) q in
           rw q (adds (rowOf (steps.dateOf date) t d (used (oneLog L))) refl refl
-          (row-valid (steps.dateOf date) t d (used (oneLog L)) (length (L .log)) (date-or-none date w) (log-allowed-of (L .log) (L .waiting) a) l le n sm (room .1)) refl q)
+          (row-valid (steps.dateOf date) t d (used (oneLog L)) (length (L .log)) (date-or-none date w) (log-allowed-of (L .log) (L .waiting) a) l le (omega (arith, n)) sm (room .1)) refl q)
       go false q = rw q (plain refl (λ e. omega arith))
 
   held-ways : (t : ℕ) (d : Bytes) (r : Row) → AtMostOne L (kept m buffer (storedAs L (steps.dateOf date) t d (some r)))
@@ -95,20 +88,20 @@ module _ (L : Lent) (m : Bytes) (date : Option Bytes) (buffer : Bytes) where
       → AtMostOne L (steps.write (steps.dateOf date) t (tagOf m) (dataOf m) L buffer)
   unfolding steps.write
   write-ways t w a sm =
-      by-test (not (lawful t)) (λ _. plain refl (λ e. omega arith)) (λ l.
-      by-test (ltb longest (length (dataOf m))) (λ _. plain refl (λ e. omega arith)) (λ le.
+      cond-ind (AtMostOne L) (not (lawful t)) _ _ (λ _. plain refl (λ e. omega arith)) (λ l.
+      cond-ind (AtMostOne L) (ltb longest (length (dataOf m))) _ _ (λ _. plain refl (λ e. omega arith)) (λ le.
       store-ways t (dataOf m) w a (not-false (lawful t) l) (ltb-false longest (length (dataOf m)) le) (small-drop 8 m sm)))
 
   sync-ways : AtMostOne L (steps.sync (tagOf m) L buffer)
   unfolding steps.sync
-  sync-ways = by-test (canSettle L) (λ q. settles refl refl q) (λ _. plain refl (λ e. omega arith))
+  sync-ways = cond-ind (AtMostOne L) (canSettle L) _ _ (λ q. settles refl refl q) (λ _. plain refl (λ e. omega arith))
 
   fresh-ways : (q : Request) → AtMostOne L (steps.fresh q (tagOf m) m L buffer)
   unfolding steps.fresh
   fresh-ways Unknown = plain refl (λ e. omega arith)
   fresh-ways Ill = plain refl (λ e. omega arith)
   fresh-ways Goodbye = plain refl (λ e. omega arith)
-  fresh-ways Hello = by-test (same (versionOf m) steps.version) (λ _. plain refl (λ e. omega arith)) (λ _. plain refl (λ e. omega arith))
+  fresh-ways Hello = cond-ind (AtMostOne L) (same (versionOf m) steps.version) _ _ (λ _. plain refl (λ e. omega arith)) (λ _. plain refl (λ e. omega arith))
   fresh-ways Ping = plain refl (λ e. omega arith)
   fresh-ways Sync = plain refl (λ e. omega arith)
   fresh-ways (Read t c) = plain refl (λ e. omega arith)
@@ -129,15 +122,15 @@ module _ (L : Lent) (m : Bytes) (date : Option Bytes) (buffer : Bytes) where
   session-ways : (s : Session) → steps.allowed L ≡ true → small m ≡ true → AtMostOne L (steps.inSession s m date L buffer)
   unfolding steps.inSession
   session-ways Shut a sm = plain refl (λ e. omega arith)
-  session-ways Fresh a sm = by-test (steps.dateAllowed date) (λ _. fresh-ways (requestOf m)) (λ _. plain refl (λ e. omega arith))
-  session-ways Greeted a sm = by-test (steps.dateAllowed date) (λ w. greeted-ways (requestOf m) w a sm) (λ _. plain refl (λ e. omega arith))
+  session-ways Fresh a sm = cond-ind (AtMostOne L) (steps.dateAllowed date) _ _ (λ _. fresh-ways (requestOf m)) (λ _. plain refl (λ e. omega arith))
+  session-ways Greeted a sm = cond-ind (AtMostOne L) (steps.dateAllowed date) _ _ (λ w. greeted-ways (requestOf m) w a sm) (λ _. plain refl (λ e. omega arith))
 
   step-ways : (s : Session) → small m ≡ true → AtMostOne L (steps.step s m date L buffer)
   unfolding steps.step
   step-ways s sm =
-      by-test (not (framed m)) (λ _. plain refl (λ e. omega arith)) (λ _.
-      by-test (ltb (length buffer) steps.replyRoom) (λ _. plain refl (λ e. omega arith)) (λ _.
-      by-test (not (steps.allowed L)) (λ _. plain refl (λ e. omega arith)) (λ a.
+      cond-ind (AtMostOne L) (not (framed m)) _ _ (λ _. plain refl (λ e. omega arith)) (λ _.
+      cond-ind (AtMostOne L) (ltb (length buffer) steps.replyRoom) _ _ (λ _. plain refl (λ e. omega arith)) (λ _.
+      cond-ind (AtMostOne L) (not (steps.allowed L)) _ _ (λ _. plain refl (λ e. omega arith)) (λ a.
       session-ways s (not-false (steps.allowed L) a) sm)))
 
 pub appends-at-most-one : AppendsAtMostOne

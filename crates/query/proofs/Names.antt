@@ -1,15 +1,15 @@
 -- Names are no other words, and have no spaces; so no token has one.
 use mathlib.Core.Path.{_≡_, refl, sym, ap, _∙_}
-use mathlib.Core.Bool.{Bool, true, false, not, _&&_, true≢false}
+use mathlib.Core.Bool.{Bool, true, false, not, true≢false}
 use mathlib.Core.List.{List, [], _∷_, _++_}
 use Prim.Native.Nat.{ℕ}
-use lib.Dec.{eqb, leb}
-use lib.ListN.{length}
+use lib.Dec.{eqb}
 use borrow.Author.Tests.{eqb-true}
 use Rattle.ground.proofs.Choices.{and-true}
 use Rattle.buffer.specs.Bytes.{Bytes, same}
 use Rattle.buffer.proofs.Bytes.{same-false}
 use Rattle.card.specs.Name.{letterOrDigit, lettersAndDigits, reserved, isName}
+use Rattle.card.proofs.Pinned.{name-letters}
 use Rattle.query.specs.Reading.{Reading, choice, orElse, Choice, term, andAlso, Term, name, negated, group, orWord, andWord, notWord, openWord, closeWord, tokens, choiceTokens, termTokens, named, choiceNamed, termNamed}
 use Rattle.query.proofs.Words.{unspaced, allUnspaced, unspaced-append}
 
@@ -24,12 +24,6 @@ not-is-no-name = refl
 pub open-is-no-name : isName openWord ≡ false
 unfolding isName reserved letterOrDigit
 open-is-no-name = refl
-
-letters : (w : Bytes) → isName w ≡ true → lettersAndDigits w ≡ true
-unfolding isName
-letters w e =
-    let h = and-true (leb 1 (length w) && leb (length w) 8) (not (reserved w) && lettersAndDigits w) e in
-    and-true (not (reserved w)) (lettersAndDigits w) (h .1) .1
 
 letter-unspaced : (b : ℕ) → letterOrDigit b ≡ true → not (eqb b 0x20) ≡ true
 unfolding letterOrDigit
@@ -59,6 +53,6 @@ mutual
       unspaced-append (termTokens t) (andWord ∷ choiceTokens c) (term-unspaced t (h .0)) (choice-unspaced c (h .1))
 
   term-unspaced : (t : Term) → termNamed t ≡ true → allUnspaced (termTokens t) ≡ true
-  term-unspaced (name n) e = rw (letters-unspaced n (letters n e))
+  term-unspaced (name n) e = rw (letters-unspaced n (name-letters n e))
   term-unspaced (negated t) e = term-unspaced t e
   term-unspaced (group q) e = unspaced-append (tokens q) (closeWord ∷ []) (tokens-unspaced q e) refl

@@ -4,9 +4,12 @@
 use block::Block;
 use kind::LONGEST;
 use sector::BODY;
+use sector::KIND;
 use sector::LABEL;
 use sector::Label;
+use sector::SCORE;
 use sector::SECTOR;
+use sector::SIZE;
 use sector_number::SectorNumber;
 use word::hex::Hex;
 ghost use mathlib.Core.Path.{_≡_};
@@ -14,7 +17,7 @@ ghost use Prim.Native.Nat.{_+_, _-_, _≤_, _<_};
 ghost use lib.ListN.{length, take, drop};
 ghost use Rattle.buffer.specs.Bytes.{Bytes, same, zeros, put};
 ghost use Rattle.sha1.specs.Sha1.{sha1Of};
-ghost use Rattle.sector.specs.Sector.{payloadOf, frontOf, dateField};
+ghost use Rattle.sector.specs.Sector.{payloadOf, frontOf, dateField, sectorLength, bodyLength, linesLength};
 ghost use Rattle.block.specs.Block.{partsIn, Inside};
 ghost use Rattle.block.specs.Log.{sectors, at, joined, used, payloads, bytesOf, labelled, checked, soundAs, sound};
 ghost use Rattle.reader.specs.Reader.{numberOf, placed};
@@ -80,7 +83,7 @@ fn labels_agree<'a>(
     kind: u8,
     score: &[u8],
 ) -> bool
-    requires { ⌜ (end .0 ≤ sectors (length (now log))) × Inside (end .0 + sectors (length (now waiting))) b × (length (now front) + 96 ≡ b .label) × (length (now score) ≡ 20) ⌝ }
+    requires { ⌜ (end .0 ≤ sectors (length (now log))) × Inside (end .0 + sectors (length (now waiting))) b × (length (now front) + linesLength ≡ b .label) × (length (now score) ≡ 20) ⌝ }
     ensures { λ r. ⌜ ((date : Bytes) → frontOf date ≡ now (front .entry) → r ≡ labelled (joined (end .0) (now (log .entry)) (now (waiting .entry))) date (partsIn b) (b .first .0) kind (b .size) (now (score .entry)) (partsIn b) 0) ⌝ }
 {
     let first = b.first;
@@ -135,7 +138,7 @@ fn piece_at<'a>(
     label: usize,
     size: usize,
 ) -> &'a [u8]
-    requires { ⌜ (end .0 ≤ sectors (length (now log))) × (n .0 < end .0 + sectors (length (now waiting))) × (label ≤ 499) ⌝ }
+    requires { ⌜ (end .0 ≤ sectors (length (now log))) × (n .0 < end .0 + sectors (length (now waiting))) × (label ≤ bodyLength) ⌝ }
     ensures { λ r. ⌜ now r ≡ take size (take (payloadOf label) (drop label (at (joined (end .0) (now (log .entry)) (now (waiting .entry))) (n .0)))) ⌝ }
 {
     let s = sector_at(log, end, waiting, n);
@@ -185,7 +188,7 @@ fn number_at<'a>(
     from: usize,
     to: usize,
 ) -> usize
-    requires { ⌜ (end .0 ≤ sectors (length (now log))) × (n .0 < end .0 + sectors (length (now waiting))) × (from ≤ to) × (to ≤ from + 16) × (to ≤ 512) ⌝ }
+    requires { ⌜ (end .0 ≤ sectors (length (now log))) × (n .0 < end .0 + sectors (length (now waiting))) × (from ≤ to) × (to ≤ from + 16) × (to ≤ sectorLength) ⌝ }
     ensures { λ r. ⌜ r ≡ numberOf (take (to - from) (drop from (at (joined (end .0) (now (log .entry)) (now (waiting .entry))) (n .0)))) ⌝ }
 {
     let s = sector_at(log, end, waiting, n);
@@ -211,7 +214,9 @@ fn sound_behind<'a>(
     ensures { λ r. ⌜ r ≡ placed (soundAs (joined (end .0) (now (log .entry)) (now (waiting .entry))) (first .0) kind (now (score .entry))) ⌝ }
 {
     let k = front.len();
-    let size = number_at(log, end, waiting, first, k + 44, k + 48);
+    let at = k + SIZE;
+    let to = at + 4;
+    let size = number_at(log, end, waiting, first, at, to);
     if size < 1 {
         return Place::Nowhere;
     }
@@ -276,12 +281,14 @@ pub fn sound_at<'a>(
 {
     let s = sector_at(log, end, waiting, first);
     let k = sector::front_length(s);
-    let kind = number_at(log, end, waiting, first, k + 36, k + 38);
+    let at = k + KIND;
+    let last = at + 2;
+    let kind = number_at(log, end, waiting, first, at, last);
     if kind < 1 {
         return Place::Nowhere;
     }
-    let from = k + 55;
-    let to = k + 95;
+    let from = k + SCORE;
+    let to = from + 40;
     let mut score = [0u8; 20];
     if !word::hex::read_hex_bytes(&mut score, &s[from..to]) {
         return Place::Nowhere;

@@ -2,6 +2,7 @@
 use hint::Rebuilding;
 use reader::Place;
 use refusal::Refusal;
+use sector::KIND;
 use sector::SCORE;
 use sector::SECTOR;
 use sector_number::SectorNumber;
@@ -9,17 +10,14 @@ use word::hex::Hex;
 ghost use mathlib.Core.Path.{_≡_};
 ghost use mathlib.Core.Bool.{true};
 ghost use Prim.Native.Nat.{_<_};
-ghost use lib.ListN.{length, take, drop};
+ghost use lib.ListN.{length};
 ghost use Rattle.word.specs.Hex.{isHex, hexValue};
-ghost use Rattle.sector.specs.Sector.{behind, kindField, scoreDigits, scoreField};
+ghost use Rattle.sector.specs.Sector.{behind, kindField, scoreDigits, scoreField, sectorLength, kindDigits};
 ghost use Rattle.block.specs.Log.{sectors, sound};
 ghost use Rattle.log.specs.LookUp.{blocks};
 ghost use Rattle.index.specs.Index.{entered};
 ghost use Rattle.hint.specs.Rebuilt.{enteredAll, afterRebuild, rebuiltAsked};
 ghost use Rattle.rebuild.specs.Rebuild.{enteredFound};
-
-// Where the digits of the type stand among the six lines of a label.
-const KIND: usize = 36;
 
 // The type that two hex digits name.
 pub fn read_kind(digits: &[u8]) -> u8
@@ -35,7 +33,7 @@ pub fn read_kind(digits: &[u8]) -> u8
 
 // Enters the block whose first sector is s: its label has the score and the type.
 fn enter_label(s: &[u8], first: SectorNumber, index: &mut [u8])
-    requires { ⌜ (length (now s) ≡ 512) × (isHex (take 2 (drop 36 (behind (now s)))) ≡ true) × (isHex (scoreDigits (behind (now s))) ≡ true) ⌝ }
+    requires { ⌜ (length (now s) ≡ sectorLength) × (isHex (kindDigits (behind (now s))) ≡ true) × (isHex (scoreDigits (behind (now s))) ≡ true) ⌝ }
     ensures { λ _. ⌜ now (index .exit) ≡ entered (now (index .entry)) (scoreField (behind (now (s .entry)))) (kindField (behind (now (s .entry)))) (first .0) ⌝ }
 {
     let k = sector::front_length(s);

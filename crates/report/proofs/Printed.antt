@@ -29,7 +29,8 @@ use Rattle.log.specs.LookUp.{blocks, inBlock, outside, doubtful, mostSectors, l
 use Rattle.log.proofs.Doubt.{walked-zero, walked-none, walked-some, doubt-none, doubt-some}
 use Rattle.log.specs.Promises.{PassedTo}
 use Rattle.log.proofs.Records.{records-none, records-some, records-used}
-use Rattle.lookup.proofs.Outcomes.{placed-some, placed-none, allowed-sectors}
+use Rattle.log.proofs.Allowed.{allowed-sectors}
+use Rattle.lookup.proofs.Outcomes.{placed-some, placed-none}
 use Rattle.report.specs.declared.Survey.{Survey}
 use Rattle.report.specs.declared.Reported.the-variants.{Written, Refused}
 use Rattle.report.specs.Report.{decimal, sectorsName, usedName, recordsName, doubtfulName, verdictName, verdict, surveyOf, textOf, reportText, reportOutcome, reportOf}
@@ -42,19 +43,19 @@ abbrev pub Wrote : Bytes → Bytes → ℕ → Bytes → ℕ → Type 0
 Wrote d e at x r = (e ≡ put d at x) × (r ≡ at + length x)
 
 -- one write after another
-pub next : (d d₁ d₂ x y : Bytes) (at n r : ℕ) → at + (length x + length y) ≤ length d → Wrote d d₁ at x n → Wrote d₁ d₂ n y r → Wrote d d₂ at (x ++ y) r
-next d d₁ d₂ x y at n r h p q =
+pub wrote-both : (d d₁ d₂ x y : Bytes) (at n r : ℕ) → at + (length x + length y) ≤ length d → Wrote d d₁ at x n → Wrote d₁ d₂ n y r → Wrote d d₂ at (x ++ y) r
+wrote-both d d₁ d₂ x y at n r h p q =
     (q .0 ∙ ap (λ (z : Bytes). put z n y) (p .0) ∙ put-next d at n x y (p .1) h, omega (arith, p .1, q .1, length-append x y))
 
 -- one byte stored
-pub store : (d : Bytes) (at v : ℕ) → at < length d → Wrote d (set d at v) at (v ∷ []) (at + 1)
-store d at v h = (put-one d at v h, refl)
+pub wrote-byte : (d : Bytes) (at v : ℕ) → at < length d → Wrote d (set d at v) at (v ∷ []) (at + 1)
+wrote-byte d at v h = (put-one d at v h, refl)
 
 pub wrote-length : (d e x : Bytes) (at r : ℕ) → at + length x ≤ length d → Wrote d e at x r → length e ≡ length d
 wrote-length d e x at r h p = ap length (p .0) ∙ length-put d at x h
 
 after : (d d₁ x : Bytes) (at r v : ℕ) → at + (length x + 1) ≤ length d → Wrote d d₁ at x r → Wrote d (set d₁ r v) at (x ++ (v ∷ [])) (r + 1)
-after d d₁ x at r v h p = next d d₁ (set d₁ r v) x (v ∷ []) at r (r + 1) h p (store d₁ r v (omega (arith, p .1, wrote-length d d₁ x at r (omega arith) p)))
+after d d₁ x at r v h p = wrote-both d d₁ (set d₁ r v) x (v ∷ []) at r (r + 1) h p (wrote-byte d₁ r v (omega (arith, p .1, wrote-length d d₁ x at r (omega arith) p)))
 
 -- a number: one digit, or the digits of its tenth and one more
 pub one-room : (d : Bytes) (at n : ℕ) → n < 10 → at + length (decimal n) ≤ length d → at < length d
@@ -62,7 +63,7 @@ one-room d at n h k = omega (arith, ap length (decimal-one n h))
 
 pub number-one : (d : Bytes) (at n : ℕ) → n < 10 → at + length (decimal n) ≤ length d → Wrote d (set d at (48 + n)) at (decimal n) (at + 1)
 number-one d at n h k =
-    rw (decimal-one n h) (store d at (48 + n) (one-room d at n h k))
+    rw (decimal-one n h) (wrote-byte d at (48 + n) (one-room d at n h k))
 
 pub tenth-room : (d : Bytes) (at n : ℕ) → 10 ≤ n → at + length (decimal n) ≤ length d → at + (length (decimal (n / 10)) + 1) ≤ length d
 tenth-room d at n h k = omega (arith, ap length (decimal-more n h), length-append (decimal (n / 10)) ((48 + n % 10) ∷ []))
@@ -76,7 +77,7 @@ pub line-written : (d d₁ d₂ name v : Bytes) (at r : ℕ) → at + (length na
     → Wrote d (set d₂ r 10) at (line name v) (r + 1)
 line-written d d₁ d₂ name v at r h e p =
     rw (← append-assoc name v (10 ∷ []))
-    (after d d₂ (name ++ v) at r 10 (omega (arith, length-append name v)) (next d d₁ d₂ name v at (at + length name) r (omega arith) (e, refl) p))
+    (after d d₂ (name ++ v) at r 10 (omega (arith, length-append name v)) (wrote-both d d₁ d₂ name v at (at + length name) r (omega arith) (e, refl) p))
 
 pub line-length : (name v : Bytes) → length (line name v) ≡ length name + (length v + 1)
 line-length name v = length-append name (v ++ (10 ∷ [])) ∙ ap (λ (k : ℕ). length name + k) (length-append v (10 ∷ []))
@@ -98,18 +99,18 @@ verdict-length n = go (eqb n 0) refl
     go true q = rw q (omega arith)
     go false q = rw q (omega arith)
 
--- five texts one after the other
-five : (d d₁ d₂ d₃ d₄ d₅ x₁ x₂ x₃ x₄ x₅ : Bytes) (a b c e r : ℕ) → length x₁ + length x₂ + length x₃ + length x₄ + length x₅ ≤ length d
+-- wrote-five-lines texts one after the other
+wrote-five-lines : (d d₁ d₂ d₃ d₄ d₅ x₁ x₂ x₃ x₄ x₅ : Bytes) (a b c e r : ℕ) → length x₁ + length x₂ + length x₃ + length x₄ + length x₅ ≤ length d
     → Wrote d d₁ 0 x₁ a → Wrote d₁ d₂ a x₂ b → Wrote d₂ d₃ b x₃ c → Wrote d₃ d₄ c x₄ e → Wrote d₄ d₅ e x₅ r
     → Wrote d d₅ 0 (lines (x₁ ∷ x₂ ∷ x₃ ∷ x₄ ∷ x₅ ∷ [])) r
-five d d₁ d₂ d₃ d₄ d₅ x₁ x₂ x₃ x₄ x₅ a b c e r h w₁ w₂ w₃ w₄ w₅ =
+wrote-five-lines d d₁ d₂ d₃ d₄ d₅ x₁ x₂ x₃ x₄ x₅ a b c e r h w₁ w₂ w₃ w₄ w₅ =
     let l₂ = length-append x₁ x₂ in
     let l₃ = length-append (x₁ ++ x₂) x₃ in
     let l₄ = length-append (x₁ ++ x₂ ++ x₃) x₄ in
-    let v₂ = next d d₁ d₂ x₁ x₂ 0 a b (omega arith) w₁ w₂ in
-    let v₃ = next d d₂ d₃ (x₁ ++ x₂) x₃ 0 b c (omega arith) v₂ w₃ in
-    let v₄ = next d d₃ d₄ (x₁ ++ x₂ ++ x₃) x₄ 0 c e (omega arith) v₃ w₄ in
-    let v₅ = next d d₄ d₅ (x₁ ++ x₂ ++ x₃ ++ x₄) x₅ 0 e r (omega arith) v₄ w₅ in
+    let v₂ = wrote-both d d₁ d₂ x₁ x₂ 0 a b (omega arith) w₁ w₂ in
+    let v₃ = wrote-both d d₂ d₃ (x₁ ++ x₂) x₃ 0 b c (omega arith) v₂ w₃ in
+    let v₄ = wrote-both d d₃ d₄ (x₁ ++ x₂ ++ x₃) x₄ 0 c e (omega arith) v₃ w₄ in
+    let v₅ = wrote-both d d₄ d₅ (x₁ ++ x₂ ++ x₃ ++ x₄) x₅ 0 e r (omega arith) v₄ w₅ in
     let j : x₁ ++ x₂ ++ x₃ ++ x₄ ++ x₅ ≡ lines (x₁ ∷ x₂ ∷ x₃ ∷ x₄ ∷ x₅ ∷ []) = simp (append-assoc, append-nil) in
     rw (← j) v₅
 
@@ -121,8 +122,8 @@ line-short name n h = omega (arith, line-length name (decimal n), decimal-short 
 pub line-room : (name : Bytes) (at n m : ℕ) → n ≤ mostSectors → at + (length name + 8) ≤ m → at + (length name + (length (decimal n) + 1)) ≤ m
 line-room name at n m h k = omega (arith, decimal-short 6 n (omega arith))
 
-pub place : (name : Bytes) (at r n : ℕ) → n ≤ mostSectors → r ≡ at + length (line name (decimal n)) → r ≤ at + (length name + 8)
-place name at r n h e = omega (arith, line-short name n h)
+pub line-end : (name : Bytes) (at r n : ℕ) → n ≤ mostSectors → r ≡ at + length (line name (decimal n)) → r ≤ at + (length name + 8)
+line-end name at r n h e = omega (arith, line-short name n h)
 
 pub text-written : (d d₁ d₂ d₃ d₄ d₅ : Bytes) (count end : ℕ) (s : Survey) (a b c e r : ℕ)
     → (128 ≤ length d) × (count ≤ mostSectors) × (end ≤ mostSectors) × (s .records ≤ mostSectors) × (s .doubtful ≤ mostSectors)
@@ -136,7 +137,7 @@ text-written d d₁ d₂ d₃ d₄ d₅ count end s a b c e r h w₁ w₂ w₃ w
     let k₂ = line-short usedName end (h .2) in
     let k₃ = line-short recordsName (s .records) (h .3) in
     let k₄ = line-short doubtfulName (s .doubtful) (h .4) in
-    let w = five d d₁ d₂ d₃ d₄ d₅ (line sectorsName (decimal count)) (line usedName (decimal end)) (line recordsName (decimal (s .records))) (line doubtfulName (decimal (s .doubtful))) (line verdictName (verdict (s .doubtful))) a b c e r
+    let w = wrote-five-lines d d₁ d₂ d₃ d₄ d₅ (line sectorsName (decimal count)) (line usedName (decimal end)) (line recordsName (decimal (s .records))) (line doubtfulName (decimal (s .doubtful))) (line verdictName (verdict (s .doubtful))) a b c e r
     (omega (arith, verdict-length (s .doubtful))) w₁ w₂ w₃ w₄ w₅ in
     (w .0, w .1 ∙ zero-add (length (textOf count end s)))
 
@@ -228,7 +229,7 @@ module _ (log b : Bytes) where
         → (128 ≤ length b) × (length log / 512 ≤ mostSectors) × (end ≤ mostSectors) × (s .records ≤ mostSectors) × (s .doubtful ≤ mostSectors)
     unfolding blocks doubtful
     report-room end s q e f =
-        let k = allowed-sectors (length log) a p q in
+        let k = allowed-sectors (length log) (sym p ∙ q) in
         let u = used-le-sectors log in
         let r : s .records ≡ length (foundFrom (sound log) (sectors (length log)) 0) = ap (λ (x : Survey). x .records) f in
         let d : s .doubtful ≡ outside (blocks log) (used log) = ap (λ (x : Survey). x .doubtful) f in

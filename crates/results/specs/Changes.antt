@@ -9,7 +9,7 @@ use Rattle.difference.specs.declared.Difference.the-variants.{First, Second, No
 use Rattle.difference.specs.Difference.{answerOf}
 use Rattle.comparison.specs.declared.Compared.{Compared}
 use Rattle.comparison.specs.Differences.{differencesOf}
-use Rattle.results.specs.Tree.{endSector}
+use Rattle.results.specs.Tree.{endSector, aboveVisits}
 
 -- in the lowest 8 bits the number of the refusal, 0 for none; then 2 bits for the block that has the entry, 0 for none, 1 for the first, 2 for the second; above
 -- them the byte at which the entry starts
@@ -43,7 +43,7 @@ DifferenceUnpacks = (d : Difference) → differenceUnpacked (differencePacked d)
 
 -- the number of the refusal, 0 for none; 256 times the units, which take 20 bits; above them the count
 abbrev pub comparedNumber : Compared → ℕ
-comparedNumber c = endNumber (c .end) + 256 * (c .units + 1048576 * c .count)
+comparedNumber c = endNumber (c .end) + 256 * (c .units + aboveVisits * c .count)
 
 -- what comparing two trees gives: its result, and what the lent number is: "the answer has the sector beside the number 12"
 pub record Counts : Type 0 where
@@ -61,4 +61,4 @@ abbrev pub DifferencesUnpack : Type 0
 DifferencesUnpack = (log waiting x y : Bytes) (allowance : ℕ)
     → let c = differencesOf log waiting x y allowance in
     let r = comparedNumber c in
-    (r % 256 ≡ endNumber (c .end)) × (r / 256 % 1048576 ≡ c .units) × (r / 256 / 1048576 ≡ c .count)
+    (r % 256 ≡ endNumber (c .end)) × (r / 256 % aboveVisits ≡ c .units) × (r / 256 / aboveVisits ≡ c .count)

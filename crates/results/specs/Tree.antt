@@ -72,6 +72,10 @@ abbrev pub endSector : End → ℕ
 endSector Done = 0
 endSector (Stopped w) = toldSector w
 
+-- visits or units take 20 bits: what stands above them is so many times itself
+abbrev pub aboveVisits : ℕ
+aboveVisits = 1048576
+
 -- the number of the refusal, 0 for none; 256 times the visits, which take 20 bits; above them the sector
 abbrev pub walkResult : Walked → ℕ
-walkResult w = endNumber (w .end) + 256 * (w .visits + 1048576 * endSector (w .end))
+walkResult w = endNumber (w .end) + 256 * (w .visits + aboveVisits * endSector (w .end))

@@ -37,7 +37,7 @@ use Rattle.visit.specs.Visit.{endNumber}
 use Rattle.results.specs.Blocks.{typeResult, cutResult}
 use Rattle.results.specs.Survey.{reportNumber, textLength, soundResult, sizeOf}
 use Rattle.results.specs.Hints.{lookResult}
-use Rattle.results.specs.Tree.{packed, unpacked, run, runOf, fillResult, walkResult, endSector}
+use Rattle.results.specs.Tree.{packed, unpacked, run, runOf, fillResult, walkResult, endSector, aboveVisits}
 use Rattle.results.specs.Search.{valueNumber, valueFrom, answerSector, searchResult}
 
 -- in the lowest 8 bits the number of the refusal, 0 for none; above them the answer
@@ -99,10 +99,10 @@ FillRefusalUnpacks = (log waiting b : Bytes) (offset : ℕ) (d : Bytes) (w : Ref
 
 -- a walk: the number, the visits, and the sector that it tells of
 abbrev pub visitsIn : ℕ → ℕ
-visitsIn r = r / 256 % 1048576
+visitsIn r = r / 256 % aboveVisits
 
 abbrev pub sectorIn : ℕ → ℕ
-sectorIn r = r / 256 / 1048576
+sectorIn r = r / 256 / aboveVisits
 
 abbrev pub WalkUnpacks : Type 0
 WalkUnpacks = (log waiting score : Bytes) (allowance : ℕ)

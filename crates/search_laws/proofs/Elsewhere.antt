@@ -2,11 +2,12 @@
 use mathlib.Core.Path.{_≡_, refl, sym, ap, subst, _∙_}
 use mathlib.Core.Bool.{true, false, true≢false}
 use mathlib.Core.Logic.{inl, inr}
-use mathlib.Core.Option.{Option, some}
+use mathlib.Core.Option.{some}
 use Prim.Native.Nat.{ℕ, _≤_, _<_}
 use native.Mathlib.Omega.{arith}
 use lib.ListN.{length, getD}
 use lib.Seq.{ext-getD}
+use Rattle.ground.proofs.Choices.{some-same}
 use Rattle.buffer.specs.Bytes.{Bytes}
 use Rattle.refusal.specs.declared.Refusal.{Refusal}
 use Rattle.refusal.specs.declared.Refusal.the-variants as why
@@ -28,9 +29,6 @@ use Rattle.search_laws.specs.Promises.{JudgedByItsBytes, SameBytesSameAn
 use Rattle.search_laws.proofs.Course.{Open, Course, bad-log, bad-page, bad-entry, long, through, course, opened}
 use Rattle.search_laws.proofs.Whole.{stop-refused, done-answers, read-done, read-length, read-bytes}
 
-same-byte : (a b : ℕ) → _≡_ {A = Option ℕ} (some a) (some b) → a ≡ b
-same-byte a b e = cc
-
 -- past the tests, with every offset read
 module _ (log waiting page entry : Bytes) (p : Open log waiting page entry) (reads : (o : ℕ) → o < entryOf entry .size → Answers (located log waiting page entry o)) where
   read-judged : (query : Bytes) → searchOf log waiting page entry query ≡ judged (cardOf log waiting entry .bytes) query
@@ -43,7 +41,7 @@ module _ (log waiting page entry : Bytes) (p : Open log waiting page entry) (rea
   read-as card s f =
       let l = read-length log waiting page entry p reads in
       ext-getD 0 (cardOf log waiting entry .bytes) card (l ∙ s)
-      (λ i h. let g : i < entryOf entry .size = omega (arith, l) in same-byte _ _ (sym (read-bytes log waiting page entry p reads i g) ∙ f i g))
+      (λ i h. let g : i < entryOf entry .size = omega (arith, l) in some-same _ _ (sym (read-bytes log waiting page entry p reads i g) ∙ f i g))
 
 pub judged-by-its-bytes : JudgedByItsBytes
 judged-by-its-bytes log waiting page entry card query a g r s short reads bytes =

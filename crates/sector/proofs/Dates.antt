@@ -118,16 +118,16 @@ denied b t p q e =
     let y : _≡_ {A = ℕ} 0 1 = cc in
     omega arith
 
+pub date-or-none : (d : Bytes) → isDate d ≡ true → isDateOrNone d ≡ true
+date-or-none [] e = refl
+date-or-none (b ∷ bs) e = e
+
 -- what a sector's date is: one, or none
 pub field-date : (s : Bytes) → isDateOrNone (dateField s) ≡ true
 field-date s = go (isDated s) refl
   where
-    some-date : (d : Bytes) → isDate d ≡ true → isDateOrNone d ≡ true
-    some-date [] e = refl
-    some-date (b ∷ bs) e = e
-
     go : (b : Bool) → isDated s ≡ b → isDateOrNone (dateField s) ≡ true
-    go true q = ap isDateOrNone (dated-field s q) ∙ some-date (take 8 (drop 5 s)) (dated-date s q)
+    go true q = ap isDateOrNone (dated-field s q) ∙ date-or-none (take 8 (drop 5 s)) (dated-date s q)
     go false q = ap isDateOrNone (undated s q)
 
 -- as many bytes as the line of its date has, a sector begins with that line

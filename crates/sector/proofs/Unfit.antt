@@ -10,7 +10,7 @@ use borrow.Author.Tests.{leb-true, leb-false}
 use lib.ListN.{length, getD, take, drop, replicate, length-take, length-drop, getD-replicate, take-append-drop, List·getD-eq-default}
 use lib.Seq.{ext-getD, getD-take, getD-drop, drop-drop}
 use Rattle.buffer.specs.Bytes.{Bytes, same, zeros}
-use Rattle.buffer.proofs.Bytes.{same-true, small-getD, small-take}
+use Rattle.buffer.proofs.Bytes.{same-true, zeros-getD, small-getD, small-take}
 use Rattle.word.specs.Number.{small}
 use Rattle.word.specs.Hex.{hex}
 use Rattle.word.proofs.HexLaws.{hex-injective}
@@ -61,6 +61,15 @@ digits-same s t N h g =
 pub fits-reads : (t : Bytes) → fits t ≡ true → drop 499 t ≡ check (take 499 t)
 unfolding fits
 fits-reads t e = same-true (drop 499 t) (check (take 499 t)) e
+
+-- a sector of zeros does not fit: its check would begin with "c"
+pub zeros-unfit : (t : Bytes) → zeros t ≡ true → fits t ≡ false
+unfolding check hex
+zeros-unfit t z = go (fits t) refl
+  where
+    go : (b : Bool) → fits t ≡ b → fits t ≡ false
+    go true q = absurd (omega (arith, zeros-getD t 499 z, sym (getD-drop 499 t 0 0) ∙ ap (λ (x : Bytes). getD x 0 0) (fits-reads t q)))
+    go false q = q
 
 -- the digits that a sector which fits has are those of its check
 digits : (t : Bytes) → drop 499 t ≡ check (take 499 t) → take 8 (drop 503 t) ≡ hex 8 (crc32Of (take 499 t))

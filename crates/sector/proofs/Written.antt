@@ -5,10 +5,11 @@ use mathlib.Core.List.{List, [], _∷_, _++_, append-assoc, append-nil}
 use Prim.Native.Nat.{ℕ, zero, suc, _+_, _-_, _*_, _≤_, _<_, min}
 use native.Mathlib.Omega.{arith}
 use native.Mathlib.Nat.{add-zero}
-use lib.Dec.{eqb}
 use lib.Seq.{take-append-add, take-at, take-all, take-add, drop-drop, length-take-le}
-use lib.ListN.{length, take, drop, set, replicate, length-append, length-take, length-drop, length-set, length-replicate, take-append-drop, drop-of-length-le}
+use lib.ListN.{length, take, drop, set, replicate, length-append, length-drop, length-set, length-replicate, take-append-drop, drop-of-length-le}
 use Rattle.buffer.specs.Bytes.{Bytes, same, put}
+use Rattle.buffer.proofs.Bytes.{same-append}
+use Rattle.buffer.proofs.Parts.{part-length}
 use Rattle.buffer.proofs.Put.{length-put, put-next, put-mid, put-one, put-whole}
 use Rattle.word.specs.Hex.{hex, hexBytes}
 use Rattle.word.proofs.HexLaws.{hex-length, hexBytes-length}
@@ -18,13 +19,10 @@ use Rattle.sector.proofs.Encode.{length-check, length-filled}
 use Rattle.sector.specs.declared.Label.{Label}
 use Rattle.sector.proofs.Fields.{length-label}
 
-pub part-length : (d : Bytes) (a e : ℕ) → a ≤ e → e ≤ length d → length (take (e - a) (drop a d)) ≡ e - a
-part-length d a e h k = simp (length-take, length-drop) (omega arith)
-
 -- digits that fill the part from a to e
 pub digits-part : (d ys : Bytes) (a w n : ℕ) → a + w ≤ length d → ys ≡ hex (length (take (a + w - a) (drop a d))) n → ys ≡ hex w n
 digits-part d ys a w n h e =
-    let k : length (take (a + w - a) (drop a d)) ≡ w = part-length d a (a + w) (omega arith) h ∙ omega arith in
+    let k : length (take (a + w - a) (drop a d)) ≡ w = part-length d a (a + w) h ∙ omega arith in
     rw k at e
 
 -- a name, a value in a part that was lent, and a line feed
@@ -116,16 +114,6 @@ front-written d d₁ d₂ date h k e₁ e₂ =
 pub length-date : (date : Bytes) → length (line dateName date) ≡ length date + 6
 length-date date = omega (arith, length-append dateName (date ++ (10 ∷ [])), length-append date (10 ∷ []))
 
-same-append : (a b x y : Bytes) → length a ≡ length b → same (a ++ x) (b ++ y) ≡ (same a b && same x y)
-same-append [] [] x y e = refl
-same-append [] (b ∷ bs) x y e = absurd (omega arith)
-same-append (a ∷ ts) [] x y e = absurd (omega arith)
-same-append (a ∷ ts) (b ∷ bs) x y e = ap (λ (z : Bool). eqb a b && z) (same-append ts bs x y (omega arith)) ∙ sym (and-assoc (eqb a b) (same ts bs) (same x y))
-  where
-    and-assoc : (a b c : Bool) → ((a && b) && c) ≡ (a && (b && c))
-    and-assoc true b c = refl
-    and-assoc false b c = refl
-
 -- whether a front and a label stand at a sector's beginning: one after the other
 pub labels-same : (s front label : Bytes) (n : ℕ) → length label ≡ n → length front + n ≤ length s
     → (same (take (length front) s) front && same (take (length front + n - length front) (drop (length front) s)) label) ≡ same (take (length front + n) s) (front ++ label)
@@ -194,7 +182,7 @@ module _ (d d₀ yl d₂ ys d₄ front lines piece : Bytes) (crc : ℕ) (h : len
 
     zeroed : ys ≡ replicate (499 - end) 0
     zeroed =
-        let k : length (take (499 - end) (drop end d₂)) ≡ 499 - end = part-length d₂ end 499 (omega arith) (omega (arith, length-two)) ∙ omega arith in
+        let k : length (take (499 - end) (drop end d₂)) ≡ 499 - end = part-length d₂ end 499 (omega (arith, length-two)) in
         rw k at cleared
 
     whole : (label ++ piece) ++ replicate (499 - end) 0 ≡ body

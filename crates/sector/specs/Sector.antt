@@ -10,6 +10,22 @@ use Rattle.word.specs.Hex.{hex, hexBytes, hexValue, readBytes}
 use Rattle.crc32_rule.specs.Crc32.{crc32Of}
 use Rattle.sector.specs.declared.Label.{Label}
 
+-- "The log is sectors of 512 bytes"
+abbrev pub sectorLength : ℕ
+sectorLength = 512
+
+-- label and payload, the bytes that the check is over
+abbrev pub bodyLength : ℕ
+bodyLength = 499
+
+-- the line of a date, before a label's lines
+abbrev pub frontLength : ℕ
+frontLength = 14
+
+-- the six lines of a label
+abbrev pub linesLength : ℕ
+linesLength = 96
+
 -- "each ended by one line feed": a line is its name with "=", the value's digits and a line feed
 abbrev pub line : Bytes → Bytes → Bytes
 line name value = name ++ (value ++ (10 ∷ []))
@@ -82,15 +98,15 @@ datedLabel date l score = frontOf date ++ labelOf l score
 
 -- how long it is
 abbrev pub labelLength : Bytes → ℕ
-labelLength date = length (frontOf date) + 96
+labelLength date = length (frontOf date) + linesLength
 
 -- how long the payload is behind it: 403, or 389
 abbrev pub payloadOf : ℕ → ℕ
-payloadOf label = 499 - label
+payloadOf label = bodyLength - label
 
 -- "told apart by the first line": whether a sector begins with a date's line, and that date, or none
 unfoldable pub isDated : Bytes → Bool
-isDated s = same (take 14 s) (line dateName (take 8 (drop 5 s))) && isDate (take 8 (drop 5 s))
+isDated s = same (take frontLength s) (line dateName (take 8 (drop 5 s))) && isDate (take 8 (drop 5 s))
 
 unfoldable pub dateField : Bytes → Bytes
 dateField s = cond (isDated s) (take 8 (drop 5 s)) []
@@ -103,14 +119,20 @@ behind s = drop (length (frontOf (dateField s))) s
 abbrev pub recField : Bytes → ℕ
 recField s = hexValue (take 8 (drop 4 s))
 
+abbrev pub kindDigits : Bytes → Bytes
+kindDigits s = take 2 (drop 36 s)
+
 abbrev pub kindField : Bytes → ℕ
-kindField s = hexValue (take 2 (drop 36 s))
+kindField s = hexValue (kindDigits s)
 
 abbrev pub sizeField : Bytes → ℕ
 sizeField s = hexValue (take 4 (drop 44 s))
 
+abbrev pub scorePlace : ℕ
+scorePlace = 55
+
 abbrev pub scoreDigits : Bytes → Bytes
-scoreDigits s = take 40 (drop 55 s)
+scoreDigits s = take 40 (drop scorePlace s)
 
 abbrev pub scoreField : Bytes → Bytes
 scoreField s = readBytes (scoreDigits s)
@@ -121,7 +143,7 @@ check body = line crcName (hex 8 (crc32Of body))
 
 -- "over the first 499 bytes; it fits when the last 13 bytes are exactly its line"
 unfoldable pub fits : Bytes → Bool
-fits s = same (drop 499 s) (check (take 499 s))
+fits s = same (drop bodyLength s) (check (take bodyLength s))
 
 -- data filled up with zeros, or cut, to n bytes
 unfoldable pub filled : ℕ → Bytes → Bytes
@@ -129,8 +151,8 @@ filled n d = take n (d ++ replicate n 0)
 
 -- a sector: a label, a payload that fills it up to 499 bytes, and the check
 unfoldable pub encode : Bytes → Bytes → Bytes
-encode label d = let body = label ++ filled (499 - length label) d in body ++ check body
+encode label d = let body = label ++ filled (bodyLength - length label) d in body ++ check body
 
 -- "A blank sector is all zeros"
 unfoldable pub blank : Bytes
-blank = replicate 512 0
+blank = replicate sectorLength 0

@@ -6,7 +6,7 @@ ghost use Prim.Native.Nat.{_+_, _≤_};
 ghost use lib.ListN.{length, take, drop};
 ghost use Rattle.buffer.specs.Bytes.{same, put};
 ghost use Rattle.word.specs.Hex.{hex, hexBytes};
-ghost use Rattle.sector.specs.Sector.{line, dateName, scoreName, labelOf, fits, encode, isDate, frontOf, dateField};
+ghost use Rattle.sector.specs.Sector.{line, dateName, scoreName, labelOf, fits, encode, isDate, frontOf, dateField, sectorLength, bodyLength, linesLength, frontLength};
 
 // What the label of a sector says beside the score: the sector where the block starts, which part this is and of how many,
 // the block's type, and the bytes in the block.
@@ -26,7 +26,13 @@ pub const LABEL: usize = 96;
 // The line of a date, before them.
 pub const FRONT: usize = 14;
 
-// Where the digits of the score stand among the six lines.
+// Where the digits of the type stand among the six lines.
+pub const KIND: usize = 36;
+
+// Where those of the size stand.
+pub const SIZE: usize = 44;
+
+// Where those of the score stand.
 pub const SCORE: usize = 55;
 
 // Label and payload.
@@ -55,7 +61,7 @@ pub fn is_date(d: &[u8]) -> bool
 
 // How long the line of a date is with which a sector begins, 0 where it begins with none.
 pub fn front_length(s: &[u8]) -> usize
-    requires { ⌜ 14 ≤ length (now s) ⌝ }
+    requires { ⌜ frontLength ≤ length (now s) ⌝ }
     ensures { λ r. ⌜ r ≡ length (frontOf (dateField (now (s .entry)))) ⌝ }
 {
     if s[13] != 10 {
@@ -72,7 +78,7 @@ pub fn front_length(s: &[u8]) -> usize
 
 // Writes the line of a date.
 pub fn write_front(d: &mut [u8], date: &[u8])
-    requires { ⌜ (length (now d) ≡ 14) × (length (now date) ≡ 8) ⌝ }
+    requires { ⌜ (length (now d) ≡ frontLength) × (length (now date) ≡ 8) ⌝ }
     ensures { λ _. ⌜ now (d .exit) ≡ line dateName (now (date .entry)) ⌝ }
 {
     buffer::copy_at(d, 0, b"date=");
@@ -106,7 +112,7 @@ fn write_score(d: &mut [u8], at: usize, score: &[u8])
 
 // Writes the six lines of a label to the front of d.
 pub fn write_label(d: &mut [u8], l: Label, score: &[u8])
-    requires { ⌜ (96 ≤ length (now d)) × (length (now score) ≡ 20) ⌝ }
+    requires { ⌜ (linesLength ≤ length (now d)) × (length (now score) ≡ 20) ⌝ }
     ensures { λ _. ⌜ now (d .exit) ≡ put (now (d .entry)) 0 (labelOf l (now (score .entry))) ⌝ }
 {
     let first = l.first;
@@ -120,14 +126,14 @@ pub fn write_label(d: &mut [u8], l: Label, score: &[u8])
 
 // Whether a sector begins with `front` and then exactly the lines of a label.
 pub fn has_label(s: &[u8], front: &[u8], l: Label, score: &[u8]) -> bool
-    requires { ⌜ (length (now front) + 96 ≤ length (now s)) × (length (now score) ≡ 20) ⌝ }
-    ensures { λ r. ⌜ r ≡ same (take (length (now (front .entry)) + 96) (now (s .entry))) (now (front .entry) ++ labelOf l (now (score .entry))) ⌝ }
+    requires { ⌜ (length (now front) + linesLength ≤ length (now s)) × (length (now score) ≡ 20) ⌝ }
+    ensures { λ r. ⌜ r ≡ same (take (length (now (front .entry)) + linesLength) (now (s .entry))) (now (front .entry) ++ labelOf l (now (score .entry))) ⌝ }
 {
     let from = front.len();
     if !buffer::equal(&s[..from], front) {
         return false;
     }
-    let mut expected = [0u8; 96];
+    let mut expected = [0u8; LABEL];
     write_label(&mut expected, l, score);
     let end = from + LABEL;
     buffer::equal(&s[from..end], &expected)
@@ -135,7 +141,7 @@ pub fn has_label(s: &[u8], front: &[u8], l: Label, score: &[u8]) -> bool
 
 // Whether the last 13 bytes of a sector are exactly the line of its check.
 pub fn has_check(s: &[u8]) -> bool
-    requires { ⌜ length (now s) ≡ 512 ⌝ }
+    requires { ⌜ length (now s) ≡ sectorLength ⌝ }
     ensures { λ r. ⌜ r ≡ fits (now (s .entry)) ⌝ }
 {
     let crc = crc32::crc32(&s[..BODY]);
@@ -146,7 +152,7 @@ pub fn has_check(s: &[u8]) -> bool
 
 // Writes a sector: `front` and the lines of the label, a piece of data filled up with zeros, and the check.
 pub fn write_sector(d: &mut [u8], front: &[u8], l: Label, score: &[u8], piece: &[u8])
-    requires { ⌜ (length (now d) ≡ 512) × (length (now score) ≡ 20) × (length (now front) + (96 + length (now piece)) ≤ 499) ⌝ }
+    requires { ⌜ (length (now d) ≡ sectorLength) × (length (now score) ≡ 20) × (length (now front) + (linesLength + length (now piece)) ≤ bodyLength) ⌝ }
     ensures { λ _. ⌜ now (d .exit) ≡ encode (now (front .entry) ++ labelOf l (now (score .entry))) (now (piece .entry)) ⌝ }
 {
     buffer::copy_at(d, 0, front);

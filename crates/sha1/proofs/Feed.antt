@@ -22,8 +22,8 @@ hash-append (suc k) m x h =
     rw (hash-append k m x h', drop-append-le (k * 64) m x h', take-append-le 64 (drop (k * 64) m) x (omega (arith, length-drop (k * 64) m)))
 
 module _ {h : Hash} {buf : List ℕ} {n : ℕ} {m : List ℕ} where
-  pub store : (b : ℕ) → n < length buf → Fed h buf n m → Fed h (set buf n b) (n + 1) (m ++ (b ∷ []))
-  store b l f =
+  pub byte-fed : (b : ℕ) → n < length buf → Fed h buf n m → Fed h (set buf n b) (n + 1) (m ++ (b ∷ []))
+  byte-fed b l f =
       record {
         k = f .k;
         size = rw length-append (omega arith);
@@ -44,7 +44,7 @@ module _ {h : Hash} {buf : List ℕ} {n : ℕ} {m : List ℕ} where
 
 pub step : {h : Hash} {buf : List ℕ} {n : ℕ} (m more : List ℕ) (i : ℕ) → n < length buf → i < length more
     → Fed h buf n (m ++ take i more) → Fed h (set buf n (getD more i 0)) (n + 1) (m ++ take (i + 1) more)
-step m more i l j f = rw (add-one i, take-suc more i 0, ← append-assoc) (store (getD more i 0) l f)
+step m more i l j f = rw (add-one i, take-suc more i 0, ← append-assoc) (byte-fed (getD more i 0) l f)
 
 -- all of `more` is in: the count says how many bytes wait
 pub held : {h : Hash} {buf : List ℕ} {n : ℕ} (s : Stream) (m more : List ℕ) (i : ℕ) → i ≡ length more → n < 64

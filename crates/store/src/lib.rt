@@ -22,6 +22,7 @@ ghost use Rattle.log.specs.Parts.{Lent, alone, beside, canSettle};
 ghost use Rattle.log.specs.Parts.{settled as settledOf};
 ghost use Rattle.log.specs.Store.{afterStore, receipt, appended, compared};
 ghost use Rattle.log.specs.Store.{store as storeOf};
+ghost use Rattle.sector.specs.Sector.{sectorLength};
 
 // Appends a block that look-up did not find to the waiting part, whose sectors are numbered on from `from`, or refuses it for want of
 // room. `most` is how many sectors the log has.
@@ -34,7 +35,7 @@ fn append_new(
     score: &[u8; 20],
     data: &[u8],
 ) -> Stored
-    requires { ⌜ (length (now «data») ≤ longest) × (length (now date) ≡ 8) × (now score ≡ sha1Of (now «data»)) × (512 * from .0 < 2 ^ 64) ⌝ }
+    requires { ⌜ (length (now «data») ≤ longest) × (length (now date) ≡ 8) × (now score ≡ sha1Of (now «data»)) × (sectorLength * from .0 < 2 ^ 64) ⌝ }
     ensures { λ r. ⌜ ((log : Bytes) → sectors (length log) ≡ most → usedOf log ≡ from .0 → afterStore (receipt (sha1Of (now («data» .entry))) r) (beside log (now (waiting .exit))) ≡ appended (beside log (now (waiting .entry))) (now (date .entry)) kind (now («data» .entry))) ⌝ }
 {
     let waits = reader::used_part(waiting);

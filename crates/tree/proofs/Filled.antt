@@ -10,11 +10,8 @@ use lib.ListN.{length, getD, take, drop, replicate, length-take, length-drop, le
 use lib.Seq.{ext-getD, getD-take, getD-drop, getD-append-add, take-all}
 use Rattle.buffer.specs.Bytes.{Bytes}
 use Rattle.sector.specs.Sector.{filled}
+use Rattle.sector.proofs.Encode.{length-filled}
 use Rattle.block.proofs.Payloads.{filled-getD}
-
-pub length-filled : (w : ℕ) (d : Bytes) → length (filled w d) ≡ w
-unfolding filled
-length-filled w d = simp (length-take, length-append, length-replicate) (omega arith)
 
 -- what has the bytes of b from o on, and zeros past its end, one by one
 pub filled-all : (d b : Bytes) (w o : ℕ) → length d ≡ w → ((k : ℕ) → k < w → getD d k 0 ≡ getD b (o + k) 0) → d ≡ filled w (drop o b)

@@ -10,6 +10,7 @@ use Rattle.buffer.specs.Bytes.{Bytes, put}
 use Rattle.buffer.proofs.Put.{put-next, put-whole, put-mid}
 use Rattle.buffer.proofs.Put.{put-none as put-nothing}
 use Rattle.sector.specs.Sector.{payloadOf, filled}
+use Rattle.sector.proofs.Encode.{length-filled}
 use Rattle.block.specs.declared.Block.{Block}
 use Rattle.block.specs.Block.{partsIn}
 use Rattle.block.specs.Log.{at, payloads, bytesOf}
@@ -17,7 +18,7 @@ use Rattle.block.proofs.At.{length-at}
 use Rattle.block.proofs.Facts.{part-of}
 use Rattle.block.proofs.Payloads.{payloads-getD}
 use Rattle.reader.proofs.Pieces.{length-bytes}
-use Rattle.tree.proofs.Filled.{length-filled, filled-none, filled-front}
+use Rattle.tree.proofs.Filled.{filled-none, filled-front}
 
 -- ---- one piece
 

@@ -13,6 +13,9 @@ ghost use Rattle.refusal.specs.Number.{toldSector};
 ghost use Rattle.file.specs.declared.Located.the-variants.{Refused};
 ghost use Rattle.results.specs.Tree.{mostBoth, packed, stopSector, filledUp, fillResult, endSector, walkResult};
 
+// What stands above a count of visits or units, which takes 20 bits, is so many times itself.
+pub const ABOVE_VISITS: u64 = 1048576;
+
 // A refusal packed as a run is: its number, and the sector that it tells of in the place of a start.
 fn refused(why: Refusal) -> u64
     requires { ⌜ toldSector why ≤ mostBoth ⌝ }
@@ -86,5 +89,5 @@ pub fn walk<'a>(log: &'a [u8], waiting: &'a [u8], score: &[u8; 20], allowance: u
     let end = walked.end;
     let number = walk::number(end);
     let sector = end_sector(end);
-    number as u64 + 256 * (walked.visits as u64 + 1048576 * (sector as u64))
+    number as u64 + 256 * (walked.visits as u64 + ABOVE_VISITS * (sector as u64))
 }

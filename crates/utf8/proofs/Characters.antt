@@ -29,10 +29,10 @@ spanned (r ∷ rs) [] bs h = absurd h
 spanned (r ∷ rs) (b ∷ x) bs h = rw (inside r b (h .0) (h .1)) (spanned rs x bs (h .2))
 
 -- octets of row k are a character
-pub whole : (k : ℕ) → take k utf8-char ++ (rowAt k ∷ drop (suc k) utf8-char) ≡ utf8-char
+pub row-is-character : (k : ℕ) → take k utf8-char ++ (rowAt k ∷ drop (suc k) utf8-char) ≡ utf8-char
     → before (rowAt k .first .low) (take k utf8-char) ≡ true → behind (rowAt k .first .high) (drop (suc k) utf8-char) ≡ true
     → (b : ℕ) (x bs : Bytes) → Spans (rowAt k .first ∷ rowAt k .rest) (b ∷ x) → follows [] (b ∷ (x ++ bs)) ≡ follows [] bs
-whole k s e f b x bs h = begins b (x ++ bs) k s e f (h .0) (h .1) ∙ spanned (rowAt k .rest) x bs (h .2)
+row-is-character k s e f b x bs h = begins b (x ++ bs) k s e f (h .0) (h .1) ∙ spanned (rowAt k .rest) x bs (h .2)
 
 -- ---- a scalar value's octets
 
@@ -71,42 +71,42 @@ past c h n = go (leb c 0xDFFF) refl
 -- a character, then octets bs: well-formed just if bs are
 module _ (c : ℕ) (bs : Bytes) where
   accept-1 : 0 < c → c ≤ 0x7F → follows [] (character c ++ bs) ≡ follows [] bs
-  accept-1 h k = rw (line-1 c k) (whole 0 refl refl refl c [] bs (h, k, tt))
+  accept-1 h k = rw (line-1 c k) (row-is-character 0 refl refl refl c [] bs (h, k, tt))
 
   accept-2 : 0x7F < c → c ≤ 0x7FF → follows [] (character c ++ bs) ≡ follows [] bs
   accept-2 h k =
       rw (line-2 c h k)
-      (whole 1 refl refl refl (0xC0 + c / 64) (six 1 c ∷ []) bs (omega arith, omega arith, (omega arith, omega arith, tt)))
+      (row-is-character 1 refl refl refl (0xC0 + c / 64) (six 1 c ∷ []) bs (omega arith, omega arith, (omega arith, omega arith, tt)))
 
   accept-3 : 0x7FF < c → c ≤ 0xFFFF → (0xD800 ≤ c → c ≤ 0xDFFF → ⊥) → follows [] (character c ++ bs) ≡ follows [] bs
   accept-3 h k n = rw (line-3 c h k) (go (ltb c 0x1000) refl (ltb c 0xD000) refl (ltb c 0xD800) refl)
     where
       go : (x : Bool) → ltb c 0x1000 ≡ x → (y : Bool) → ltb c 0xD000 ≡ y → (z : Bool) → ltb c 0xD800 ≡ z
           → follows [] ((0xE0 + c / 4096) ∷ six 64 c ∷ six 1 c ∷ bs) ≡ follows [] bs
-      go true p y q z r = let u = ltb-true c 0x1000 p in whole 2 refl refl refl (0xE0 + c / 4096) (six 64 c ∷ six 1 c ∷ []) bs (omega arith, omega arith, (omega arith, omega arith, (omega arith, omega arith, tt)))
+      go true p y q z r = let u = ltb-true c 0x1000 p in row-is-character 2 refl refl refl (0xE0 + c / 4096) (six 64 c ∷ six 1 c ∷ []) bs (omega arith, omega arith, (omega arith, omega arith, (omega arith, omega arith, tt)))
       go false p true q z r =
           let l = ltb-false c 0x1000 p in
           let u = ltb-true c 0xD000 q in
-          whole 3 refl refl refl (0xE0 + c / 4096) (six 64 c ∷ six 1 c ∷ []) bs (omega arith, omega arith, (omega arith, omega arith, (omega arith, omega arith, tt)))
+          row-is-character 3 refl refl refl (0xE0 + c / 4096) (six 64 c ∷ six 1 c ∷ []) bs (omega arith, omega arith, (omega arith, omega arith, (omega arith, omega arith, tt)))
       go false p false q true r =
           let l = ltb-false c 0xD000 q in
           let u = ltb-true c 0xD800 r in
-          whole 4 refl refl refl (0xE0 + c / 4096) (six 64 c ∷ six 1 c ∷ []) bs (omega arith, omega arith, (omega arith, omega arith, (omega arith, omega arith, tt)))
+          row-is-character 4 refl refl refl (0xE0 + c / 4096) (six 64 c ∷ six 1 c ∷ []) bs (omega arith, omega arith, (omega arith, omega arith, (omega arith, omega arith, tt)))
       go false p false q false r =
           let l : 0xE000 ≤ c = past c (ltb-false c 0xD800 r) n in
-          whole 5 refl refl refl (0xE0 + c / 4096) (six 64 c ∷ six 1 c ∷ []) bs (omega arith, omega arith, (omega arith, omega arith, (omega arith, omega arith, tt)))
+          row-is-character 5 refl refl refl (0xE0 + c / 4096) (six 64 c ∷ six 1 c ∷ []) bs (omega arith, omega arith, (omega arith, omega arith, (omega arith, omega arith, tt)))
 
   accept-4 : 0xFFFF < c → c ≤ 0x10FFFF → follows [] (character c ++ bs) ≡ follows [] bs
   accept-4 h k = rw (line-4 c h) (go (ltb c 0x40000) refl (ltb c 0x100000) refl)
     where
       go : (x : Bool) → ltb c 0x40000 ≡ x → (y : Bool) → ltb c 0x100000 ≡ y
           → follows [] ((0xF0 + c / 262144) ∷ six 4096 c ∷ six 64 c ∷ six 1 c ∷ bs) ≡ follows [] bs
-      go true p y q = let u = ltb-true c 0x40000 p in whole 6 refl refl refl (0xF0 + c / 262144) (six 4096 c ∷ six 64 c ∷ six 1 c ∷ []) bs (omega arith, omega arith, (omega arith, omega arith, (omega arith, omega arith, (omega arith, omega arith, tt))))
+      go true p y q = let u = ltb-true c 0x40000 p in row-is-character 6 refl refl refl (0xF0 + c / 262144) (six 4096 c ∷ six 64 c ∷ six 1 c ∷ []) bs (omega arith, omega arith, (omega arith, omega arith, (omega arith, omega arith, (omega arith, omega arith, tt))))
       go false p true q =
           let l = ltb-false c 0x40000 p in
           let u = ltb-true c 0x100000 q in
-          whole 7 refl refl refl (0xF0 + c / 262144) (six 4096 c ∷ six 64 c ∷ six 1 c ∷ []) bs (omega arith, omega arith, (omega arith, omega arith, (omega arith, omega arith, (omega arith, omega arith, tt))))
-      go false p false q = let l = ltb-false c 0x100000 q in whole 8 refl refl refl (0xF0 + c / 262144) (six 4096 c ∷ six 64 c ∷ six 1 c ∷ []) bs (omega arith, omega arith, (omega arith, omega arith, (omega arith, omega arith, (omega arith, omega arith, tt))))
+          row-is-character 7 refl refl refl (0xF0 + c / 262144) (six 4096 c ∷ six 64 c ∷ six 1 c ∷ []) bs (omega arith, omega arith, (omega arith, omega arith, (omega arith, omega arith, (omega arith, omega arith, tt))))
+      go false p false q = let l = ltb-false c 0x100000 q in row-is-character 8 refl refl refl (0xF0 + c / 262144) (six 4096 c ∷ six 64 c ∷ six 1 c ∷ []) bs (omega arith, omega arith, (omega arith, omega arith, (omega arith, omega arith, (omega arith, omega arith, tt))))
 
   decode-1 : c ≤ 0x7F → decodeFrom 0 0 (character c ++ bs) ≡ c ∷ decodeFrom 0 0 bs
   unfolding decodeFrom

@@ -2,14 +2,12 @@
 use Prim.Native.Nat.{ℕ, zero, suc, _+_, _-_, _*_, _/_, _%_, _<_, _≤_}
 use mathlib.Core.Path.{_≡_, refl, ap}
 use mathlib.Core.Bool.{Bool, true, false, cond}
-use mathlib.Core.Option.{Option, none, some}
 use native.Mathlib.Omega.{arith}
 use lib.Dec.{eqb, ltb}
 use lib.ListN.{length}
 use borrow.Author.Tests.{eqb-false}
-use Rattle.ground.specs.Choice.{on}
+use Rattle.ground.proofs.Choices.{on-same}
 use Rattle.buffer.specs.Bytes.{Bytes}
-use Rattle.block.specs.Block.{Row}
 use Rattle.log.specs.LookUp.{held}
 use Rattle.entry.specs.Entry.{entryOf, scoreOf}
 use Rattle.visit.specs.declared.Walked.{Walked}
@@ -24,10 +22,6 @@ use Rattle.walk_laws.specs.Enough.{EnoughForEntry, EnoughForDirectory}
 cond-same : (b : Bool) {x y x' y' : Walked} → (b ≡ true → x ≡ x') → (b ≡ false → y ≡ y') → cond b x y ≡ cond b x' y'
 cond-same true f g = f refl
 cond-same false f g = g refl
-
-on-same : (o : Option Row) (x : Walked) (f g : Row → Walked) → ((r : Row) → f r ≡ g r) → on o x f ≡ on o x g
-on-same none x f g h = refl
-on-same (some r) x f g h = h r
 
 and-then-same : (e : End) (n : ℕ) (k k' : ℕ → Walked) → ((m : ℕ) → k m ≡ k' m) → andThen e n k ≡ andThen e n k'
 and-then-same Done n k k' h = h n

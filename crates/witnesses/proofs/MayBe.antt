@@ -10,6 +10,7 @@ use lib.ListN.{length}
 use borrow.Author.Tests.{eqb-true, eq-eqb, ne-eqb}
 use Rattle.buffer.specs.Bytes.{Bytes, zeros}
 use Rattle.sector.specs.Sector.{fits, blank}
+use Rattle.sector.proofs.Unfit.{zeros-unfit}
 use Rattle.block.specs.Block.{Row, image}
 use Rattle.block.specs.Log.{sectors, at, used}
 use Rattle.block.proofs.At.{length-blank, blank-is}
@@ -38,7 +39,6 @@ use Rattle.demands.specs.Instance.{extentOf, blankPart, relent, archive}
 use Rattle.promises.specs.Histories.{NothingWaits}
 use Rattle.witnesses.specs.CanBe as claims
 use Rattle.events.specs.Events.{Past, logThen, ledgerThen, OnItsWay}
-use Rattle.demands.proofs.LogLaws.{zeros-unfit}
 use Rattle.demands.proofs.LentLaws.{length-blank as length-blank-part, blank-behind, start-alone, start-none}
 use Rattle.demands.proofs.Lawful.{lawful}
 use Rattle.witnesses.proofs.Splice.{splice, length-splice, spread, length-spread, at-spread, withLog, rests-with, extent-with, at-spliced, at-spread-with}

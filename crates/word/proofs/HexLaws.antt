@@ -1,13 +1,13 @@
 -- Hex digits: what is written reads back, and reading succeeds exactly on what writing makes. Assumes nothing.
 use mathlib.Core.Path.{_≡_, refl, sym, ap, ap₂, _∙_}
-use mathlib.Core.Bool.{Bool, true, false, cond}
+use mathlib.Core.Bool.{Bool, true, false}
 use mathlib.Core.List.{List, [], _∷_, _++_, map, map-append}
 use Prim.Native.Nat.{ℕ, zero, suc, _+_, _-_, _*_, _/_, _%_, _^_, _<_}
 use native.Mathlib.Omega.{arith}
 use lib.Dec.{ltb}
 use borrow.Author.Tests.{ltb-true, ltb-false, lt-ltb, le-ltb}
 use lib.ListN.{length, length-append, length-map}
-use Rattle.ground.proofs.Choices.{and-true}
+use Rattle.ground.proofs.Choices.{and-true, cond-ind}
 use Rattle.word.specs.Number.{digits, valueFrom, Below, below, small}
 use Rattle.word.specs.declared.hex.Hex.the-variants.{Value, Bad}
 use Rattle.word.specs.Hex.{digitChar, charDigit, hex, isHex, hexValue, readFrom, readHex, hexBytes, readBytes, reading, readHexBytes}
@@ -16,28 +16,23 @@ use Rattle.word.specs.Promises.{ValueOfHex, HexOfValue}
 
 -- ---- one digit
 
--- a computed test, by cases
-cond-cases : (P : ℕ → Type 0) (t : Bool) (x y : ℕ) → (t ≡ true → P x) → (t ≡ false → P y) → P (cond t x y)
-cond-cases P true x y f g = f refl
-cond-cases P false x y f g = g refl
-
 pub charDigit-digitChar : (d : ℕ) → d < 16 → charDigit (digitChar d) ≡ d
 unfolding digitChar charDigit
 charDigit-digitChar d h =
-    cond-cases (λ (c : ℕ). charDigit c ≡ d) (ltb d 10) (48 + d) (87 + d)
+    cond-ind (λ (c : ℕ). charDigit c ≡ d) (ltb d 10) (48 + d) (87 + d)
     (λ p. rw (lt-ltb (48 + d) 58 (omega (arith, ltb-true d 10 p)), le-ltb (48 + d) 48 (omega arith)) (omega arith))
     (λ p. rw (le-ltb (87 + d) 58 (omega arith), le-ltb (87 + d) 97 (omega (arith, ltb-false d 10 p)), lt-ltb (87 + d) 103 (omega arith)) (omega arith))
 
 pub digitChar-charDigit : (c : ℕ) → charDigit c < 16 → digitChar (charDigit c) ≡ c
 unfolding digitChar charDigit
 digitChar-charDigit c =
-    cond-cases Back (ltb c 58) _ _
-    (λ p. cond-cases Back (ltb c 48) _ _
+    cond-ind Back (ltb c 58) _ _
+    (λ p. cond-ind Back (ltb c 48) _ _
     (λ _ h. absurd (omega arith))
     (λ q h. rw (lt-ltb (c - 48) 10 (omega (arith, ltb-true c 58 p))) (omega (arith, ltb-false c 48 q))))
-    (λ _. cond-cases Back (ltb c 97) _ _
+    (λ _. cond-ind Back (ltb c 97) _ _
     (λ _ h. absurd (omega arith))
-    (λ q. cond-cases Back (ltb c 103) _ _
+    (λ q. cond-ind Back (ltb c 103) _ _
     (λ _ h. rw (le-ltb (c - 87) 10 (omega (arith, ltb-false c 97 q))) (omega (arith, ltb-false c 97 q)))
     (λ _ h. absurd (omega arith))))
   where
@@ -46,7 +41,7 @@ digitChar-charDigit c =
 
 pub digitChar-lt : (d : ℕ) → d < 16 → digitChar d < 256
 unfolding digitChar
-digitChar-lt d h = cond-cases (λ (c : ℕ). c < 256) (ltb d 10) (48 + d) (87 + d) (λ _. omega arith) (λ _. omega arith)
+digitChar-lt d h = cond-ind (λ (c : ℕ). c < 256) (ltb d 10) (48 + d) (87 + d) (λ _. omega arith) (λ _. omega arith)
 
 pub small-digitChar : (n : ℕ) → ltb (digitChar (n % 16)) 256 ≡ true
 small-digitChar n = lt-ltb (digitChar (n % 16)) 256 (digitChar-lt (n % 16) (omega arith))

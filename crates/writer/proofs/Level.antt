@@ -1,44 +1,23 @@
 -- The pieces of a source stored one after the other: what is left to store, and the scores at the front of the buffer.
-use mathlib.Core.Path.{_≡_, refl, sym, ap, ap₂, _∙_}
-use mathlib.Core.Bool.{Bool, true, false, cond}
+use mathlib.Core.Path.{_≡_, sym, ap, ap₂, _∙_}
 use mathlib.Core.List.{List, [], _∷_, _++_, append-assoc, append-nil}
-use mathlib.Core.Option.{Option, none, some}
 use Prim.Native.Nat.{ℕ, zero, suc, _+_, _-_, _*_, _≤_, _<_}
 use native.Mathlib.Omega.{arith}
 use lib.ListN.{length, take, drop}
-use Rattle.ground.specs.Choice.{on}
-use Rattle.buffer.specs.Bytes.{Bytes, same, put}
+use Rattle.buffer.specs.Bytes.{Bytes, put}
 use Rattle.buffer.proofs.Put.{take-put, drop-put}
 use Rattle.sha1.specs.Sha1.{sha1Of}
 use Rattle.sha1.proofs.Digest.{digest-length}
 use Rattle.refusal.specs.declared.Refusal.{Refusal}
 use Rattle.tree.specs.Tree.{piece}
-use Rattle.refusal.specs.declared.Refusal.the-variants.{NoRoom, Clash}
-use Rattle.block.specs.Block.{Row}
-use Rattle.block.specs.Log.{used}
-use Rattle.log.specs.Parts.{Lent, oneLog, roomFor, appendRow}
-use Rattle.log.specs.LookUp.{held}
-use Rattle.log.specs.Store.{AfterStore, afterStore, receipt, newRow, partsFor, appended, compared, store}
-use Rattle.log.specs.declared.Stored.{Stored}
-use Rattle.log.specs.declared.Stored.the-variants.{New, Duplicate, Refused as NotStored}
+use Rattle.log.specs.Parts.{Lent}
+use Rattle.log.specs.Store.{AfterStore, afterStore, receipt, store}
 use Rattle.log.specs.declared.Receipt.{Receipt}
+use Rattle.log.proofs.Receipts.{store-score}
 use Rattle.writer.specs.Blocks.{Typed, cutBlock, blocksFrom, scoresOf}
 use Rattle.writer.specs.WriteFile.{endOf, AfterAll, afterAll, onward, storeAll}
 use Rattle.writer.specs.declared.End.{End}
 use Rattle.writer.specs.declared.End.the-variants.{Done, Refused}
-
--- the receipt has the score of the data
-pub store-score : (L : Lent) (date : Bytes) (t : ℕ) (d : Bytes) → store L date t d .receipt .score ≡ sha1Of d
-unfolding store
-store-score L date t d = go (held (oneLog L) t (sha1Of d))
-  where
-    by-test : (b : Bool) (x y : Stored) (M : Lent) → cond b (afterStore (receipt (sha1Of d) x) M) (afterStore (receipt (sha1Of d) y) L) .receipt .score ≡ sha1Of d
-    by-test true x y M = refl
-    by-test false x y M = refl
-
-    go : (o : Option Row) → on o (appended L date t d) (λ (r : Row). compared L (r .bytes) (r .first) d) .receipt .score ≡ sha1Of d
-    go none = by-test (roomFor L (partsFor date d)) (New (record { 0 = used (oneLog L) })) (NotStored NoRoom) (appendRow L (newRow L date t d))
-    go (some r) = by-test (same (r .bytes) d) (Duplicate (record { 0 = r .first })) (NotStored Clash) L
 
 module _ (kind w : ℕ) (src date : Bytes) (L₀ : Lent) (n : ℕ) where
   -- the blocks from i on

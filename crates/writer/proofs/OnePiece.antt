@@ -5,7 +5,7 @@ use Prim.Native.Nat.{ℕ, _+_, _-_, _*_, _/_, _%_, _≤_, _<_, min}
 use native.Mathlib.Nat.{mul-assoc, mul-le-mul-right}
 use native.Mathlib.Omega.{arith}
 use lib.Dec.{leb}
-use lib.ListN.{length, take, drop, length-take, length-drop}
+use lib.ListN.{length, take, drop, length-drop}
 use lib.Seq.{take-all, drop-drop}
 use borrow.Author.Tests.{leb-true, leb-false}
 use Rattle.buffer.specs.Bytes.{Bytes}
@@ -23,9 +23,6 @@ part-piece w i to b e = go (leb (w * i + w) (length b)) refl
     go false q =
         let h = leb-false (w * i + w) (length b) q in
         take-all (to - w * i) (drop (w * i) b) (omega (arith, length-drop (w * i) b)) ∙ sym (take-all w (drop (w * i) b) (omega (arith, length-drop (w * i) b)))
-
-pub part-length : (from to : ℕ) (b : Bytes) → to ≤ length b → length (take (to - from) (drop from b)) ≡ to - from
-part-length from to b h = simp (length-take, length-drop) (omega arith)
 
 -- in a buffer of which only bytes before the piece have changed
 pub part-unchanged : (w i to : ℕ) (b b′ : Bytes) → 20 ≤ w → to ≡ min (w * i + w) (length b) → drop (20 * i) b′ ≡ drop (20 * i) b

@@ -20,7 +20,7 @@ use Rattle.log.specs.LookUp.{lentAllowed}
 use Rattle.entry.specs.Made.{madeEntry}
 use Rattle.writer.specs.Blocks.{fileBlocks, topOf, topScore}
 use Rattle.writer.specs.Depth.{depthOf}
-use Rattle.writer.specs.WriteFile.{AfterAll, afterAll, storeAll, Outcome, outcome, entryAfter, clearedTo, entryOver, wrote, buffersAllowed, writeFile}
+use Rattle.writer.specs.WriteFile.{AfterAll, afterAll, storeAll, WriteOutcome, outcome, entryAfter, clearedTo, entryOver, wrote, buffersAllowed, writeFile}
 use Rattle.writer.specs.declared.End.{End}
 use Rattle.writer.specs.declared.End.the-variants.{Done, Refused}
 
@@ -43,7 +43,7 @@ module _ (log w date slice : Bytes) (dsize psize : ℕ) (entry scores : Bytes) (
     (b : afterAll r L′ ≡ storeAll (beside log w) date (fileBlocks slice dsize psize depth)) (part : Bytes)
     (t : r ≡ Done → topOf part ≡ topScore slice dsize psize depth) (n : ℕ) (en : n ≡ 20 * partsOf dsize (length slice)) (le : n ≤ length scores) (z : Bytes)
     (s : z ≡ replicate (length (take n (part ++ drop n scores))) 0) where
-  abbrev all : AfterAll → Bytes → Outcome
+  abbrev all : AfterAll → Bytes → WriteOutcome
   all a x = outcome (a .end) (a .lent) (entryAfter (a .end) entry (entryOver slice dsize psize depth)) x
 
   pub tested-refused : (y : Refusal) → r ≡ Refused y → length part ≡ length (take n scores)
@@ -66,10 +66,10 @@ module _ (log w date slice : Bytes) (dsize psize : ℕ) (entry scores : Bytes) (
 -- ---- the tests, in their order
 
 module _ (log w date slice : Bytes) (dsize psize : ℕ) (entry scores : Bytes) where
-  abbrev refusal : Refusal → Outcome
+  abbrev refusal : Refusal → WriteOutcome
   refusal y = outcome (Refused y) (beside log w) entry scores
 
-  abbrev whole : Outcome
+  abbrev whole : WriteOutcome
   whole = writeFile log w date slice dsize psize entry scores
 
   pub entry-short : (length entry ≡ 40 → ⊥) → refusal why.Buffer ≡ whole

@@ -55,13 +55,13 @@ storeAll L date (x ∷ xs) =
     (storeAll (store L date (x .kind) (x .bytes) .lent) date xs)
 
 -- the whole outcome: how it ended, the log with its waiting part, and the lent buffers of the entry and of the scores to their last byte
-pub record Outcome : Type 0 where
+pub record WriteOutcome : Type 0 where
   pub end : End
   pub lent : Lent
   pub entry : Bytes
   pub scores : Bytes
 
-abbrev pub outcome : End → Lent → Bytes → Bytes → Outcome
+abbrev pub outcome : End → Lent → Bytes → Bytes → WriteOutcome
 outcome e L entry scores = record { end = e; lent = L; entry = entry; scores = scores }
 
 -- "Hands back the entry's 40 bytes": in the lent buffer, which on a refusal "stays unchanged"
@@ -78,7 +78,7 @@ abbrev pub entryOver : Bytes → ℕ → ℕ → ℕ → Bytes
 entryOver slice dsize psize depth = madeEntry psize dsize depth (length slice) (topScore slice dsize psize depth)
 
 -- the blocks stored, and the entry over them; the scores were written to the front of their lent buffer, which is zeros then
-abbrev pub wrote : Bytes → Bytes → Bytes → Bytes → ℕ → ℕ → Bytes → Bytes → ℕ → Outcome
+abbrev pub wrote : Bytes → Bytes → Bytes → Bytes → ℕ → ℕ → Bytes → Bytes → ℕ → WriteOutcome
 wrote log waiting date slice dsize psize entry scores depth =
     let a = storeAll (beside log waiting) date (fileBlocks slice dsize psize depth) in
     outcome (a .end) (a .lent) (entryAfter (a .end) entry (entryOver slice dsize psize depth)) (clearedTo (20 * partsOf dsize (length slice)) scores)
@@ -91,9 +91,9 @@ unfoldable pub buffersAllowed : ℕ → ℕ → Bool
 buffersAllowed entry scores = eqb entry 40 && leb scoreRoom scores
 
 -- "Tests 3, 24, 10, 16 .. all before the first block", after that of the lent buffers; a refusal by them changes nothing
-unfoldable pub writeFile : Bytes → Bytes → Bytes → Bytes → ℕ → ℕ → Bytes → Bytes → Outcome
+unfoldable pub writeFile : Bytes → Bytes → Bytes → Bytes → ℕ → ℕ → Bytes → Bytes → WriteOutcome
 writeFile log waiting date slice dsize psize entry scores =
-    let refused : Refusal → Outcome = λ w. outcome (Refused w) (beside log waiting) entry scores in
+    let refused : Refusal → WriteOutcome = λ w. outcome (Refused w) (beside log waiting) entry scores in
     cond (not (buffersAllowed (length entry) (length scores))) (refused why.Buffer)
     (cond (not (lentAllowed (length log) (length waiting))) (refused why.LogLength)
     (cond (not (isDate date)) (refused why.Date)

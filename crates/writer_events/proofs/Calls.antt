@@ -20,7 +20,7 @@ use Rattle.demands.specs.Ledger.{Answer}
 use Rattle.demands.specs.Instance.{archive}
 use Rattle.demands.proofs.Lawful.{lawful}
 use Rattle.writer.specs.Blocks.{Typed}
-use Rattle.writer.specs.WriteFile.{endNumber, Outcome}
+use Rattle.writer.specs.WriteFile.{endNumber, WriteOutcome}
 use Rattle.writer.proofs.Depth.{depth-lies, least-found}
 use Rattle.writer_laws.specs.Held.{AllWritable}
 use Rattle.writer_laws.specs.Asking.{asked, requests, lastOr}
@@ -42,7 +42,7 @@ module _ (log w : Bytes) (past : List Session) (b : Books archive) (c : Call) (s
   abbrev L : Lent
   L = beside log w
 
-  abbrev o : Outcome
+  abbrev o : WriteOutcome
   o = called L c
 
   -- what is seen of the call by a verdict is the ledger's, and so is what it leaves
@@ -53,8 +53,8 @@ module _ (log w : Bytes) (past : List Session) (b : Books archive) (c : Call) (s
   unfolding Alike
   refused-alike y e =
       let is = refused-call log w c y e in
-      let lent = ap (λ (x : Outcome). x .lent) is in (
-        ap₂ wrote (ap (λ (x : Outcome). endNumber (x .end)) is) (lent ∙ S .since),
+      let lent = ap (λ (x : WriteOutcome). x .lent) is in (
+        ap₂ wrote (ap (λ (x : WriteOutcome). endNumber (x .end)) is) (lent ∙ S .since),
         subst (λ (s : Standing archive). Stands archive s b) (λ i. record { log = sym lent i; past = sym (append-nil past) i }) S,
       )
 

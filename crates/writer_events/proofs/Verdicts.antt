@@ -17,7 +17,7 @@ use Rattle.sector.specs.Sector.{isDate}
 use Rattle.log.specs.Parts.{beside}
 use Rattle.log.specs.LookUp.{lentAllowed}
 use Rattle.writer.specs.Depth.{depthOf}
-use Rattle.writer.specs.WriteFile.{Outcome, outcome, wrote, scoreRoom, buffersAllowed, writeFile}
+use Rattle.writer.specs.WriteFile.{WriteOutcome, outcome, wrote, scoreRoom, buffersAllowed, writeFile}
 use Rattle.writer.specs.declared.End.the-variants.{Refused}
 use Rattle.writer_events.specs.Happenings.{Call, Verdict, refusedBy, passesAt, verdict, called}
 
@@ -62,14 +62,14 @@ passes m w c d e =
 
 -- a call that they refuse
 module _ (log w : Bytes) (c : Call) where
-  abbrev refused : Refusal → Outcome
+  abbrev refused : Refusal → WriteOutcome
   refused y = outcome (Refused y) (beside log w) (c .entry) (c .scores)
 
-  abbrev judged : Verdict → Outcome
+  abbrev judged : Verdict → WriteOutcome
   judged (refusedBy y) = refused y
   judged (passesAt d) = wrote log w (c .date) (c .slice) (c .dsize) (c .psize) (c .entry) (c .scores) d
 
-  test : (b : Bool) (y : Refusal) (x : Outcome) (v : Verdict) → x ≡ judged v → cond b (refused y) x ≡ judged (cond b (refusedBy y) v)
+  test : (b : Bool) (y : Refusal) (x : WriteOutcome) (v : Verdict) → x ≡ judged v → cond b (refused y) x ≡ judged (cond b (refusedBy y) v)
   test true y x v e = refl
   test false y x v e = e
 

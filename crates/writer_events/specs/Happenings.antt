@@ -28,7 +28,7 @@ use Rattle.events.specs.Events.{Past}
 use Rattle.trees.specs.Again.{waitingOf}
 use Rattle.writer.specs.Blocks.{Typed, fileBlocks}
 use Rattle.writer.specs.Depth.{depthOf}
-use Rattle.writer.specs.WriteFile.{endNumber, Outcome, buffersAllowed, writeFile}
+use Rattle.writer.specs.WriteFile.{endNumber, WriteOutcome, buffersAllowed, writeFile}
 use Rattle.writer_laws.specs.Asking.{asked, requests, lastOr}
 
 -- what a writing call is given beside the log and its waiting part
@@ -69,7 +69,7 @@ blocksAt depth c = fileBlocks (c .slice) (c .dsize) (c .psize) depth
 
 -- ---- as the archive answers
 
-abbrev pub called : Lent → Call → Outcome
+abbrev pub called : Lent → Call → WriteOutcome
 called L c = writeFile (L .log) (waitingOf L) (c .date) (c .slice) (c .dsize) (c .psize) (c .entry) (c .scores)
 
 -- the sessions that its messages would leave, so that later messages count on from them: a hello's, and one for each block asked for

@@ -1,19 +1,18 @@
 -- A writing call and the write messages of its blocks leave the same log.
 use mathlib.Core.Path.{_≡_, refl, sym, ap, ap₂, _∙_, subst}
-use mathlib.Core.Bool.{Bool, true, false, _&&_, _||_, true≢false}
+use mathlib.Core.Bool.{true}
 use mathlib.Core.List.{List, [], _∷_, _++_, map, append-nil, append-assoc}
 use mathlib.Core.Option.{some}
 use Prim.Native.Nat.{ℕ, zero, suc, _+_, _-_, _/_, _≤_, _<_}
 use native.Mathlib.Omega.{arith}
-use lib.Dec.{leb, eqb}
 use lib.ListN.{length, getD, take, replicate, length-append}
 use lib.Seq.{take-at}
-use borrow.Author.Tests.{le-leb, leb-true, eq-eqb, eqb-true, le-ltb, lt-ltb}
+use borrow.Author.Tests.{le-leb, eq-eqb, le-ltb, lt-ltb}
 use Rattle.buffer.specs.Bytes.{Bytes}
 use Rattle.buffer.proofs.Bytes.{small-append}
 use Rattle.word.specs.Number.{small, digits, valueFrom, beNumber}
 use Rattle.word.proofs.NumberLaws.{length-digits, value-digits, below-digits}
-use Rattle.kind.specs.Kind.{lawful}
+use Rattle.kind.proofs.Types.{lawful-lt}
 use Rattle.sector.specs.Sector.{isDate}
 use Rattle.log.specs.Parts.{Lent, beside}
 use Rattle.log.specs.LookUp.{lentAllowed}
@@ -35,7 +34,7 @@ use Rattle.promises.specs.Requests.{Writes}
 use Rattle.demands.proofs.Seen.{kept}
 use Rattle.promises.proofs.Greeted.{write-step}
 use Rattle.writer.specs.Blocks.{Typed, fileBlocks}
-use Rattle.writer.specs.WriteFile.{endOf, endNumber, Outcome, onward, storeAll}
+use Rattle.writer.specs.WriteFile.{endOf, endNumber, WriteOutcome, onward, storeAll}
 use Rattle.writer.specs.declared.End.{End}
 use Rattle.writer.specs.declared.End.the-variants.{Done, Refused}
 use Rattle.writer.proofs.Depth.{depth-lies, least-found}
@@ -45,27 +44,11 @@ use Rattle.writer_laws.specs.Asking.{going, asked, numbers, helloMessage
 use Rattle.writer_laws.proofs.Held.{one-kept}
 use Rattle.writer_laws.proofs.Written.{writable-file}
 
-or-none : (a : Bool) → ((a && false) || false) ≡ false
-or-none true = refl
-or-none false = refl
-
--- a type is a byte
-kind-small : (t : ℕ) → lawful t ≡ true → t < 256
-unfolding lawful
-kind-small t l = go (leb t 9) refl (eqb t 13) refl
-  where
-    go : (a : Bool) → leb t 9 ≡ a → (b : Bool) → eqb t 13 ≡ b → t < 256
-    go true p b q = omega (arith, leb-true t 9 p)
-    go false p true q = omega (arith, eqb-true t 13 q)
-    go false p false q =
-        let n : ((leb 1 t && false) || false) ≡ true = sym (ap₂ (λ (a b : Bool). (leb 1 t && a) || b) p q) ∙ l in
-        absurd (true≢false (sym n ∙ or-none (leb 1 t)))
-
 -- ---- the messages
 
 -- those of a block that may be written are of bytes
 small-kind : (x : Typed) → Writable x → small (14 ∷ 0 ∷ x .kind ∷ 0 ∷ 0 ∷ 0 ∷ x .bytes) ≡ true
-small-kind x W = rw (lt-ltb (x .kind) 256 (kind-small (x .kind) (W .0))) (W .2)
+small-kind x W = rw (lt-ltb (x .kind) 256 (lawful-lt (x .kind) (W .0))) (W .2)
 
 pub small-message : (x : Typed) → Writable x → small (writeMessage x) ≡ true
 small-message x W =
@@ -253,4 +236,4 @@ writing-is-asking log w date slice dsize psize entry scores buffer past depth sm
     let S = writes-are-stores log w date buffer past xs al da ro (writable-file slice dsize psize depth (lies .dsize-to) (lies .psize-from) (lies .psize-to) few sm) in
     let p = tests-passed log w date slice dsize psize entry scores en sc true (sym al) refl true (sym da) refl sh depth de in
     let n = suc (length (asked (beside log w) date xs)) in
-    (S .0, S .1 ∙ ap (λ (o : Outcome). record { log = o .lent; past = past ++ replicate n Greeted }) p, S .2, sym (ap (λ (o : Outcome). endNumber (o .end)) p) ∙ ends-as-last (beside log w) date xs)
+    (S .0, S .1 ∙ ap (λ (o : WriteOutcome). record { log = o .lent; past = past ++ replicate n Greeted }) p, S .2, sym (ap (λ (o : WriteOutcome). endNumber (o .end)) p) ∙ ends-as-last (beside log w) date xs)

@@ -10,7 +10,7 @@ use lib.Dec.{leb, ltb, eqb}
 use lib.ListN.{length, take, drop, getD, length-take, length-drop}
 use lib.Seq.{getD-take, getD-drop}
 use borrow.Author.Tests.{le-leb, eq-eqb}
-use Rattle.ground.proofs.Choices.{cond-ind}
+use Rattle.ground.proofs.Choices.{cond-ind, some-same}
 use Rattle.buffer.specs.Bytes.{Bytes, same}
 use Rattle.buffer.proofs.Bytes.{same-refl}
 use Rattle.sha1.specs.Sha1.{sha1Of}
@@ -27,7 +27,6 @@ use Rattle.leaf.specs.Leaf.{leafRun, pointerIndex, under}
 use Rattle.file_laws.specs.Bytes.{byteUnder}
 use Rattle.file_laws.proofs.Extents.{Reads}
 use Rattle.demands.proofs.Seen.{held-zero}
-use Rattle.demands.proofs.First.{same-some}
 use Rattle.writer.specs.Blocks.{Typed, cutBlock, blocksFrom, level, leaves, scoresOf, scoresAt, widthOf}
 use Rattle.writer.proofs.Levels.{length-level, pointer-type}
 use Rattle.writer.proofs.Cutting.{data-lawful}
@@ -47,7 +46,7 @@ holds-at log kind w b (suc k) i (suc j) H h =
 -- bytes of the zero score that are held are none
 pub zero-empty : (log : Bytes) (x : Typed) → lawful (x .kind) ≡ true → Holds log x → same (sha1Of (x .bytes)) zeroScore ≡ true → x .bytes ≡ []
 zero-empty log x l H z =
-    let e : H .0 ≡ emptyRow (x .kind) = same-some (H .0) (emptyRow (x .kind)) (sym (H .1) ∙ held-zero log (x .kind) (sha1Of (x .bytes)) l z) in
+    let e : H .0 ≡ emptyRow (x .kind) = some-same (H .0) (emptyRow (x .kind)) (sym (H .1) ∙ held-zero log (x .kind) (sha1Of (x .bytes)) l z) in
     sym (H .2) ∙ ap (λ (r : Row). r .bytes) e
 
 pub zero-left : (n : ℕ) → 0 + n ≡ n

@@ -9,7 +9,7 @@ use native.Mathlib.Omega.{arith}
 use lib.ListN.{length}
 use Rattle.ground.specs.Choice.{on}
 use Rattle.buffer.specs.Bytes.{Bytes, same}
-use Rattle.buffer.proofs.Bytes.{same-true}
+use Rattle.buffer.proofs.Bytes.{same-true, no-bytes}
 use Rattle.sha1.specs.Sha1.{sha1Of}
 use Rattle.refusal.specs.declared.Refusal.{Refusal}
 use Rattle.refusal.specs.declared.Refusal.the-variants.{NoRoom, Clash}
@@ -23,8 +23,9 @@ use Rattle.log.specs.Store.{AfterStore, afterStore, receipt, newRow, partsFor, 
 use Rattle.log.specs.declared.Stored.{Stored}
 use Rattle.log.specs.declared.Stored.the-variants.{New, Duplicate, Refused as NotStored}
 use Rattle.log.proofs.Written.{held-written, held-appended}
+use Rattle.log.proofs.Allowed.{row-valid}
 use Rattle.demands.proofs.Seen.{held-zero, empty-score}
-use Rattle.demands.proofs.TellAdds.{date-or-none, row-valid, log-allowed-of}
+use Rattle.demands.proofs.TellAdds.{date-or-none, log-allowed-of}
 use Rattle.demands.proofs.LentLaws.{room-one, one-appended, extent-written, start-before, room-same}
 use Rattle.demands.specs.Ledger.{Extent}
 use Rattle.writer.specs.Blocks.{Typed}
@@ -79,10 +80,6 @@ pub none-left : (a : AfterAll) (date : Bytes) (rest : List Typed) → EndedAt a 
 none-left a date [] E e = refl
 none-left a date (x ∷ xs) E e = let c = sym (E .1) ∙ e in let z : _≡_ {A = ℕ} 0 1 = cc in absurd (omega arith)
 
-no-bytes : (d : Bytes) → length d ≡ 0 → d ≡ []
-no-bytes [] e = refl
-no-bytes (a ∷ d) e = absurd (omega arith)
-
 -- the empty block is always held
 empty-held : (log : Bytes) (t : ℕ) (d : Bytes) → lawful t ≡ true → d ≡ [] → held log t (sha1Of d) ≡ none → ⊥
 empty-held log t d l e h =
@@ -124,7 +121,7 @@ module _ (log w date : Bytes) (x : Typed) (allowed : lentAllowed (length log) (l
       go true q =
           let room = room-one log (some w) (partsFor date d) q in
           let v : valid (newRow L date (x .kind) d) ≡ true =
-          row-valid date (x .kind) d (used (oneLog L)) (length log) (date-or-none (some date) dated) (log-allowed-of log (some w) allowed) (W .0) (W .1) some-bytes (W .2) (room .1) in
+          row-valid date (x .kind) d (used (oneLog L)) (length log) (date-or-none (some date) dated) (log-allowed-of log (some w) allowed) (W .0) (W .1) (omega (arith, some-bytes)) (W .2) (room .1) in
           let r = newRow L date (x .kind) d in
           let one : tape log (writtenFrom (used log) w r) ≡ writtenIn (tape log w) r = one-appended log (some w) r refl in
           let ext = extent-written r v log (some w) (start-before log (some w))

@@ -11,6 +11,7 @@ use lib.ListN.{length, take, drop, getD, take-append-drop, length-drop}
 use lib.Seq.{ext-getD, getD-take, getD-drop, length-take-le}
 use borrow.Author.Tests.{le-leb, le-ltb, ne-eqb, eq-eqb}
 use Rattle.ground.specs.Choice.{on}
+use Rattle.ground.proofs.Choices.{some-same}
 use Rattle.buffer.specs.Bytes.{Bytes}
 use Rattle.word.specs.Number.{small}
 use Rattle.refusal.specs.declared.Refusal.the-variants.{Offset}
@@ -40,7 +41,7 @@ use Rattle.promises.specs.Histories.{Keeps, afterwards}
 use Rattle.promises.proofs.Keeps.{list-keeps}
 use Rattle.trees.specs.Again.{waitingOf}
 use Rattle.writer.specs.Blocks.{Typed, leaves, scoresOf, scoresAt, pointerBlocks, widthOf, fileBlocks, topOf, topScore}
-use Rattle.writer.specs.WriteFile.{Outcome, storeAll, entryAfter, entryOver, writeFile}
+use Rattle.writer.specs.WriteFile.{WriteOutcome, storeAll, entryAfter, entryOver, writeFile}
 use Rattle.writer.specs.declared.End.{End}
 use Rattle.writer.specs.declared.End.the-variants.{Done}
 use Rattle.writer.proofs.Depth.{depth-lies, least-found}
@@ -49,9 +50,6 @@ use Rattle.writer_laws.specs.ReadBack.{Reads, ReadsBack, ReadsBackLater}
 use Rattle.writer_laws.proofs.Held.{none-left, stays}
 use Rattle.writer_laws.proofs.Back.{count, length-at, read-at}
 use Rattle.writer_laws.proofs.Written.{writable-file, holds-both, holds-level, Passed, passed}
-
-unwrap : (a b : ℕ) → _≡_ {A = Option ℕ} (some a) (some b) → a ≡ b
-unwrap a b e = ap (λ (o : Option ℕ). on o 0 (λ n. n)) e
 
 -- the entry that is handed back, and what is read of it
 module _ (slice : Bytes) (dsize psize depth : ℕ) (d-from : 1 ≤ dsize) (d-to : dsize ≤ longest) (p-from : 40 ≤ psize) (p-to : psize ≤ longest)
@@ -147,7 +145,7 @@ module _ (slice : Bytes) (dsize psize depth : ℕ) (d-from : 1 ≤ dsize) (d-to 
         ext-getD 0 (laid (length slice) log w page made 0) slice long
         (λ i h. let inside : i < length slice = omega arith in
         let got = sym (whole .1 i (omega (arith, size-is))) ∙ read-byte i inside (tape log w) 0 H in
-        ap (λ (x : Bytes). getD x i 0) (sym same-laid) ∙ unwrap _ _ got)
+        ap (λ (x : Bytes). getD x i 0) (sym same-laid) ∙ some-same _ _ got)
 
     -- a buffer filled from an offset on
     module _ (o : ℕ) (d : Bytes) where
@@ -167,7 +165,7 @@ module _ (slice : Bytes) (dsize psize depth : ℕ) (d-from : 1 ≤ dsize) (d-to 
           let front : take n (r .buffer) ≡ take n (drop o slice) =
           ext-getD 0 (take n (r .buffer)) (take n (drop o slice)) (length-take-le n (r .buffer) room ∙ sym (length-take-le n (drop o slice) (omega (arith, length-drop o slice))))
           (λ i h. let g : i < n = omega (arith, h, length-take-le n (r .buffer) room) in
-          getD-take n (r .buffer) i 0 g ∙ unwrap _ _ (sym (G .2 i (omega (arith, counted))) ∙ read-byte (o + i) (omega arith) (tape log w) 0 H)
+          getD-take n (r .buffer) i 0 g ∙ some-same _ _ (sym (G .2 i (omega (arith, counted))) ∙ read-byte (o + i) (omega arith) (tape log w) 0 H)
           ∙ sym (getD-take n (drop o slice) i 0 g ∙ getD-drop o slice i 0)) in
           let rest : drop n (r .buffer) ≡ drop n d = ap (λ (k : ℕ). drop k (r .buffer)) (sym counted) ∙ G .3 ∙ ap (λ (k : ℕ). drop k d) counted in
           let all : r .buffer ≡ take n (drop o slice) ++ drop n d = sym (take-append-drop n (r .buffer)) ∙ ap₂ _++_ front rest in
@@ -206,15 +204,15 @@ module _ (log w date slice : Bytes) (dsize psize : ℕ) (entry scores : Bytes) (
       let few = least-found (length slice) dsize (psize / 20) d (lies .least) .0 in
       let xs = fileBlocks slice dsize psize d in
       let S = stays log w date xs (T .lent) (T .dated) (writable-file slice dsize psize d (lies .dsize-to) (lies .psize-from) (lies .psize-to) few sm) in
-      let ended : storeAll (beside log w) date xs .end ≡ Done = sym (ap (λ (o : Outcome). o .end) (T .is)) ∙ done in
+      let ended : storeAll (beside log w) date xs .end ≡ Done = sym (ap (λ (o : WriteOutcome). o .end) (T .is)) ∙ done in
       let before = S .1 in
       let all : xs ≡ before = all-before xs before (S .2) (S .5) (none-left (storeAll (beside log w) date xs) date (S .2) (S .9) ended) in
       record {
         tests = T;
         part = S .0;
-        lent = ap (λ (o : Outcome). o .lent) (T .is) ∙ S .3;
+        lent = ap (λ (o : WriteOutcome). o .lent) (T .is) ∙ S .3;
         long = S .4;
-        handed = ap (λ (o : Outcome). o .entry) (T .is) ∙ ap (λ (e : End). entryAfter e entry (entryOver slice dsize psize d)) ended;
+        handed = ap (λ (o : WriteOutcome). o .entry) (T .is) ∙ ap (λ (e : End). entryAfter e entry (entryOver slice dsize psize d)) ended;
         holds = subst (HoldsAll (tape log (S .0))) (sym all) (S .7);
       }
 

@@ -18,7 +18,7 @@ use Rattle.demands.specs.Instance.{archive}
 use Rattle.promises.specs.Histories.{Keeps, afterwards}
 use Rattle.promises.proofs.Keeps.{list-keeps}
 use Rattle.writer.specs.Blocks.{fileBlocks}
-use Rattle.writer.specs.WriteFile.{Outcome, entryOver, writeFile}
+use Rattle.writer.specs.WriteFile.{WriteOutcome, entryOver, writeFile}
 use Rattle.writer.specs.declared.End.the-variants.{Done}
 use Rattle.writer.proofs.Depth.{Lies, depth-lies}
 use Rattle.writer_laws.specs.Held.{HoldsAll}
@@ -32,7 +32,7 @@ Ever slice dsize psize P = (log : Bytes) (depth : ℕ) → Lies (length slice) d
 
 module _ (P : Bytes → Bytes → Type 0) (log w date slice : Bytes) (dsize psize : ℕ) (entry scores : Bytes) (ever : Ever slice dsize psize P) (sm : small slice ≡ true)
     (done : writeFile log w date slice dsize psize entry scores .end ≡ Done) where
-  abbrev o : Outcome
+  abbrev o : WriteOutcome
   o = writeFile log w date slice dsize psize entry scores
 
   abbrev D : Done-with log w date slice dsize psize entry scores

@@ -19,7 +19,7 @@ use Rattle.log.specs.LookUp.{lentAllowed}
 use Rattle.log.specs.Store.{store}
 use Rattle.writer.specs.Blocks.{Typed, fileBlocks}
 use Rattle.writer.specs.Depth.{depthOf}
-use Rattle.writer.specs.WriteFile.{endOf, Outcome, onward, storeAll, outcome, wrote, buffersAllowed, writeFile}
+use Rattle.writer.specs.WriteFile.{endOf, WriteOutcome, onward, storeAll, outcome, wrote, buffersAllowed, writeFile}
 use Rattle.writer.specs.declared.End.{End}
 use Rattle.writer.specs.declared.End.the-variants.{Done, Refused}
 use Rattle.writer_laws.specs.Asking.{RefusedWritesNothing}
@@ -49,7 +49,7 @@ refused-writes-nothing log w date slice dsize psize entry scores y e room clash 
     (test (ltb longest (length slice)) why.DataLength _
     (deep (depthOf (length slice) dsize psize))))) e
   where
-    test : (b : Bool) (v : Refusal) (x : Outcome) → (x .end ≡ Refused y → x ≡ outcome (Refused y) (beside log w) entry scores)
+    test : (b : Bool) (v : Refusal) (x : WriteOutcome) → (x .end ≡ Refused y → x ≡ outcome (Refused y) (beside log w) entry scores)
         → cond b (outcome (Refused v) (beside log w) entry scores) x .end ≡ Refused y
         → cond b (outcome (Refused v) (beside log w) entry scores) x ≡ outcome (Refused y) (beside log w) entry scores
     test true v x f q = ap (λ (u : Refusal). outcome (Refused u) (beside log w) entry scores) (ap why-ended q)

@@ -23,7 +23,7 @@ use Rattle.demands.proofs.LentLaws.{settle-fits, extent-settled, at-settled}
 use Rattle.trees.specs.Again.{waitingOf}
 use Rattle.writer.specs.Blocks.{Typed, fileBlocks}
 use Rattle.writer.specs.Depth.{depthOf}
-use Rattle.writer.specs.WriteFile.{AfterAll, afterAll, storeAll, Outcome, outcome, entryAfter, clearedTo, entryOver, writeFile}
+use Rattle.writer.specs.WriteFile.{AfterAll, afterAll, storeAll, WriteOutcome, outcome, entryAfter, clearedTo, entryOver, writeFile}
 use Rattle.writer.specs.declared.End.the-variants.{Done}
 use Rattle.writer.proofs.Depth.{depth-lies, least-found}
 use Rattle.writer.proofs.Tested.{tests-passed}
@@ -42,7 +42,7 @@ pub file-stays : FileStays
 file-stays log w date slice dsize psize entry scores depth sm en sc al da sh de =
     let xs = fileBlocks slice dsize psize depth in
     let p = tests-passed log w date slice dsize psize entry scores en sc true (sym al) refl true (sym da) refl sh depth de in
-    subst (λ (o : Outcome). StaysIn log w date xs (afterAll (o .end) (o .lent))) p (stays log w date xs al da (writable-deep slice dsize psize depth sm de))
+    subst (λ (o : WriteOutcome). StaysIn log w date xs (afterAll (o .end) (o .lent))) p (stays log w date xs al da (writable-deep slice dsize psize depth sm de))
 
 -- ---- blocks that are there already
 
@@ -82,7 +82,7 @@ writes-on log w date xs al da A c before rest split stored =
 module _ (date slice : Bytes) (dsize psize : ℕ) (entry scores : Bytes) (depth : ℕ) (en : length entry ≡ 40) (sc : 20 * longest ≤ length scores) (da : isDate date ≡ true)
     (sh : length slice ≤ longest) (de : depthOf (length slice) dsize psize ≡ some depth) where
   -- what a call leaves whose blocks are stored so
-  abbrev wroteIn : AfterAll → Outcome
+  abbrev wroteIn : AfterAll → WriteOutcome
   wroteIn a = outcome (a .end) (a .lent) (entryAfter (a .end) entry (entryOver slice dsize psize depth)) (clearedTo (20 * partsOf dsize (length slice)) scores)
 
   -- a call on a log with its waiting part as they are lent

@@ -25,7 +25,7 @@ use Rattle.cut.specs.Cut.{unitOf, cutLength}
 use Rattle.tree.specs.Tree.{piece}
 use Rattle.writer.specs.Blocks.{Typed, cutBlock, blocksFrom, level, leaves, scoresOf, scoresAt, pointerBlocks, widthOf, fileBlocks}
 use Rattle.writer.specs.Depth.{depthOf}
-use Rattle.writer.specs.WriteFile.{Outcome, outcome, wrote, buffersAllowed, writeFile}
+use Rattle.writer.specs.WriteFile.{WriteOutcome, outcome, wrote, buffersAllowed, writeFile}
 use Rattle.writer.specs.declared.End.the-variants.{Done, Refused}
 use Rattle.writer.proofs.Levels.{pointer-type, width-bounds}
 use Rattle.writer.proofs.Cutting.{data-lawful}
@@ -98,15 +98,15 @@ pub record Passed (log w date slice : Bytes) (dsize psize : ℕ) (entry scores :
   pub is : writeFile log w date slice dsize psize entry scores ≡ wrote log w date slice dsize psize entry scores depth
 
 module _ (log w date slice : Bytes) (dsize psize : ℕ) (entry scores : Bytes) where
-  abbrev refused : Refusal → Outcome
+  abbrev refused : Refusal → WriteOutcome
   refused y = outcome (Refused y) (beside log w) entry scores
 
   -- a test that lets through
-  past : (b : Bool) (y : Refusal) (x : Outcome) → cond b (refused y) x .end ≡ Done → (b ≡ false) × (cond b (refused y) x ≡ x) × (x .end ≡ Done)
+  past : (b : Bool) (y : Refusal) (x : WriteOutcome) → cond b (refused y) x .end ≡ Done → (b ≡ false) × (cond b (refused y) x ≡ x) × (x .end ≡ Done)
   past true y x e = let z : _≡_ {A = ℕ} 0 1 = cc in absurd (omega arith)
   past false y x e = (refl, refl, e)
 
-  deep-past : (o : Option ℕ) (f : ℕ → Outcome) → on o (refused why.Entry) f .end ≡ Done → (d : ℕ) × (o ≡ some d) × (on o (refused why.Entry) f ≡ f d)
+  deep-past : (o : Option ℕ) (f : ℕ → WriteOutcome) → on o (refused why.Entry) f .end ≡ Done → (d : ℕ) × (o ≡ some d) × (on o (refused why.Entry) f ≡ f d)
   deep-past none f e = let z : _≡_ {A = ℕ} 0 1 = cc in absurd (omega arith)
   deep-past (some d) f e = (d, refl, refl)
 

@@ -7,11 +7,12 @@ use lib.ListN.{length, take, drop, length-take, length-drop}
 use Rattle.buffer.specs.Bytes.{Bytes}
 use Rattle.word.specs.Hex.{isHex, readBytes}
 use Rattle.sector.specs.Sector.{behind}
+use Rattle.sector.proofs.Dates.{front-most}
 use Rattle.block.specs.Log.{joined, at}
 use Rattle.reader.specs.Reader.{numberOf}
 use Rattle.reader.proofs.Pieces.{length-at}
 use Rattle.reader.proofs.Digits.{number-value, number-lt, unread, bytes-read}
-use Rattle.reader.proofs.Sound.{front-bound, front-is, front-read, front-taken, field-at, no-kind, no-score, sound-read}
+use Rattle.reader.proofs.Sound.{front-is, front-read, front-taken, field-at, no-kind, no-score, sound-read}
 use borrow.Author.Needs.{needs}
 use Rattle.reader.proofs.sound_at.Statement.{statement}
 use Rattle.reader.proofs.sound_at.Tie as tie
@@ -25,16 +26,16 @@ front-length-requires c κs =
     let log = joined (a .end .0) (a .log .now) (a .waiting .now) in
     omega (arith, ap length (c .sector-at .ensures) ∙ length-at log (a .first .0))
 
-add-number-at : tie.Need-add-number-at
-add-number-at c = omega (arith, c .front-length .ensures, front-bound (c .before .sector-at .result .now))
+add-at : tie.Need-add-at
+add-at c = omega (arith, c .front-length .ensures, front-most (c .before .sector-at .result .now))
 
-add-number-at-2 : tie.Need-add-number-at-2
-add-number-at-2 c = omega (arith, c .front-length .ensures, front-bound (c .before .sector-at .result .now))
+add-last : tie.Need-add-last
+add-last c = omega (arith, c .front-length .ensures, front-most (c .before .sector-at .result .now))
 
 number-at-requires : tie.Need-number-at-requires
 number-at-requires c κs =
     let q = c .before .before .before .before .pre in
-    let h : (c .front-length .result) ≤ 14 = omega (arith, c .front-length .ensures, front-bound (c .before .sector-at .result .now)) in
+    let h : (c .front-length .result) ≤ 14 = omega (arith, c .front-length .ensures, front-most (c .before .sector-at .result .now)) in
     (q .0, q .1, omega arith, omega arith, omega arith)
 
 returns : tie.Need-returns
@@ -51,10 +52,10 @@ returns c =
     no-kind log (a .first .0) (sym digits ∙ z)
 
 add-from : tie.Need-add-from
-add-from c = omega (arith, c .before .before .front-length .ensures, front-bound (c .before .before .before .sector-at .result .now))
+add-from c = omega (arith, c .before .before .front-length .ensures, front-most (c .before .before .before .sector-at .result .now))
 
 add-to : tie.Need-add-to
-add-to c = omega (arith, c .before .before .front-length .ensures, front-bound (c .before .before .before .sector-at .result .now))
+add-to c = omega (arith, c .before .before .front-length .ensures, front-most (c .before .before .before .sector-at .result .now))
 
 slice-aggregate-read-hex-bytes : tie.Need-slice-aggregate-read-hex-bytes
 slice-aggregate-read-hex-bytes c = search needs
@@ -71,7 +72,7 @@ part-read-hex-bytes-end c = let args = c .before .before .before .before .before
     let sector-at-here = c .before .before .before .before .sector-at in
     let a = args in
     let log = joined (a .end .0) (a .log .now) (a .waiting .now) in
-    omega (arith, front-length .ensures, front-bound (sector-at-here .result .now), ap length (sector-at-here .ensures) ∙ length-at log (a .first .0))
+    omega (arith, front-length .ensures, front-most (sector-at-here .result .now), ap length (sector-at-here .ensures) ∙ length-at log (a .first .0))
 
 read-hex-bytes-requires : tie.Need-read-hex-bytes-requires
 read-hex-bytes-requires c κs = search needs
@@ -108,7 +109,7 @@ cast-sound-behind c =
     let number-at = c .before .before .before .before .before .before .before .number-at in
     let digits = number-at .ensures ∙ ap numberOf (field-at (at log (a .first .0)) k 36 2 (front-is log (a .first .0) s k (sector-at .ensures) g)) in
     let x = behind (at log (a .first .0)) in
-    let w : length (take 2 (drop 36 x)) ≡ 2 = simp (length-take, length-drop) (omega (arith, length-at log (a .first .0), front-bound (at log (a .first .0)))) in
+    let w : length (take 2 (drop 36 x)) ≡ 2 = simp (length-take, length-drop) (omega (arith, length-at log (a .first .0), front-most (at log (a .first .0)))) in
     omega (arith, digits, rw w at (number-lt (take 2 (drop 36 x))))
 
 slice-aggregate-sound-behind-2 : tie.Need-slice-aggregate-sound-behind-2
@@ -145,6 +146,6 @@ returns-3 c =
 pub sound-at-spec : {M : Type 1} → statement M
 sound-at-spec =
     tie.close
-    (tie.spec sector-at-requires front-length-requires add-number-at add-number-at-2 number-at-requires returns add-from add-to slice-aggregate-read-hex-bytes
+    (tie.spec sector-at-requires front-length-requires add-at add-last number-at-requires returns add-from add-to slice-aggregate-read-hex-bytes
     sub-read-hex-bytes part-read-hex-bytes-start part-read-hex-bytes-end read-hex-bytes-requires returns-2 slice-aggregate-sound-behind cast-sound-behind
     slice-aggregate-sound-behind-2 sound-behind-requires returns-3)

@@ -8,29 +8,30 @@ use Rattle.buffer.specs.Bytes.{Bytes, same}
 use Rattle.buffer.proofs.Bytes.{small-all}
 use Rattle.kind.specs.Kind.{longest}
 use Rattle.sector.specs.Sector.{payloadOf, dateField}
+use Rattle.sector.proofs.Dates.{front-most}
 use Rattle.block.specs.Block.{partsOf}
 use Rattle.block.specs.Log.{joined, at, checked}
 use Rattle.block.proofs.Joined.{sectors-joined, small-joined}
 use Rattle.reader.specs.Reader.{numberOf}
 use Rattle.reader.proofs.Pieces.{few-parts}
 use Rattle.reader.proofs.Digits.{number-value}
-use Rattle.reader.proofs.Sound.{field-at, front-bound, unsound, unsized, passed}
+use Rattle.reader.proofs.Sound.{field-at, unsound, unsized, passed}
 use borrow.Author.Needs.{needs}
 use Rattle.reader.proofs.sound_behind.Statement.{statement}
 use Rattle.reader.proofs.sound_behind.Tie as tie
 
-add-number-at : tie.Need-add-number-at
-add-number-at c = search needs
+add-at : tie.Need-add-at
+add-at c = search needs
 
-add-number-at-2 : tie.Need-add-number-at-2
-add-number-at-2 c = search needs
+add-to : tie.Need-add-to
+add-to c = search needs
 
 number-at-requires : tie.Need-number-at-requires
 number-at-requires c κs =
     let a = c .before .before .before .before .args in
     let q = c .before .before .before .before .pre in
     let log = joined (a .end .0) (a .log .now) (a .waiting .now) in
-    let h : length (a .front .now) ≤ 14 = omega (arith, ap length (q .2), front-bound (at log (a .first .0))) in
+    let h : length (a .front .now) ≤ 14 = omega (arith, ap length (q .2), front-most (at log (a .first .0))) in
     (q .0, q .1, omega arith, omega arith, omega arith)
 
 returns : tie.Need-returns
@@ -85,7 +86,7 @@ parts-of-requires c κs =
     let a = c .before .before .before .before .before .before .before .before .before .args in
     let q = c .before .before .before .before .before .before .before .before .before .pre in
     let log = joined (a .end .0) (a .log .now) (a .waiting .now) in
-    let h : length (a .front .now) ≤ 14 = omega (arith, ap length (q .2), front-bound (at log (a .first .0))) in
+    let h : length (a .front .now) ≤ 14 = omega (arith, ap length (q .2), front-most (at log (a .first .0))) in
     (omega arith, omega (arith, c .before .before .if2 .left))
 
 add-after : tie.Need-add-after
@@ -139,7 +140,7 @@ labels-agree-requires c κs =
     let a = c .before .before .before .before .before .before .before .before .before .before .before .before .before .before .args in
     let q = c .before .before .before .before .before .before .before .before .before .before .before .before .before .before .pre in
     let log = joined (a .end .0) (a .log .now) (a .waiting .now) in
-    let short : length (a .front .now) + 96 < 499 = omega (arith, ap length (q .2), front-bound (at log (a .first .0))) in
+    let short : length (a .front .now) + 96 < 499 = omega (arith, ap length (q .2), front-most (at log (a .first .0))) in
     let parts-of = c .before .before .before .before .parts-of in
     (q .0, (omega (arith, parts-of .ensures), short), refl, q .3)
 
@@ -182,7 +183,7 @@ rest-is-zero-requires c κs =
     let a = c .before .before .before .before .before .before .before .before .before .before .before .before .before .before .before .before .before .before .args in
     let q = c .before .before .before .before .before .before .before .before .before .before .before .before .before .before .before .before .before .before .pre in
     let log = joined (a .end .0) (a .log .now) (a .waiting .now) in
-    let short : length (a .front .now) + 96 < 499 = omega (arith, ap length (q .2), front-bound (at log (a .first .0))) in
+    let short : length (a .front .now) + 96 < 499 = omega (arith, ap length (q .2), front-most (at log (a .first .0))) in
     let parts-of = c .before .before .before .before .before .before .before .before .parts-of in
     (q .0, omega (arith, c .before .before .before .before .before .before .before .before .before .before .before .before .if1 .left), (omega (arith, parts-of .ensures), short))
 
@@ -206,7 +207,7 @@ digest-requires c κs =
     let a = c .before .before .before .before .before .before .before .before .before .before .before .before .before .before .before .before .before .before .before .before .args in
     let q = c .before .before .before .before .before .before .before .before .before .before .before .before .before .before .before .before .before .before .before .before .pre in
     let log = joined (a .end .0) (a .log .now) (a .waiting .now) in
-    let short : length (a .front .now) + 96 < 499 = omega (arith, ap length (q .2), front-bound (at log (a .first .0))) in
+    let short : length (a .front .now) + 96 < 499 = omega (arith, ap length (q .2), front-most (at log (a .first .0))) in
     let parts-of = c .before .before .before .before .before .before .before .before .before .before .parts-of in
     (q .0, (omega (arith, parts-of .ensures), short))
 
@@ -297,6 +298,6 @@ returns-10 c = let args = c .before .before .before .before .before .before .bef
 pub sound-behind-spec : {M : Type 1} → statement M
 sound-behind-spec =
     tie.close
-    (tie.spec add-number-at add-number-at-2 number-at-requires returns returns-2 is-lawful-requires returns-3 add-label parts-of-requires add-after add-if4
+    (tie.spec add-at add-to number-at-requires returns returns-2 is-lawful-requires returns-3 add-label parts-of-requires add-after add-if4
     returns-4 returns-5 labels-agree-requires returns-6 checks-fit-requires returns-7 rest-is-zero-requires returns-8 digest-requires slice-aggregate-equal
     equal-requires returns-9 returns-10)

@@ -2,7 +2,7 @@
 use borrow.Author.Needs.{needs}
 use native.Mathlib.Omega.{arith}
 use Rattle.report.specs.Report.{sectorsName, usedName, recordsName, doubtfulName}
-use Rattle.report.proofs.Printed.{line-room, place, text-written}
+use Rattle.report.proofs.Printed.{line-room, line-end, text-written}
 use Rattle.report.proofs.write_text.Statement.{statement}
 use Rattle.report.proofs.write_text.Tie as tie
 
@@ -21,7 +21,7 @@ write-line-requires-2 : tie.Need-write-line-requires-2
 write-line-requires-2 c κs =
     let s = c .before .before .before .before .before .before .before .before in
     let w1 = c .before .before .before .before .write-line in
-    let p1 = place sectorsName 0 (w1 .result) (s .args .count) (s .pre .1) (w1 .ensures .1) in
+    let p1 = line-end sectorsName 0 (w1 .result) (s .args .count) (s .pre .1) (w1 .ensures .1) in
     line-room usedName (w1 .result) (s .args .end) _ (s .pre .2) (omega (arith, s .pre .0, w1 .kept .0))
 
 slice-aggregate-write-line-3 : tie.Need-slice-aggregate-write-line-3
@@ -31,9 +31,9 @@ write-line-requires-3 : tie.Need-write-line-requires-3
 write-line-requires-3 c κs =
     let s = c .before .before .before .before .before .before .before .before .before .before .before .before .before in
     let w1 = c .before .before .before .before .before .before .before .before .before .write-line in
-    let p1 = place sectorsName 0 (w1 .result) (s .args .count) (s .pre .1) (w1 .ensures .1) in
+    let p1 = line-end sectorsName 0 (w1 .result) (s .args .count) (s .pre .1) (w1 .ensures .1) in
     let w2 = c .before .before .before .before .write-line2 in
-    let p2 = place usedName (w1 .result) (w2 .result) (s .args .end) (s .pre .2) (w2 .ensures .1) in
+    let p2 = line-end usedName (w1 .result) (w2 .result) (s .args .end) (s .pre .2) (w2 .ensures .1) in
     line-room recordsName (w2 .result) (s .args .s .records) _ (s .pre .3) (omega (arith, s .pre .0, w1 .kept .0, w2 .kept .0))
 
 slice-aggregate-write-line-4 : tie.Need-slice-aggregate-write-line-4
@@ -43,24 +43,24 @@ write-line-requires-4 : tie.Need-write-line-requires-4
 write-line-requires-4 c κs =
     let s = c .before .before .before .before .before .before .before .before .before .before .before .before .before .before .before .before .before .before in
     let w1 = c .before .before .before .before .before .before .before .before .before .before .before .before .before .before .write-line in
-    let p1 = place sectorsName 0 (w1 .result) (s .args .count) (s .pre .1) (w1 .ensures .1) in
+    let p1 = line-end sectorsName 0 (w1 .result) (s .args .count) (s .pre .1) (w1 .ensures .1) in
     let w2 = c .before .before .before .before .before .before .before .before .before .write-line2 in
-    let p2 = place usedName (w1 .result) (w2 .result) (s .args .end) (s .pre .2) (w2 .ensures .1) in
+    let p2 = line-end usedName (w1 .result) (w2 .result) (s .args .end) (s .pre .2) (w2 .ensures .1) in
     let w3 = c .before .before .before .before .write-line3 in
-    let p3 = place recordsName (w2 .result) (w3 .result) (s .args .s .records) (s .pre .3) (w3 .ensures .1) in
+    let p3 = line-end recordsName (w2 .result) (w3 .result) (s .args .s .records) (s .pre .3) (w3 .ensures .1) in
     line-room doubtfulName (w3 .result) (s .args .s .doubtful) _ (s .pre .4) (omega (arith, s .pre .0, w1 .kept .0, w2 .kept .0, w3 .kept .0))
 
 write-verdict-requires : tie.Need-write-verdict-requires
 write-verdict-requires c κs =
     let s = c .before .before .before .before .before .before .before .before .before .before .before .before .before .before .before .before .before .before .before .before .before .before in
     let w1 = c .before .before .before .before .before .before .before .before .before .before .before .before .before .before .before .before .before .before .write-line in
-    let p1 = place sectorsName 0 (w1 .result) (s .args .count) (s .pre .1) (w1 .ensures .1) in
+    let p1 = line-end sectorsName 0 (w1 .result) (s .args .count) (s .pre .1) (w1 .ensures .1) in
     let w2 = c .before .before .before .before .before .before .before .before .before .before .before .before .before .write-line2 in
-    let p2 = place usedName (w1 .result) (w2 .result) (s .args .end) (s .pre .2) (w2 .ensures .1) in
+    let p2 = line-end usedName (w1 .result) (w2 .result) (s .args .end) (s .pre .2) (w2 .ensures .1) in
     let w3 = c .before .before .before .before .before .before .before .before .write-line3 in
-    let p3 = place recordsName (w2 .result) (w3 .result) (s .args .s .records) (s .pre .3) (w3 .ensures .1) in
+    let p3 = line-end recordsName (w2 .result) (w3 .result) (s .args .s .records) (s .pre .3) (w3 .ensures .1) in
     let w4 = c .before .before .before .write-line4 in
-    let p4 = place doubtfulName (w3 .result) (w4 .result) (s .args .s .doubtful) (s .pre .4) (w4 .ensures .1) in
+    let p4 = line-end doubtfulName (w3 .result) (w4 .result) (s .args .s .doubtful) (s .pre .4) (w4 .ensures .1) in
     omega (arith, s .pre .0, w1 .kept .0, w2 .kept .0, w3 .kept .0, w4 .kept .0)
 
 same-length : tie.Need-same-length

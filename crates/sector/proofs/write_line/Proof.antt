@@ -7,7 +7,7 @@ use Rattle.buffer.proofs.Put.{length-put}
 use Rattle.word.specs.Hex.{hex, hexBytes}
 use Rattle.word.proofs.HexLaws.{hex-length, hexBytes-length}
 use Rattle.sector.specs.Sector.{scoreName}
-use Rattle.sector.proofs.Written.{part-length, digits-part, line-written, line-length}
+use Rattle.sector.proofs.Written.{digits-part, line-written, line-length}
 use borrow.Author.Needs.{needs}
 use Rattle.sector.proofs.write_line.Statement.{statement}
 use Rattle.sector.proofs.write_line.Tie as tie

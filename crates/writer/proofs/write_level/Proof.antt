@@ -12,7 +12,7 @@ use Rattle.log.specs.Parts.{beside}
 use Rattle.log.specs.Store.{store}
 use Rattle.writer.specs.Blocks.{cutBlock}
 use Rattle.writer.proofs.Cutting.{pointers-whole}
-use Rattle.writer.proofs.OnePiece.{part-unchanged, part-length, piece-whole, score-room}
+use Rattle.writer.proofs.OnePiece.{part-unchanged, piece-whole, score-room}
 use Rattle.writer.proofs.Level.{Going, going-start, going-end, going-stopped, going-next, not-done, score-length}
 use borrow.Author.Needs.{needs}
 use Rattle.writer.proofs.write_level.Statement.{statement}
@@ -20,6 +20,7 @@ use Rattle.writer.proofs.write_level.Tie as tie
 use Rattle.writer.proofs.write_level.Reads as reads
 use Rattle.writer.proofs.write_level.Lts as lts
 use Rattle.buffer.proofs.copy_at.Reads as copy-at-reads
+use Rattle.buffer.proofs.Parts.{part-length}
 use Rattle.writer.proofs.end_of.Reads as end-of-reads
 use Rattle.writer.proofs.pieces.Reads as pieces-reads
 use Rattle.writer.proofs.smaller.Reads as smaller-reads
@@ -107,7 +108,7 @@ store-cut-requires c κs = let a = c .before .before .before .before .before .be
     let smaller = c .before .before .before .smaller in
     let st = part-start (a .width) (length (a .scores .now)) (turn .i) (omega (arith, (given .2))) (omega (arith, (loop-test .taken), (pieces .ensures))) in
     let e = (smaller .ensures) ∙ ap (λ (k : ℕ). min ((a .width) * (turn .i) + (a .width)) k) (turn .inv .1) in
-    let l = part-length ((a .width) * (turn .i)) (smaller .result) (turn .scores) (omega (arith, (smaller .ensures))) in
+    let l = part-length (turn .scores) ((a .width) * (turn .i)) (smaller .result) (omega (arith, (smaller .ensures))) in
     let most : (smaller .result) - (a .width) * (turn .i) ≤ (a .width) = omega (arith, e) in (
       omega (arith, l, most, (given .3)),
       (given .0),
