@@ -8,6 +8,7 @@ use native.Mathlib.Omega.{arith}
 use lib.Dec.{eqb, ltb}
 use lib.ListN.{length}
 use borrow.Author.Tests.{eqb-true, eqb-false, ne-eqb}
+use Rattle.ground.proofs.Choices.{some-same}
 use Rattle.buffer.specs.Bytes.{Bytes}
 use Rattle.sha1.specs.Sha1.{sha1Of}
 use Rattle.refusal.specs.declared.Refusal.{Refusal}
@@ -24,7 +25,6 @@ use Rattle.descent.specs.Descent.{paddedTo, nestOf, entriesOf}
 use Rattle.descent.specs.Parts.{entryIn}
 use Rattle.walk_laws.proofs.Found.{not-done, type-above, level-below}
 use Rattle.promises.specs.Histories.{afterwards}
-use Rattle.demands.proofs.First.{same-some}
 use Rattle.writer.specs.WriteFile.{writeFile}
 use Rattle.writer_laws.specs.Walk.{both, ComesTo, first, below}
 use Rattle.writer_laws.proofs.Walk.{walk-finds-file-later}
@@ -194,7 +194,7 @@ module _ (log : Bytes) (e : Entry) (nest : ℕ) where
   ended-below k left s r vs h (suc f, a, enough, le, d, u) =
       let S = stood log nest a (ofEntry e (suc k)) (countAt e (suc k)) s (belowIt f (suc k) a) d in
       let b = S .row .bytes in
-      let is : S .row ≡ r = same-some (S .row) r (sym (S .row-held) ∙ ap (λ (t : ℕ). held log t s) (type-above e k) ∙ h) in
+      let is : S .row ≡ r = some-same (S .row) r (sym (S .row-held) ∙ ap (λ (t : ℕ). held log t s) (type-above e k) ∙ h) in
       let q = cond (eqb (length b % 20) 0) (eachInOrder (λ x n. entryLast f log e (suc k - 1) nest x n) 20 b (a - 1) (length b / 20) 0 0) (postOrder [] (walked 0 (Refused Pointers))) in
       let taken : belowIt f (suc k) a b ≡ q = else-taken (eqb (suc k) 0) _ _ (ne-eqb (suc k) 0 (λ z. omega arith)) in
       let all = each-ended f k left (a - 1) b vs (omega (arith, S .some-left)) (omega arith) (eqb (length b % 20) 0)
@@ -244,6 +244,6 @@ walk-visits-every-block log w date slice dsize psize entry scores sm done past q
     let k = reach .0 in
     let S = here-seen l e (nestOf e nest) left k (sha1Of (x .bytes)) vs
     (come-to-ended l e (nestOf e nest) (scoreOf y) left vs E k (sha1Of (x .bytes)) (reach .2)) in
-    let row : S .0 ≡ R .0 .0 = same-some (S .0) (R .0 .0) (sym (S .1) ∙ ap (λ (t : ℕ). held l t (sha1Of (x .bytes))) (reach .1) ∙ R .0 .1) in
+    let row : S .0 ≡ R .0 .0 = some-same (S .0) (R .0 .0) (sym (S .1) ∙ ap (λ (t : ℕ). held l t (sha1Of (x .bytes))) (reach .1) ∙ R .0 .1) in
     let v = S .2 in
     (v .0, v .1, ap typeOf (v .2) ∙ reach .1, v .3, v .4 ∙ ap (λ (r : Row). r .bytes) row ∙ R .0 .2)
