@@ -1,21 +1,20 @@
 -- What is doubtful, after a block is appended.
-use mathlib.Core.Path.{_≡_, refl, sym, ap, ap₂, _∙_}
+use mathlib.Core.Path.{_≡_, refl, sym, ap, _∙_}
 use mathlib.Core.Bool.{Bool, true, false, cond, _||_}
 use mathlib.Core.List.{List, [], _∷_, _++_}
-use Prim.Native.Nat.{ℕ, _+_, _-_, _≤_, _<_}
+use Prim.Native.Nat.{ℕ, _+_, _≤_, _<_}
 use native.Mathlib.Nat.{le-antisymm}
 use native.Mathlib.Omega.{arith}
 use lib.Dec.{eqb, ltb}
 use borrow.Author.Tests.{ltb-true, ltb-false}
-use lib.ListN.{length}
 use Rattle.ground.specs.Places.{within}
-use Rattle.ground.proofs.Choices.{or-right}
+use Rattle.ground.proofs.Choices.{or-right, or-none}
 use Rattle.ground.proofs.Places.{within-in, within-before}
 use Rattle.buffer.specs.Bytes.{Bytes}
 use Rattle.sector_number.specs.declared.SectorNumber.{SectorNumber}
 use Rattle.refusal.specs.declared.Refusal.the-variants.{NotHeld, NotKnown}
 use Rattle.block.specs.Block.{Row, parts, written}
-use Rattle.block.specs.Log.{used, sound}
+use Rattle.block.specs.Log.{used}
 use Rattle.block.proofs.Apart.{sound-used}
 use Rattle.log.specs.LookUp.{blocks, inBlock, outside, doubtful, firstDoubtful, firstOutside, absence}
 use Rattle.log.proofs.InBlock.{zero-outside}
@@ -28,21 +27,13 @@ use Rattle.known.specs.Promises.{DoubtWritten, MissingIsAbsence}
 
 in-append : (xs : List Row) (r : Row) (n : ℕ) → inBlock (xs ++ (r ∷ [])) n ≡ (inBlock xs n || within (r .first) (parts r) n)
 unfolding inBlock
-in-append [] r n = or-false (within (r .first) (parts r) n)
-  where
-    or-false : (b : Bool) → (b || false) ≡ b
-    or-false true = refl
-    or-false false = refl
+in-append [] r n = or-none (within (r .first) (parts r) n)
 in-append (x ∷ xs) r n = go (within (x .first) (parts x) n) (in-append xs r n)
   where
     go : (b : Bool) → inBlock (xs ++ (r ∷ [])) n ≡ (inBlock xs n || within (r .first) (parts r) n)
         → (b || inBlock (xs ++ (r ∷ [])) n) ≡ ((b || inBlock xs n) || within (r .first) (parts r) n)
     go true e = refl
     go false e = e
-
-or-none : (b : Bool) → (b || false) ≡ b
-or-none true = refl
-or-none false = refl
 
 -- what is said of a missing block tells the doubt
 pub missing-is-absence : MissingIsAbsence

@@ -4,26 +4,25 @@ use mathlib.Core.Bool.{Bool, true, false, cond, _&&_, _||_, true≢false}
 use mathlib.Core.List.{List, [], _∷_, _++_, List·Memᴰ, List·Memᴰ·head, List·Memᴰ·tail}
 use mathlib.Core.Logic.{_⊎_, inl, inr}
 use mathlib.Core.Option.{Option, none, some}
-use Prim.Native.Nat.{ℕ, zero, suc, _+_, _-_, _≤_, _<_}
+use Prim.Native.Nat.{ℕ, zero, suc, _-_}
 use native.Mathlib.Omega.{arith}
 use lib.Dec.{eqb, leb}
-use borrow.Author.Tests.{eq-eqb, eqb-true, eqb-false, le-leb}
-use lib.ListN.{length, take}
+use borrow.Author.Tests.{eq-eqb, eqb-true, le-leb}
+use lib.ListN.{take}
 use Rattle.ground.specs.Choice.{on}
-use Rattle.ground.proofs.Choices.{and-true}
+use Rattle.ground.proofs.Choices.{and-true, and-one}
 use Rattle.buffer.specs.Bytes.{Bytes, same}
-use Rattle.buffer.proofs.Bytes.{same-refl, same-true}
+use Rattle.buffer.proofs.Bytes.{same-true}
 use Rattle.block.specs.Block.{Row, written}
 use Rattle.block.specs.Log.{sound}
 use Rattle.block.proofs.Sound.{sound-reads}
 use Rattle.log.specs.LookUp.{blocks, firstOf}
-use Rattle.log.proofs.Blocks.{blocks-in, blocks-out}
+use Rattle.log.proofs.Blocks.{blocks-out}
 use Rattle.log.proofs.Appended.{new-sound, blocks-added}
 use Rattle.index.specs.Index.{placeAt, named, sectorAt, bucketOf}
 use Rattle.hint.specs.Hint.{soundWith, trueAt, firstFound, hint}
 use Rattle.hint.specs.Rebuilt.{enteredRow}
 use Rattle.hint.specs.Promises.{Appends}
-use Rattle.hint.proofs.Found.{some-not-none}
 use Rattle.hint.proofs.Sound.{with-reads, with-finds}
 use Rattle.hint.proofs.Leads.{first-finds}
 use Rattle.hint.proofs.Appended.{old-or-new, hint-others}
@@ -39,10 +38,6 @@ all-append log index (x ∷ xs) ys = go (leads log index x) (all-append log inde
         → (b && allLead log index (xs ++ ys)) ≡ ((b && allLead log index xs) && allLead log index ys)
     go true e = e
     go false e = refl
-
-and-one : (b : Bool) → (b && true) ≡ b
-and-one true = refl
-and-one false = refl
 
 -- the same of every row
 pub all-same : (a b i j : Bytes) (rows : List Row) → ((r : Row) → List·Memᴰ r rows → leads a i r ≡ leads b j r) → allLead a i rows ≡ allLead b j rows

@@ -13,6 +13,7 @@ use Rattle.sha1.specs.Sha1.{sha1Of}
 use Rattle.refusal.specs.declared.Refusal.{Refusal}
 use Rattle.refusal.specs.declared.Refusal.the-variants.{NotHeld, NotKnown, NoRoom}
 use Rattle.kind.specs.Kind.{lawful, zeroScore}
+use Rattle.sector.specs.Sector.{sectorLength}
 use Rattle.block.specs.Block.{Row}
 use Rattle.block.specs.Log.{sectors, joined, used}
 use Rattle.log.specs.LookUp.{blocks, firstOf, emptyRow, held, doubtful, firstDoubtful}
@@ -126,7 +127,7 @@ unfoldable pub canSettleKnown : Known → ℕ → Bool
 canSettleKnown k m = leb (k .used .0 + k .waits .0) (sectors m)
 
 unfoldable pub settledKnown : Known → Bytes → Bytes → Lent
-settledKnown k log waiting = beside (put log (512 * k .used .0) (take (512 * k .waits .0) waiting)) (replicate (length waiting) 0)
+settledKnown k log waiting = beside (put log (sectorLength * k .used .0) (take (sectorLength * k .waits .0) waiting)) (replicate (length waiting) 0)
 
 abbrev pub afterSync : Known → Known
 afterSync k = record { used = record { 0 = k .used .0 + k .waits .0 }; waits = record { 0 = 0 }; doubt = k .doubt; exact = k .exact }

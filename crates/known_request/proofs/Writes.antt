@@ -1,39 +1,37 @@
 -- A write by what was learned, and what is known after it.
-use mathlib.Core.Path.{_≡_, refl, sym, ap, ap₂, _∙_}
-use mathlib.Core.Bool.{Bool, true, false, cond, not, _&&_, false≢true}
-use mathlib.Core.List.{[], _∷_}
+use mathlib.Core.Path.{_≡_, refl, sym, ap, _∙_}
+use mathlib.Core.Bool.{Bool, true, false, cond, not, _&&_}
 use mathlib.Core.Option.{Option, none, some}
-use Prim.Native.Nat.{ℕ, _+_, _*_, _/_, _%_, _≤_}
+use Prim.Native.Nat.{ℕ, _≤_}
 use native.Mathlib.Omega.{arith}
-use lib.Dec.{eqb, leb, ltb}
+use lib.Dec.{ltb}
 use lib.ListN.{length}
-use borrow.Author.Tests.{leb-true, ltb-false, not-false}
+use borrow.Author.Tests.{ltb-false, not-false}
 use Rattle.ground.specs.Choice.{on}
 use Rattle.ground.proofs.Choices.{and-true}
 use Rattle.buffer.specs.Bytes.{Bytes, same}
-use Rattle.buffer.proofs.Bytes.{same-refl}
 use Rattle.word.specs.Number.{small}
 use Rattle.sha1.specs.Sha1.{sha1Of}
 use Rattle.kind.specs.Kind.{lawful, longest, zeroScore}
-use Rattle.sector.specs.Sector.{isDate, isDateOrNone}
+use Rattle.sector.specs.Sector.{isDate}
+use Rattle.sector.proofs.Dates.{date-or-none}
 use Rattle.block.specs.Block.{Row, valid}
-use Rattle.block.specs.Log.{sectors, used}
-use Rattle.block.proofs.Facts.{facts-valid}
+use Rattle.block.specs.Log.{used}
 use Rattle.block.proofs.Joined.{used-joined}
-use Rattle.refusal.specs.declared.Refusal.the-variants.{BlockType, DataLength, Clash}
-use Rattle.log.specs.LookUp.{blocks, firstOf, emptyRow, held, mostSectors, logAllowed, waitingAllowed, lentAllowed}
-use Rattle.log.specs.Parts.{Lent, tape, beside, oneLog, roomFor, appendRow, writtenFrom}
+use Rattle.refusal.specs.declared.Refusal.the-variants.{Clash}
+use Rattle.log.specs.LookUp.{blocks, firstOf, emptyRow, held, logAllowed, waitingAllowed, lentAllowed}
+use Rattle.log.specs.Parts.{Lent, tape, beside, roomFor, appendRow}
 use Rattle.log.specs.Store.{AfterStore, newRow, partsFor, appended, compared, store}
-use Rattle.log.specs.declared.Stored.the-variants.{New, Duplicate, Refused}
+use Rattle.log.specs.declared.Stored.the-variants.{Duplicate, Refused}
+use Rattle.log.proofs.Allowed.{row-valid as valid-row, some-bytes}
 use Rattle.log.proofs.Room.{room-reads}
 use Rattle.index.specs.Index.{entered}
 use Rattle.known.specs.declared.Known.{Known}
-use Rattle.known.specs.Known.{learned, storeKnown, listed, afterNew}
+use Rattle.known.specs.Known.{learned, listed, afterNew}
 use Rattle.known.proofs.Learned.{learned-stores, known-after-new}
-use Rattle.request.specs.Step.{refused, allowed, write}
-use Rattle.request.specs.declared.Session.the-variants.{Greeted}
-use Rattle.indexed.specs.Indexed.{Indexed, keeping, enteredBy, indexAfter, writeBy}
-use Rattle.known_request.specs.Quick.{Quick, knowing, storedKnown, writeKnown}
+use Rattle.request.specs.Step.{allowed, write}
+use Rattle.indexed.specs.Indexed.{Indexed, indexAfter, writeBy}
+use Rattle.known_request.specs.Quick.{Quick, storedKnown, writeKnown}
 use Rattle.known_request.specs.Promises.{learnedOf}
 
 -- what is known is what would be learned then
@@ -44,38 +42,14 @@ Knows q = q .known ≡ learnedOf (q .indexed .outcome .lent) (q .indexed .index)
 abbrev pub Right : Bytes → Quick → Indexed → Type 0
 Right m q x = (q .indexed ≡ x) × (small m ≡ true → Knows q)
 
-log-allowed : (m : ℕ) → logAllowed m ≡ true → sectors m ≤ mostSectors
-unfolding logAllowed
-log-allowed m e = go (eqb (m % 512) 0) e
-  where
-    go : (b : Bool) → cond b (leb (m / 512) mostSectors) false ≡ true → sectors m ≤ mostSectors
-    go true q = leb-true (m / 512) mostSectors q
-    go false q = absurd (false≢true q)
-
-date-or-none : (date : Bytes) → isDate date ≡ true → isDateOrNone date ≡ true
-date-or-none [] a = refl
-date-or-none (b ∷ d) a = a
-
--- the score of no bytes is the zero score
-empty-score : same (sha1Of []) zeroScore ≡ true
-unfolding zeroScore
-empty-score = same-refl (sha1Of [])
-
 -- a block that look-up did not find is not there, and has bytes
 found-none : (log : Bytes) (t : ℕ) (d : Bytes) → lawful t ≡ true → held log t (sha1Of d) ≡ none → (firstOf t (sha1Of d) (blocks log) ≡ none) × (1 ≤ length d)
 unfolding held
-found-none log t d l e = (go (lawful t && same (sha1Of d) zeroScore) e, some-bytes d e)
+found-none log t d l e = (go (lawful t && same (sha1Of d) zeroScore) e, some-bytes log t d l e)
   where
     go : (b : Bool) → cond b (some (emptyRow t)) (firstOf t (sha1Of d) (blocks log)) ≡ none → firstOf t (sha1Of d) (blocks log) ≡ none
     go true q = let z : _≡_ {A = ℕ} 0 1 = cc in absurd (omega arith)
     go false q = q
-
-    some-bytes : (x : Bytes) → cond (lawful t && same (sha1Of x) zeroScore) (some (emptyRow t)) (firstOf t (sha1Of x) (blocks log)) ≡ none → 1 ≤ length x
-    some-bytes [] q =
-        let b : (lawful t && same (sha1Of []) zeroScore) ≡ true = rw (l, empty-score) in
-        let y : some (emptyRow t) ≡ none = ap (λ (c : Bool). cond c (some (emptyRow t)) (firstOf t (sha1Of []) (blocks log))) (sym b) ∙ q in
-        let z : _≡_ {A = ℕ} 0 1 = cc in absurd (omega arith)
-    some-bytes (c ∷ x) q = omega arith
 
 module _ (date index log w buffer : Bytes) (kind tag : ℕ) (d : Bytes) where
   abbrev L : Lent
@@ -91,20 +65,9 @@ module _ (date index log w buffer : Bytes) (kind tag : ℕ) (d : Bytes) where
   module _ (dated : isDate date ≡ true) (ok : allowed L ≡ true) (l : lawful kind ≡ true) (le : length d ≤ longest) (sm : small d ≡ true) where
     row-valid : 1 ≤ length d → roomFor L (partsFor date d) ≡ true → valid (newRow L date kind d) ≡ true
     unfolding lentAllowed
-    row-valid n room = facts-valid (newRow L date kind d) (record {
-      lawful-kind = l;
-      some-bytes = n;
-      not-many = le;
-      of-bytes = sm;
-      scored = refl;
-      place = omega (
-        arith,
-        room-reads log w (partsFor date d) room .0,
-        used-joined log w,
-        log-allowed (length log) (and-true (logAllowed (length log)) (waitingAllowed (length w)) ok .0),
-      );
-      dated = date-or-none date dated;
-    })
+    row-valid n room =
+        valid-row date kind d (used (tape log w)) (length log) (date-or-none date dated) (and-true (logAllowed (length log)) (waitingAllowed (length w)) ok .0) l le n sm
+        (omega (arith, room-reads log w (partsFor date d) room .0, used-joined log w))
 
     new : held (tape log w) kind (sha1Of d) ≡ none → Done (appended L date kind d)
     unfolding storedKnown appendRow learned
