@@ -66,11 +66,11 @@ fn measure() {
 
 fn checks() {
     println!(
-        "blocks of {BLOCK} bytes; medians of {SAMPLES} samples; ratio: our time over plain Rust's"
+        "blocks of {BLOCK} bytes; medians of {SAMPLES} samples; ratio: our time over plain Rust's; best: of the best samples"
     );
     println!(
-        "{:8} {:>10} {:>16} {:>7}",
-        "name", "ours MB/s", "plain Rust MB/s", "ratio"
+        "{:8} {:>10} {:>16} {:>7} {:>7}",
+        "name", "ours MB/s", "plain Rust MB/s", "ratio", "best"
     );
     compare("sha1", boundary::sha1, plain::sha1::sha1);
     compare("crc32", boundary::crc32, plain::crc32::crc32);
@@ -99,10 +99,12 @@ fn compare<R: PartialEq + Debug>(name: &str, ours: fn(&[u8]) -> R, plain: fn(&[u
     let speed =
         |of: fn(&[f64; 2]) -> f64| (calls * BLOCK) as f64 / 1e6 / median(samples.iter().map(of));
     let ratio = median(samples.iter().map(|s| s[0] / s[1]));
+    let best = |of: fn(&[f64; 2]) -> f64| samples.iter().map(of).fold(f64::MAX, f64::min);
     println!(
-        "{name:8} {:>10.0} {:>16.0} {ratio:>7.2}",
+        "{name:8} {:>10.0} {:>16.0} {ratio:>7.2} {:>7.2}",
         speed(|s| s[0]),
-        speed(|s| s[1])
+        speed(|s| s[1]),
+        best(|s| s[0]) / best(|s| s[1])
     );
 }
 
