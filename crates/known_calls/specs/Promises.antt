@@ -32,7 +32,7 @@ abbrev pub LearnedFits : Type 0
 LearnedFits = (log waiting index : Bytes) → length log < 2 ^ 64 → length waiting < 2 ^ 64 → Fits (learned log waiting index)
 
 -- "if the `Known` is what `learn` would say of this log, waiting part and index, then number, reply, session, log, waiting part and index are exactly those of
--- `serve`, and the new `Known` is again what `learn` would say", the latter of a message of bytes: of the call that is lent it as bytes
+-- `serve`, and the new `Known` is again what `learn` would say" (the latter of a message of bytes), of the call that is lent what is known as bytes
 abbrev pub CallIsServe : Type 0
 CallIsServe = (session : ℕ) (m date index log waiting reply : Bytes) → length log < 2 ^ 64 → length waiting < 2 ^ 64
     → let a = serveAsked session m date index log waiting reply (knownBytes (learned log waiting index)) in

@@ -117,13 +117,11 @@ fn copy_tree(
     let mut second = Writer::open(to, adopt, streams)?.dated(dates);
     second.open_index(streams);
     let before = second.sectors().1;
-    let visits = streams
-        .err_terminal
-        .then(|| follow(&log, &root, allowance))
-        .flatten()
-        .map(|trail| trail.walked.visits);
     let copied = watched("copying", streams, |told| {
+        let mut visits = None;
         in_rounds(&mut second, &log, &root, allowance, |round, used| {
+            let all = || follow(&log, &root, allowance).map(|trail| trail.walked.visits);
+            let visits = *visits.get_or_insert_with(all);
             told.come(so_far(round, visits, used - before));
         })
     })?;
@@ -172,7 +170,7 @@ fn stopped(
 }
 
 /// Copies with an ever larger allowance. Where a long copy is ended, what the rounds so far settled stays. After
-/// each of them its visits and the sectors used are told.
+/// each but the last its visits and the sectors used are told.
 fn in_rounds(
     second: &mut Writer,
     log: &[u8],
@@ -283,4 +281,16 @@ fn left_behind(from: &Path, to: &Path, doubtful: usize) -> String {
          {from}, and \"not held\" in {to}: keep {from}, or store again what was in them, until you know \
          that nothing is missed."
     )
+}
+
+#[cfg(test)]
+mod tests {
+    use super::so_far;
+
+    #[test]
+    fn how_far_a_copy_has_come() {
+        let told = so_far(4096, Some(20_011), 5);
+        assert_eq!(told, "4096 of 20011 visits, 5 sectors on disk");
+        assert_eq!(so_far(3, None, 0), "3 visits, 0 sectors on disk");
+    }
 }

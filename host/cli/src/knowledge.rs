@@ -1,8 +1,8 @@
 //! What a server knows of its log from the last request, and when it is worth learning.
 //!
 //! With it a store, a read and a "not held" each cost what the block and one bucket of the index cost,
-//! whatever the log's size. To learn it, every block of the log is looked at: that costs about as much as
-//! a "not held" without it, or as some dozens of writes.
+//! whatever the log's size. To learn it, every block of the log is looked at: that costs two or three times
+//! as much as a "not held" without it, or as some dozens of writes.
 
 use boundary::{serve, serve_known, Known, Refusal, Served, Session};
 
