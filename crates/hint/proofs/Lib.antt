@@ -1,5 +1,7 @@
 pub mod Found
 pub mod Sound
+pub mod Tells
+pub mod There
 pub mod Leads
 pub mod Entered
 pub mod Scan

@@ -1,3 +1,4 @@
 pub mod Hint
+pub mod Tells
 pub mod Rebuilt
 pub mod Promises

@@ -18,7 +18,8 @@ ghost use Rattle.sector.specs.Sector.{behind, kindField, scoreDigits, scoreFiel
 ghost use Rattle.block.specs.Log.{sectors, joined, sound};
 ghost use Rattle.hint.specs.Hint.{soundWith, hint};
 ghost use Rattle.known.specs.Known.{doubtOf, exactly, learned};
-ghost use Rattle.learn.specs.Learn.{foundBy, leadsFound, tells};
+ghost use Rattle.hint.specs.Tells.{tells};
+ghost use Rattle.learn.specs.Learn.{foundBy, leadsFound};
 
 // Whether the first entry of the bucket that names a type and score tells sector n.
 fn tells_first(index: &[u8], kind: u8, score: &[u8], n: SectorNumber) -> bool

@@ -28,6 +28,7 @@ use Rattle.log.proofs.First.{first-sound}
 use Rattle.hint.specs.Hint.{hint, heldBy}
 use Rattle.hint.specs.Promises.{NoClash}
 use Rattle.hint.proofs.Leads.{hint-sound, first-finds}
+use Rattle.hint.proofs.There.{sound-there}
 use Rattle.message.specs.Message.{framed, tagOf, scoreOf, requestOf}
 use Rattle.message.specs.declared.Request.{Request}
 use Rattle.message.specs.declared.Request.the-variants.{Read}
@@ -36,7 +37,6 @@ use Rattle.request.specs.declared.Session.{Session}
 use Rattle.request.specs.declared.Session.the-variants.{Fresh, Greeted, Closed as Shut}
 use Rattle.indexed.specs.Indexed.{Indexed, readBy, greetedBy, inSessionBy, stepBy}
 use Rattle.one_block.specs.OneBlock.{AlsoHas, PartOf, PartSuffices}
-use Rattle.one_block.proofs.OneBlock.{sound-there}
 use Rattle.one_block.proofs.Messages.{step-same, allowed-alone, held-alone}
 
 -- a sound block of this type and score
@@ -93,7 +93,7 @@ module _ (log part : Bytes) (some-of : PartOf part log) where
       go true q = (y, q, refl)
       go false q =
           let a = found-sound part index t s y q in
-          let here : Sound log t s y = (sound-there log part (y .first) y (a .0) (also-has y (a .0)), a .1, a .2) in
+          let here : Sound log t s y = (sound-there log part (y .first) y (also-has y (a .0) .0) (also-has y (a .0) .1) (a .0), a .1, a .2) in
           let f = found-some log index t s y here in
           let b = found-sound log index t s (f .0) (f .1) in
           (f .0, f .1, clear (f .0) y (b .0) (here .0) (b .1 ∙ sym (a .1)) (b .2 ∙ sym (a .2)))

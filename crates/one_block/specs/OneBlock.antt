@@ -14,7 +14,7 @@ use Rattle.log.specs.LookUp.{logAllowed}
 use Rattle.log.specs.Parts.{beside}
 use Rattle.hint.specs.Hint.{soundWith, heldBy}
 use Rattle.hint.specs.Promises.{NoClash}
-use Rattle.learn.specs.Learn.{tells}
+use Rattle.hint.specs.Tells.{tells}
 use Rattle.message.specs.Message.{scoreOf, requestOf}
 use Rattle.message.specs.declared.Request.the-variants.{Read}
 use Rattle.request.specs.Step.{Outcome}

@@ -1,5 +1,5 @@
 // One request by what is known of the log, its waiting part and its index. Any bytes are answered, and anything may be said to be known.
-use archive::REPLY_ROOM;
+use answer::REPLY_ROOM;
 use kind::LONGEST;
 use known::Known;
 use known_request::Served;
@@ -43,20 +43,20 @@ fn serve_read<'a>(
 {
     let tag = message::tag_of(message);
     if !kind::is_lawful(kind) {
-        return archive::refuse(Refusal::BlockType, tag, Session::Greeted, reply);
+        return answer::refuse(Refusal::BlockType, tag, Session::Greeted, reply);
     }
     let score = message::score_of(message);
     let place = known_store::find_known(log, waiting, index, known, kind, score);
     let Place::At(b) = place else {
         let doubt = known.doubt;
         let why = known_store::missing_by(doubt);
-        return archive::refuse(why, tag, Session::Greeted, reply);
+        return answer::refuse(why, tag, Session::Greeted, reply);
     };
     if count < b.size {
-        return archive::refuse(Refusal::OverCount, tag, Session::Greeted, reply);
+        return answer::refuse(Refusal::OverCount, tag, Session::Greeted, reply);
     }
     let end = known.used;
-    archive::answer_read(log, end, waiting, b, tag, reply)
+    answer::answer_read(log, end, waiting, b, tag, reply)
 }
 
 // Stores a block by what is known, enters it into the index, and answers; with what is known then.
@@ -75,10 +75,10 @@ fn store_block(
     ensures { λ r. ⌜ quickOf r (now (log .entry)) (now (waiting .exit)) (now (reply .exit)) (now (index .exit)) ≡ storedKnown known (now (date .entry)) kind tag (now («data» .entry)) (now (index .entry)) (storeKnown known (now (log .entry)) (now (waiting .entry)) (now (index .entry)) (now (date .entry)) kind (now («data» .entry))) (now (reply .entry)) ⌝ }
 {
     let receipt = known_store::store_known(log, waiting, index, known, date, kind, data);
-    archive::enter_stored(index, receipt.stored, &receipt.score, kind);
+    answer::enter_stored(index, receipt.stored, &receipt.score, kind);
     let count = block::parts_of(FRONT + LABEL, data.len());
     let after = known_store::known_after(index, receipt.stored, &receipt.score, kind, count, known);
-    let answer = archive::answer_store(receipt, tag, reply);
+    let answer = answer::answer_store(receipt, tag, reply);
     Served {
         answer: answer,
         known: after,
@@ -101,7 +101,7 @@ fn serve_write(
 {
     let tag = message::tag_of(message);
     if !kind::is_lawful(kind) {
-        let answer = archive::refuse(Refusal::BlockType, tag, Session::Greeted, reply);
+        let answer = answer::refuse(Refusal::BlockType, tag, Session::Greeted, reply);
         return Served {
             answer: answer,
             known: known,
@@ -109,7 +109,7 @@ fn serve_write(
     }
     let data = message::data_of(message);
     if LONGEST < data.len() {
-        let answer = archive::refuse(Refusal::DataLength, tag, Session::Greeted, reply);
+        let answer = answer::refuse(Refusal::DataLength, tag, Session::Greeted, reply);
         return Served {
             answer: answer,
             known: known,
@@ -124,13 +124,13 @@ fn serve_sync(known: Known, log: &mut [u8], waiting: &mut [u8], tag: u8, reply: 
     ensures { λ r. ⌜ ((index : Bytes) → quickOf r (now (log .exit)) (now (waiting .exit)) (now (reply .exit)) index ≡ syncKnown known tag index (now (log .entry)) (now (waiting .entry)) (now (reply .entry))) ⌝ }
 {
     if !known_store::settle_known(log, waiting, known) {
-        let answer = archive::refuse(Refusal::NoRoom, tag, Session::Greeted, reply);
+        let answer = answer::refuse(Refusal::NoRoom, tag, Session::Greeted, reply);
         return Served {
             answer: answer,
             known: known,
         };
     }
-    let answer = archive::acknowledge(message::SYNC_REPLY, tag, reply);
+    let answer = answer::acknowledge(message::SYNC_REPLY, tag, reply);
     let settled = known_store::after_sync(known);
     Served {
         answer: answer,

@@ -2,7 +2,7 @@
 use sha1_block::Hash;
 ghost use mathlib.Core.Path.{_≡_};
 ghost use mathlib.Core.List.{List, [], _++_};
-ghost use Prim.Native.Nat.{ℕ, _+_, _*_, _<_};
+ghost use Prim.Native.Nat.{ℕ, _+_, _*_, _<_, min};
 ghost use lib.ListN.{length};
 ghost use lib.Seq.{sets};
 ghost use Rattle.word.specs.Number.{beBytes};
@@ -31,6 +31,16 @@ pub fn start() -> Stream
     }
 }
 
+// How many bytes are taken in at once: as many as have room in a block, or all that are left.
+fn fewer(room: usize, left: usize) -> usize
+    ensures { λ r. ⌜ r ≡ min room left ⌝ }
+{
+    if left < room {
+        return left;
+    }
+    room
+}
+
 // Takes more bytes in. A whole block that comes where no bytes wait is not copied.
 pub fn absorb(s: Stream, more: &[u8]) -> Stream
     ensures { λ r. ⌜ ((m : List ℕ) → Holds s m → Holds r (m ++ now (more .entry))) ⌝ }
@@ -40,17 +50,16 @@ pub fn absorb(s: Stream, more: &[u8]) -> Stream
     let mut n = (s.len % 64) as usize;
     let mut i = 0;
     while i < more.len() {
-        if n == 0 {
-            if more.len() - i >= 64 {
-                let end = i + 64;
-                h = sha1_block::compress(h, &more[i..end]);
-                i = end;
-                continue;
-            }
+        let k = fewer(64 - n, more.len() - i);
+        let end = i + k;
+        if k == 64 {
+            h = sha1_block::compress(h, &more[i..end]);
+            i = end;
+            continue;
         }
-        buf[n] = more[i];
-        n += 1;
-        i += 1;
+        buffer::copy_at(&mut buf, n, &more[i..end]);
+        n += k;
+        i = end;
         if n == 64 {
             h = sha1_block::compress(h, &buf);
             n = 0;

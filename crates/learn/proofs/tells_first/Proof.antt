@@ -2,8 +2,8 @@
 use mathlib.Core.Path.{_≡_}
 use Prim.Native.Nat.{_-_, _≤_}
 use native.Mathlib.Omega.{arith}
-use Rattle.learn.specs.Learn.{tellsFrom, tells}
-use Rattle.learn.proofs.Tells.{tell-starts, tell-here, tell-next, tell-ends}
+use Rattle.hint.specs.Tells.{tellsFrom, tells}
+use Rattle.hint.proofs.Tells.{tell-starts, tell-here, tell-next, tell-ends}
 use borrow.Author.Needs.{needs}
 use Rattle.learn.proofs.tells_first.Statement.{statement}
 use Rattle.learn.proofs.tells_first.Tie as tie

@@ -1,9 +1,9 @@
--- `archive::acknowledge` meets its contract: a head and nothing after it.
+-- `answer::acknowledge` meets its contract: a head and nothing after it.
 use mathlib.Core.Path.{refl}
-use Rattle.archive.proofs.Returns.{outcome, bodiless}
+use Rattle.answer.proofs.Returns.{outcome, bodiless}
 use borrow.Author.Needs.{needs}
-use Rattle.archive.proofs.acknowledge.Statement.{statement}
-use Rattle.archive.proofs.acknowledge.Tie as tie
+use Rattle.answer.proofs.acknowledge.Statement.{statement}
+use Rattle.answer.proofs.acknowledge.Tie as tie
 
 write-head-requires : tie.Need-write-head-requires
 write-head-requires c κs = search needs

@@ -1,11 +1,11 @@
--- `archive::serve_fresh` meets its contract: a case for each request.
+-- `answer::serve_fresh` meets its contract: a case for each request.
 use mathlib.Core.Path.{refl}
 use Rattle.log.specs.Parts.{beside}
 use Rattle.request.specs.Step.{fresh}
-use Rattle.archive.proofs.Returns.{fresh-as}
+use Rattle.answer.proofs.Returns.{fresh-as}
 use borrow.Author.Needs.{needs}
-use Rattle.archive.proofs.serve_fresh.Statement.{statement}
-use Rattle.archive.proofs.serve_fresh.Tie as tie
+use Rattle.answer.proofs.serve_fresh.Statement.{statement}
+use Rattle.answer.proofs.serve_fresh.Tie as tie
 
 tag-of-requires : tie.Need-tag-of-requires
 tag-of-requires c κs = search needs

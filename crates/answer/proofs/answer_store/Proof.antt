@@ -1,14 +1,14 @@
--- `archive::answer_store` meets its contract: the store refused, or it did not.
+-- `answer::answer_store` meets its contract: the store refused, or it did not.
 use mathlib.Core.Path.{_≡_, refl, sym, ap, _∙_}
 use native.Mathlib.Omega.{arith}
 use lib.ListN.{length}
 use Rattle.log.specs.declared.Stored.{Stored}
 use Rattle.log.specs.Parts.{beside}
 use Rattle.request.specs.Step.{written}
-use Rattle.archive.proofs.Returns.{outcome, kept}
+use Rattle.answer.proofs.Returns.{outcome, kept}
 use borrow.Author.Needs.{needs}
-use Rattle.archive.proofs.answer_store.Statement.{statement}
-use Rattle.archive.proofs.answer_store.Tie as tie
+use Rattle.answer.proofs.answer_store.Statement.{statement}
+use Rattle.answer.proofs.answer_store.Tie as tie
 
 enum-known-stored : tie.Need-enum-known-stored
 enum-known-stored c = search needs

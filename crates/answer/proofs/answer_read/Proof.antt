@@ -1,12 +1,12 @@
--- `archive::answer_read` meets its contract: the head, and the block's bytes after it.
+-- `answer::answer_read` meets its contract: the head, and the block's bytes after it.
 use mathlib.Core.Path.{refl}
 use Rattle.block.specs.Log.{joined}
-use Rattle.archive.proofs.Returns.{outcome, head-block}
+use Rattle.answer.proofs.Returns.{outcome, head-block}
 use borrow.Author.Needs.{needs}
-use Rattle.archive.proofs.answer_read.Statement.{statement}
-use Rattle.archive.proofs.answer_read.Tie as tie
-use Rattle.archive.proofs.answer_read.Reads as reads
-use Rattle.archive.proofs.answer_read.Lts as lts
+use Rattle.answer.proofs.answer_read.Statement.{statement}
+use Rattle.answer.proofs.answer_read.Tie as tie
+use Rattle.answer.proofs.answer_read.Reads as reads
+use Rattle.answer.proofs.answer_read.Lts as lts
 use Rattle.message.proofs.write_head.Reads as write-head-reads
 use Rattle.reader.proofs.copy_out.Reads as copy-out-reads
 

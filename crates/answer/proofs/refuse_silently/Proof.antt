@@ -1,9 +1,9 @@
--- `archive::refuse_silently` meets its contract.
+-- `answer::refuse_silently` meets its contract.
 use mathlib.Core.Path.{refl}
-use Rattle.archive.proofs.Returns.{outcome}
+use Rattle.answer.proofs.Returns.{outcome}
 use borrow.Author.Needs.{needs}
-use Rattle.archive.proofs.refuse_silently.Statement.{statement}
-use Rattle.archive.proofs.refuse_silently.Tie as tie
+use Rattle.answer.proofs.refuse_silently.Statement.{statement}
+use Rattle.answer.proofs.refuse_silently.Tie as tie
 
 number-requires : tie.Need-number-requires
 number-requires c κs = search needs

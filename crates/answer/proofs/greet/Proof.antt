@@ -1,11 +1,11 @@
--- `archive::greet` meets its contract: the version is right, or it is not.
+-- `answer::greet` meets its contract: the version is right, or it is not.
 use mathlib.Core.Path.{refl, _∙_}
 use borrow.Author.Tests.{not-true, not-false}
 use Rattle.log.specs.Parts.{beside}
-use Rattle.archive.proofs.Returns.{outcome, hello-other, hello-right, hello-as}
+use Rattle.answer.proofs.Returns.{outcome, hello-other, hello-right, hello-as}
 use borrow.Author.Needs.{needs}
-use Rattle.archive.proofs.greet.Statement.{statement}
-use Rattle.archive.proofs.greet.Tie as tie
+use Rattle.answer.proofs.greet.Statement.{statement}
+use Rattle.answer.proofs.greet.Tie as tie
 
 tag-of-requires : tie.Need-tag-of-requires
 tag-of-requires c κs = search needs

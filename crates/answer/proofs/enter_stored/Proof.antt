@@ -1,9 +1,9 @@
--- `archive::enter_stored` meets its contract: by what the store did.
-use Rattle.archive.proofs.Returns.{entered-new, entered-none}
+-- `answer::enter_stored` meets its contract: by what the store did.
+use Rattle.answer.proofs.Returns.{entered-new, entered-none}
 use mathlib.Core.Path.{_∙_}
 use borrow.Author.Needs.{needs}
-use Rattle.archive.proofs.enter_stored.Statement.{statement}
-use Rattle.archive.proofs.enter_stored.Tie as tie
+use Rattle.answer.proofs.enter_stored.Statement.{statement}
+use Rattle.answer.proofs.enter_stored.Tie as tie
 
 enum-known-stored : tie.Need-enum-known-stored
 enum-known-stored c = search needs

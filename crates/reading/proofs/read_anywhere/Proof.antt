@@ -1,4 +1,4 @@
--- `archive::serve_read` meets its contract: a case for each return. The log of both parts is read from the border on that was chosen.
+-- `reading::read_anywhere` meets its contract: a case for each return. The log of both parts is read from the border on that was chosen.
 use mathlib.Core.Path.{refl, sym, ap, _∙_}
 use native.Mathlib.Omega.{arith}
 use lib.ListN.{length}
@@ -10,10 +10,10 @@ use Rattle.log.specs.Parts.{beside}
 use Rattle.log.proofs.Counted.{counted-found}
 use Rattle.hint.specs.Hint.{lookUpBy}
 use Rattle.index_lookup.proofs.Held.{found-by-within, found-by-most}
-use Rattle.archive.proofs.Returns.{read-kind, read-refused, read-found, read-as}
+use Rattle.reading.proofs.Returns.{read-kind, read-refused, read-found, read-as}
 use borrow.Author.Needs.{needs}
-use Rattle.archive.proofs.serve_read.Statement.{statement}
-use Rattle.archive.proofs.serve_read.Tie as tie
+use Rattle.reading.proofs.read_anywhere.Statement.{statement}
+use Rattle.reading.proofs.read_anywhere.Tie as tie
 
 tag-of-requires : tie.Need-tag-of-requires
 tag-of-requires c κs =
@@ -109,8 +109,8 @@ returns-3 c = let args = c .before .before .before .before .before .before .befo
     ((c .before .before .refuse2 .ensures) _ _
     ∙ read-refused (a .kind) (a .count) _ _ (a .index .now) L _ _ (is-lawful .ensures) (not-false _ (if1 .left)) J (border .ensures .1) _ (fetch-by .ensures) _ (look2 .given .1))
 
-pub serve-read-spec : {M : Type 1} → statement M
-serve-read-spec =
+pub read-anywhere-spec : {M : Type 1} → statement M
+read-anywhere-spec =
     tie.close
     (tie.spec
     tag-of-requires

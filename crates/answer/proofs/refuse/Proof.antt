@@ -1,8 +1,8 @@
--- `archive::refuse` meets its contract.
-use Rattle.archive.proofs.Returns.{outcome}
+-- `answer::refuse` meets its contract.
+use Rattle.answer.proofs.Returns.{outcome}
 use borrow.Author.Needs.{needs}
-use Rattle.archive.proofs.refuse.Statement.{statement}
-use Rattle.archive.proofs.refuse.Tie as tie
+use Rattle.answer.proofs.refuse.Statement.{statement}
+use Rattle.answer.proofs.refuse.Tie as tie
 
 write-error-requires : tie.Need-write-error-requires
 write-error-requires c κs = search needs
