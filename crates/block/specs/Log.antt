@@ -74,7 +74,7 @@ soundAs log n kind score =
     let size = sizeField (behind s) in
     let p = payloadOf (labelLength date) in
     let k = partsOf p size in
-    let whole = payloads (labelLength date) log k n in
+    let payload = payloads (labelLength date) log k n in
     cond
     (all
     (leb 1 size
@@ -84,11 +84,11 @@ soundAs log n kind score =
     ∷ leb (n + k) (16 ^ 8)
     ∷ labelled log date k n kind size score k 0
     ∷ checked log k n
-    ∷ zeros (drop size whole)
-    ∷ small (take size whole)
-    ∷ same (sha1Of (take size whole)) score
+    ∷ zeros (drop size payload)
+    ∷ small (take size payload)
+    ∷ same (sha1Of (take size payload)) score
     ∷ []))
-    (some (record { kind = kind; score = score; bytes = take size whole; first = n; date = date }))
+    (some (record { kind = kind; score = score; bytes = take size payload; first = n; date = date }))
     none
 
 -- "A sound block is a run of sectors at its rec place": the type and score are those that the label of sector n gives

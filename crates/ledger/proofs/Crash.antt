@@ -94,23 +94,23 @@ module _ (A : Archive) (W : Lawful A) (log : A .Log) (L : Ledger A) (P : Pending
   -- a sector that arrived tells of which row it is
   module _ (n : ℕ) (a : has n arrived ≡ true) where
     pub row : Row
-    row = (C .whole n a) .0
+    row = (C .arrived-whole n a) .0
 
     pub row-in : List·Memᴰ row (L .rows)
     unfolding row
-    row-in = (C .whole n a) .1 .0
+    row-in = (C .arrived-whole n a) .1 .0
 
     pub row-late : L .start ≤ first row
     unfolding row
-    row-late = (C .whole n a) .1 .1
+    row-late = (C .arrived-whole n a) .1 .1
 
     pub row-over : covers A row n ≡ true
     unfolding row
-    row-over = (C .whole n a) .1 .2
+    row-over = (C .arrived-whole n a) .1 .2
 
     pub row-part : at hurt n ≡ image row (n - first row)
     unfolding row
-    row-part = (C .whole n a) .2
+    row-part = (C .arrived-whole n a) .2
 
     row-end : n < end A L
     row-end = omega (arith, (covers-reads A row n row-over) .1, end-row A (L .rows) row row-in)

@@ -41,7 +41,7 @@ module _ (A : Archive) (W : Lawful A) (l : A .Loan) (log : A .Log) (L : Ledger A
   nothing-arrived = record {
     size = extent-alone l log;
     settled = λ n h. alone-early A W l log n (omega (arith, h, S .starts));
-    whole = λ n e. absurd (false≢true e);
+    arrived-whole = λ n e. absurd (false≢true e);
     broken = λ n e. absurd (false≢true e);
     still = λ n h a t. alone-late A W l log n (omega (arith, h, S .starts));
     none-waits = start-alone l log;

@@ -71,7 +71,7 @@ module _ (A : Archive) where
     -- what was settled is as it was
     pub settled : (n : ℕ) → n < L .start → at hurt n ≡ at log n
     -- a sector that arrived was being written, and holds what was written
-    pub whole : (n : ℕ) → has n arrived ≡ true → (r : Row) × Writing L r n × (at hurt n ≡ image r (n - first r))
+    pub arrived-whole : (n : ℕ) → has n arrived ≡ true → (r : Row) × Writing L r n × (at hurt n ≡ image r (n - first r))
     -- a torn sector was being written, does not fit its check and is not blank
     pub broken : (n : ℕ) → has n torn ≡ true → (r : Row) × Writing L r n × (fits (at hurt n) ≡ false) × (isBlank (at hurt n) ≡ false)
     -- every other sector is still blank

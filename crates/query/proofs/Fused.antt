@@ -12,7 +12,7 @@ use Rattle.card.specs.Name.{isName}
 use Rattle.kleene.specs.declared.Value.{Value}
 use Rattle.kleene.specs.Kleene.{notOf, andOf, orOf}
 use Rattle.query.specs.Reading.{Reading, choice, orElse, Choice, term, andAlso, Term, name, negated, group, orWord, andWord, notWord, openWord, closeWord, mostBytes, mostOpen}
-use Rattle.query.specs.Grammar.{Front, words, choose, after, nameAt, listAt, choiceAt, termAt, whole, readingOf}
+use Rattle.query.specs.Grammar.{Front, words, choose, after, nameAt, listAt, choiceAt, termAt, allRead, readingOf}
 use Rattle.query.specs.Value.{valueOf, choiceValue, termValue, Valued, valued}
 use Rattle.query.proofs.Front.{NotNext, after-other, after-word}
 
@@ -111,7 +111,7 @@ wholeStep x k (some (v, [])) = k v
 wholeStep x k (some (v, w ∷ ws)) = x
 
 whole-valued : {C : Type 0} (g : Bytes → Value) (x : C) (k : Value → C) (o : Front Reading)
-    → on (whole o) x (λ q. k (valueOf g q)) ≡ wholeStep x k (valued (valueOf g) o)
+    → on (allRead o) x (λ q. k (valueOf g q)) ≡ wholeStep x k (valued (valueOf g) o)
 whole-valued g x k none = refl
 whole-valued g x k (some (q, [])) = refl
 whole-valued g x k (some (q, w ∷ ws)) = refl

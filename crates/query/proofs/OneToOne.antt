@@ -10,7 +10,7 @@ use lib.ListN.{length}
 use borrow.Author.Tests.{leb-true, le-leb}
 use Rattle.buffer.specs.Bytes.{Bytes}
 use Rattle.query.specs.Reading.{Reading, choice, orElse, Choice, term, andAlso, Term, name, negated, group, tokens, choiceTokens, termTokens, joined, text, mostBytes, mostOpen, Within}
-use Rattle.query.specs.Grammar.{Front, words, listAt, whole, readingOf}
+use Rattle.query.specs.Grammar.{Front, words, listAt, allRead, readingOf}
 use Rattle.query.specs.Claims.{EveryTextOneReading, EveryReadingOneText, OneReadingOfAText, IllFormedHasNone}
 use Rattle.query.proofs.Words.{joined-words, allUnspaced, words-joined, joined-length}
 use Rattle.query.proofs.Names.{tokens-unspaced}
@@ -19,7 +19,7 @@ use Rattle.query.proofs.Tokens.{list-back}
 
 -- ---- a text's reading
 
-all-read : (b : Bytes) (r : Front Reading) → OfList mostOpen (words b) r → length b ≤ mostBytes → (q : Reading) → whole r ≡ some q → (text q ≡ b) × Within q
+all-read : (b : Bytes) (r : Front Reading) → OfList mostOpen (words b) r → length b ≤ mostBytes → (q : Reading) → allRead r ≡ some q → (text q ≡ b) × Within q
 all-read b none h l q e = let z : _≡_ {A = ℕ} 0 1 = cc in absurd (omega arith)
 all-read b (some (p, v ∷ vs)) h l q e = let z : _≡_ {A = ℕ} 0 1 = cc in absurd (omega arith)
 all-read b (some (p, [])) h l q e = rw (← same-reading) (has-text, record { names = h .names; brackets = h .brackets; bytes = rw has-text l })
@@ -34,7 +34,7 @@ pub every-text-one-reading : EveryTextOneReading
 unfolding readingOf
 every-text-one-reading b q = go (leb (length b) mostBytes) refl
   where
-    go : (t : Bool) → leb (length b) mostBytes ≡ t → cond t (whole (listAt (3 * length b + 6) mostOpen (words b))) none ≡ some q → (text q ≡ b) × Within q
+    go : (t : Bool) → leb (length b) mostBytes ≡ t → cond t (allRead (listAt (3 * length b + 6) mostOpen (words b))) none ≡ some q → (text q ≡ b) × Within q
     go true l e = all-read b (listAt (3 * length b + 6) mostOpen (words b)) (list-read (3 * length b + 6) mostOpen (words b)) (leb-true (length b) mostBytes l) q e
     go false l e = let z : _≡_ {A = ℕ} 0 1 = cc in absurd (omega arith)
 

@@ -75,11 +75,11 @@ unfoldable mutual
       (λ vs. on (termAt f d vs) none (λ t. some (negated (t .0), t .1)))
 
 -- nothing may stand behind it
-abbrev pub whole : Front Reading → Option Reading
-whole none = none
-whole (some (q, [])) = some q
-whole (some (q, w ∷ ws)) = none
+abbrev pub allRead : Front Reading → Option Reading
+allRead none = none
+allRead (some (q, [])) = some q
+allRead (some (q, w ∷ ws)) = none
 
 -- a query is a list; "at most 256 bytes and 16 brackets deep"
 unfoldable pub readingOf : Bytes → Option Reading
-readingOf b = cond (leb (length b) mostBytes) (whole (listAt (3 * length b + 6) mostOpen (words b))) none
+readingOf b = cond (leb (length b) mostBytes) (allRead (listAt (3 * length b + 6) mostOpen (words b))) none

@@ -213,7 +213,7 @@ module _ (h : Past) (q : Option (Item archive)) (arrived torn : List ℕ) (lend 
   crashes = record {
     size = same-size;
     settled = λ n lt. is-left n (not-in torn b n lt) (not-in arrived a n lt) ∙ alone-early archive lawful lend (logThen h) n (omega (arith, lt, fits-so .starts));
-    whole = λ n c. (a n c .0, writing n (a n c), has-arrived n (not-torn n c) c ∙ as-written n (a n c));
+    arrived-whole = λ n c. (a n c .0, writing n (a n c), has-arrived n (not-torn n c) c ∙ as-written n (a n c));
     broken = λ n t. (b n t .0, writing n (b n t), ap fits (is-torn n t) ∙ marred-unfit, ap zeros (is-torn n t) ∙ marred-used);
     still = λ n ge c t. is-left n t c ∙ alone-late archive lawful lend (logThen h) n (omega (arith, ge, fits-so .starts));
     none-waits = rests-so;
