@@ -1,4 +1,4 @@
--- `lookup::first_doubtful` meets its contract: no sector before n is doubtful.
+-- `doubt::first_doubtful` meets its contract: no sector before n is doubtful.
 use mathlib.Core.Path.{_≡_, refl, sym, ap, _∙_}
 use Prim.Native.Nat.{ℕ, _+_, _-_, _≤_, _<_}
 use native.Mathlib.Omega.{arith}
@@ -8,12 +8,13 @@ use Rattle.block.proofs.Used.{used-le-sectors}
 use Rattle.block.proofs.Joined.{sectors-joined}
 use Rattle.log.specs.LookUp.{outside}
 use Rattle.log.proofs.Doubt.{walked-zero}
-use Rattle.lookup.proofs.Outcomes.{Passed, walk-stops, walk-on, walk-ends, block-bounds}
+use Rattle.reader.proofs.Placed.{block-bounds}
+use Rattle.doubt.proofs.Walk.{Passed, walk-stops, walk-on, walk-ends}
 use borrow.Author.Needs.{needs}
-use Rattle.lookup.proofs.first_doubtful.Statement.{statement}
-use Rattle.lookup.proofs.first_doubtful.Tie as tie
-use Rattle.lookup.proofs.first_doubtful.Reads as reads
-use Rattle.lookup.proofs.first_doubtful.Lts as lts
+use Rattle.doubt.proofs.first_doubtful.Statement.{statement}
+use Rattle.doubt.proofs.first_doubtful.Tie as tie
+use Rattle.doubt.proofs.first_doubtful.Reads as reads
+use Rattle.doubt.proofs.first_doubtful.Lts as lts
 use Rattle.block.proofs.parts_of.Reads as parts-of-reads
 use Rattle.reader.proofs.sound_at.Reads as sound-at-reads
 

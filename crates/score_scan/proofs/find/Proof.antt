@@ -1,4 +1,4 @@
--- `lookup::find` meets its contract: the first block among the sectors that are left is the first of all.
+-- `score_scan::find` meets its contract: the first block among the sectors that are left is the first of all.
 use mathlib.Core.Path.{_≡_, refl, sym, ap, _∙_}
 use mathlib.Core.Logic.{⊎-elim}
 use Prim.Native.Nat.{ℕ, _+_, _-_, _≤_, _<_}
@@ -11,13 +11,14 @@ use Rattle.block.specs.Log.{sectors, joined, sound}
 use Rattle.block.proofs.At.{length-at}
 use Rattle.block.proofs.Joined.{sectors-joined}
 use Rattle.log.specs.LookUp.{blocks, firstOf}
-use Rattle.lookup.proofs.Outcomes.{other-digits, placed-none, find-more, find-found, find-nowhere}
+use Rattle.reader.proofs.Placed.{placed-none}
+use Rattle.score_scan.proofs.Scan.{other-digits, find-more, find-found, find-nowhere}
 use borrow.Author.Needs.{needs}
-use Rattle.lookup.proofs.find.Statement.{statement}
-use Rattle.lookup.proofs.find.Tie as tie
-use Rattle.lookup.proofs.find.Reads as reads
-use Rattle.lookup.proofs.find.Lts as lts
-use Rattle.lookup.proofs.may_hold.Reads as may-hold-reads
+use Rattle.score_scan.proofs.find.Statement.{statement}
+use Rattle.score_scan.proofs.find.Tie as tie
+use Rattle.score_scan.proofs.find.Reads as reads
+use Rattle.score_scan.proofs.find.Lts as lts
+use Rattle.score_scan.proofs.may_hold.Reads as may-hold-reads
 use Rattle.reader.proofs.sector_at.Reads as sector-at-reads
 use Rattle.reader.proofs.sound_as.Reads as sound-as-reads
 use Rattle.word.proofs.hex.put_hex_bytes.Reads as put-hex-bytes-reads

@@ -1,15 +1,15 @@
--- `lookup::may_hold` meets its contract.
+-- `score_scan::may_hold` meets its contract.
 use mathlib.Core.Path.{_≡_, sym, ap, _∙_}
 use mathlib.Core.Bool.{Bool, true, false, _||_}
 use lib.ListN.{length, take, drop}
 use Rattle.buffer.specs.Bytes.{Bytes, same}
-use Rattle.lookup.specs.Digits.{mayHold}
-use Rattle.lookup.proofs.Outcomes.{holds-dated, holds-plain}
+use Rattle.score_scan.specs.Digits.{mayHold}
+use Rattle.score_scan.proofs.Scan.{holds-dated, holds-plain}
 use borrow.Author.Needs.{needs}
-use Rattle.lookup.proofs.may_hold.Statement.{statement}
-use Rattle.lookup.proofs.may_hold.Tie as tie
-use Rattle.lookup.proofs.may_hold.Reads as reads
-use Rattle.lookup.proofs.may_hold.Lts as lts
+use Rattle.score_scan.proofs.may_hold.Statement.{statement}
+use Rattle.score_scan.proofs.may_hold.Tie as tie
+use Rattle.score_scan.proofs.may_hold.Reads as reads
+use Rattle.score_scan.proofs.may_hold.Lts as lts
 use Rattle.buffer.proofs.equal.Reads as equal-reads
 
 -- src/lib.rt:75:22

@@ -1,10 +1,10 @@
--- `lookup::find_held` meets its contract.
+-- `score_scan::find_held` meets its contract.
 use mathlib.Core.Logic.{⊎-elim}
-use Rattle.lookup.proofs.Outcomes.{held-zero, held-scan, not-lawful, not-zero}
+use Rattle.score_scan.proofs.Scan.{held-zero, held-scan, not-lawful, not-zero}
 use Rattle.block.specs.Log.{joined}
 use borrow.Author.Needs.{needs}
-use Rattle.lookup.proofs.find_held.Statement.{statement}
-use Rattle.lookup.proofs.find_held.Tie as tie
+use Rattle.score_scan.proofs.find_held.Statement.{statement}
+use Rattle.score_scan.proofs.find_held.Tie as tie
 
 is-lawful-requires : tie.Need-is-lawful-requires
 is-lawful-requires c κs = search needs

@@ -1,4 +1,4 @@
--- `lookup::used_both` meets its contract.
+-- `doubt::used_both` meets its contract.
 use mathlib.Core.Path.{ap, _∙_}
 use Prim.Native.Nat.{ℕ, _*_}
 use native.Mathlib.Nat.{sub-zero}
@@ -6,10 +6,10 @@ use native.Mathlib.Omega.{arith}
 use lib.ListN.{take}
 use Rattle.block.specs.Log.{used}
 use Rattle.block.proofs.Used.{used-le-sectors}
-use Rattle.lookup.proofs.Both.{used-waits, used-front}
+use Rattle.doubt.proofs.Both.{used-waits, used-front}
 use borrow.Author.Needs.{needs}
-use Rattle.lookup.proofs.used_both.Statement.{statement}
-use Rattle.lookup.proofs.used_both.Tie as tie
+use Rattle.doubt.proofs.used_both.Statement.{statement}
+use Rattle.doubt.proofs.used_both.Tie as tie
 
 used-part-requires : tie.Need-used-part-requires
 used-part-requires c κs = search needs

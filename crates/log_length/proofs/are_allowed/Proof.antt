@@ -1,9 +1,9 @@
--- `lookup::are_allowed` meets its contract.
+-- `log_length::are_allowed` meets its contract.
 use borrow.Author.Tests.{not-true, not-false}
-use Rattle.lookup.proofs.Outcomes.{lent-log, lent-ragged, lent-whole}
+use Rattle.log_length.proofs.Lengths.{lent-log, lent-ragged, lent-whole}
 use borrow.Author.Needs.{needs}
-use Rattle.lookup.proofs.are_allowed.Statement.{statement}
-use Rattle.lookup.proofs.are_allowed.Tie as tie
+use Rattle.log_length.proofs.are_allowed.Statement.{statement}
+use Rattle.log_length.proofs.are_allowed.Tie as tie
 
 is-allowed-requires : tie.Need-is-allowed-requires
 is-allowed-requires c κs = search needs

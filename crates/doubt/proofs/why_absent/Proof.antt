@@ -1,9 +1,9 @@
--- `lookup::why_absent` meets its contract.
+-- `doubt::why_absent` meets its contract.
 use Rattle.block.specs.Log.{joined}
-use Rattle.lookup.proofs.Outcomes.{absent-known, absent-held}
+use Rattle.doubt.proofs.Walk.{absent-known, absent-held}
 use borrow.Author.Needs.{needs}
-use Rattle.lookup.proofs.why_absent.Statement.{statement}
-use Rattle.lookup.proofs.why_absent.Tie as tie
+use Rattle.doubt.proofs.why_absent.Statement.{statement}
+use Rattle.doubt.proofs.why_absent.Tie as tie
 
 used-both-requires : tie.Need-used-both-requires
 used-both-requires c κs = search needs
