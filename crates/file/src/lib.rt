@@ -92,7 +92,7 @@ pub fn locate<'a>(
         return Located::Refused(Refusal::Offset);
     }
     let end = lookup::border(log, waiting);
-    let look = leaf::descend(log, end, waiting, e, offset, &entry[20..40]);
+    let look = way_down::descend(log, end, waiting, e, offset, &entry[20..40]);
     split(end, leaf::run_in(look, page.len(), e, offset))
 }
 

@@ -56,7 +56,7 @@ fn fill_leaf<'a>(
     requires { ⌜ (end .0 ≤ sectors (length (now log))) × Open e offset × (length (now top) ≡ 20) × (0 < length (now d)) ⌝ }
     ensures { λ r. ⌜ fillOutcome r (now (d .exit)) ≡ filledWith (now (d .entry)) (gathered (byteBelow (joined (end .0) (now (log .entry)) (now (waiting .entry))) e (now (top .entry))) (min (length (now (d .entry))) (e .dsize - offset % e .dsize)) offset) ⌝ }
 {
-    let look = leaf::descend(log, end, waiting, e, offset, top);
+    let look = way_down::descend(log, end, waiting, e, offset, top);
     match look {
         Look::Found(b) => {
             let k = (offset % e.dsize as u64) as usize;

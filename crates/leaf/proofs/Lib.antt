@@ -1,5 +1,4 @@
--- The laws that the functions of `leaf` cite.
+-- The laws of runs and of what is below a score.
 pub mod Places
-pub mod Counted
 pub mod Steps
 pub mod Under

@@ -1,12 +1,11 @@
--- Digits by repeated division; where a byte of a block lies in the log.
-use mathlib.Core.Path.{_≡_, refl, sym, ap, _∙_}
-use Prim.Native.Nat.{ℕ, suc, _+_, _-_, _*_, _/_, _%_, _^_, _≤_, _<_}
-use native.Mathlib.Nat.{div-one, div-div-eq-div-mul, pow-zero, pow-succ', mod-lt}
+-- Where a byte of a block lies in the log.
+use mathlib.Core.Path.{_≡_, refl, ap, _∙_}
+use Prim.Native.Nat.{ℕ, _+_, _-_, _*_, _/_, _%_, _^_, _≤_, _<_}
+use native.Mathlib.Nat.{mod-lt}
 use native.Mathlib.Omega.{arith}
 use lib.ListN.{length, drop, getD}
 use lib.Seq.{getD-take, getD-drop}
 use Rattle.buffer.specs.Bytes.{Bytes}
-use Rattle.kind.specs.Kind.{longest}
 use Rattle.block.specs.declared.Block.{Block}
 use Rattle.block.specs.Block.{Inside}
 use Rattle.block.specs.Log.{sectors, bytesOf}
@@ -18,18 +17,6 @@ use Rattle.log.specs.LookUp.{mostSectors, mostWaiting}
 use Rattle.tree.proofs.Pieces.{byte-in}
 use Rattle.leaf.specs.Leaf.{payloadIn, placeIn}
 use Rattle.leaf.specs.Fetch.{LiesIn}
-
--- ---- digits
-
-pub digit-next : (q p k : ℕ) → 0 < k → q / p / p ^ (k - 1) ≡ q / p ^ k
-digit-next q p k h =
-    let e : suc (k - 1) ≡ k = omega arith in
-    div-div-eq-div-mul q p (p ^ (k - 1)) ∙ ap (λ (x : ℕ). q / x) (sym (pow-succ' p (k - 1))) ∙ ap (λ (x : ℕ). q / p ^ x) e
-
-pub digit-end : (q p k m : ℕ) → k ≡ 0 → q / p ^ k ≡ m → q % p ≡ m % p
-digit-end q p k m z e = ap (λ (x : ℕ). x % p) (sym (ap (λ (x : ℕ). q / p ^ x) z ∙ ap (λ (x : ℕ). q / x) (pow-zero p) ∙ div-one q) ∙ e)
-
--- ---- bytes of a block
 
 -- a byte of the block at a place among n sectors: up to the end of its payload
 module _ (n : ℕ) (b : Block) (h : Inside n b) (j : ℕ) (g : j < b .size) where
@@ -66,10 +53,6 @@ module _ (log : Bytes) (b : Block) (h : Inside (sectors (length log)) b) where
 -- its place by the payload's length
 pub place-by : (b : Block) (k p : ℕ) → p ≡ payloadIn b → 512 * (b .first .0 + k / p) + (b .label + k % p) ≡ placeIn b k
 place-by b k p e = ap (λ (x : ℕ). 512 * (b .first .0 + k / x) + (b .label + k % x)) e
-
--- an index is below p
-pub digit-small : (psize m r : ℕ) → 40 ≤ psize → psize ≤ longest → r ≡ m % (psize / 20) → r ≤ longest
-digit-small psize m r a b e = let g : 0 < psize / 20 = omega arith in omega (arith, mod-lt m g)
 
 -- among more sectors
 pub lies-more : (n m : ℕ) (l : Look) → n ≤ m → LiesIn n l → LiesIn m l

@@ -1,11 +1,11 @@
--- `leaf::digit` meets its contract: what is left of the number, over what is left of the power, is the same all the way.
+-- `way_down::digit` meets its contract: what is left of the number, over what is left of the power, is the same all the way.
 use mathlib.Core.Path.{_≡_, refl, _∙_}
 use Prim.Native.Nat.{_/_, _^_}
 use native.Mathlib.Omega.{arith}
-use Rattle.leaf.proofs.Places.{digit-next, digit-end}
+use Rattle.way_down.proofs.Digits.{digit-next, digit-end}
 use borrow.Author.Needs.{needs}
-use Rattle.leaf.proofs.digit.Statement.{statement}
-use Rattle.leaf.proofs.digit.Tie as tie
+use Rattle.way_down.proofs.digit.Statement.{statement}
+use Rattle.way_down.proofs.digit.Tie as tie
 
 abbrev Inv-loop : tie.InvT-loop
 Inv-loop n p d rest₀ k₀ rest k = rest / p ^ k ≡ n / p ^ d

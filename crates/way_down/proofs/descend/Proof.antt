@@ -1,4 +1,4 @@
--- `leaf::descend` meets its contract: the run under the score reached, at its level, is the run under the top score, for every offset of the leaf.
+-- `way_down::descend` meets its contract: the run under the score reached, at its level, is the run under the top score, for every offset of the leaf.
 use mathlib.Core.Path.{_≡_, refl, sym, ap, _∙_}
 use Prim.Native.Nat.{ℕ, suc, _+_, _-_, _/_, _%_, _^_, _<_}
 use native.Mathlib.Omega.{arith}
@@ -8,12 +8,12 @@ use Rattle.block.specs.Block.{partsOf}
 use Rattle.block.specs.Log.{joined}
 use Rattle.block.proofs.Joined.{sectors-joined}
 use Rattle.entry.specs.Entry.{pointers}
 use Rattle.leaf.specs.Leaf.{under}
-use Rattle.leaf.proofs.Places.{digit-small}
-use Rattle.leaf.proofs.Steps.{look-room, under-empty, found-room, next-score, leaf-looked-up, level-refused, level-ragged, level-next}
+use Rattle.way_down.proofs.Digits.{digit-small}
+use Rattle.way_down.proofs.Steps.{look-room, under-empty, found-room, next-score, leaf-looked-up, level-refused, level-ragged, level-next}
 use borrow.Author.Needs.{needs}
-use Rattle.leaf.proofs.descend.Statement.{statement}
-use Rattle.leaf.proofs.descend.Tie as tie
+use Rattle.way_down.proofs.descend.Statement.{statement}
+use Rattle.way_down.proofs.descend.Tie as tie
 
 abbrev Inv-loop : tie.InvT-loop
 Inv-loop log end waiting e offset top score₀ leaf p level₀ score level =
