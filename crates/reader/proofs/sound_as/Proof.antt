@@ -3,7 +3,7 @@ use mathlib.Core.Path.{ap, _∙_}
 use native.Mathlib.Omega.{arith}
 use lib.ListN.{length}
 use Rattle.block.specs.Log.{joined}
-use Rattle.reader.proofs.Pieces.{length-at}
+use Rattle.block.proofs.At.{length-at}
 use Rattle.reader.proofs.Sound.{front-read, front-taken}
 use borrow.Author.Needs.{needs}
 use Rattle.reader.proofs.sound_as.Statement.{statement}

@@ -9,8 +9,8 @@ use Rattle.word.specs.Hex.{isHex, readBytes}
 use Rattle.sector.specs.Sector.{behind}
 use Rattle.sector.proofs.Dates.{front-most}
 use Rattle.block.specs.Log.{joined, at}
-use Rattle.reader.specs.Reader.{numberOf}
-use Rattle.reader.proofs.Pieces.{length-at}
+use Rattle.block_tests.specs.Number.{numberOf}
+use Rattle.block.proofs.At.{length-at}
 use Rattle.reader.proofs.Digits.{number-value, number-lt, unread, bytes-read}
 use Rattle.reader.proofs.Sound.{front-is, front-read, front-taken, field-at, no-kind, no-score, sound-read}
 use borrow.Author.Needs.{needs}

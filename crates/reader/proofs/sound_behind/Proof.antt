@@ -12,7 +12,7 @@ use Rattle.sector.proofs.Dates.{front-most}
 use Rattle.block.specs.Block.{partsOf}
 use Rattle.block.specs.Log.{joined, at, checked}
 use Rattle.block.proofs.Joined.{sectors-joined, small-joined}
-use Rattle.reader.specs.Reader.{numberOf}
+use Rattle.block_tests.specs.Number.{numberOf}
 use Rattle.reader.proofs.Pieces.{few-parts}
 use Rattle.reader.proofs.Digits.{number-value}
 use Rattle.reader.proofs.Sound.{field-at, unsound, unsized, passed}

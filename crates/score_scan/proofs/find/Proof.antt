@@ -19,7 +19,6 @@ use Rattle.score_scan.proofs.find.Tie as tie
 use Rattle.score_scan.proofs.find.Reads as reads
 use Rattle.score_scan.proofs.find.Lts as lts
 use Rattle.score_scan.proofs.may_hold.Reads as may-hold-reads
-use Rattle.reader.proofs.sector_at.Reads as sector-at-reads
 use Rattle.reader.proofs.sound_as.Reads as sound-as-reads
 use Rattle.word.proofs.hex.put_hex_bytes.Reads as put-hex-bytes-reads
 

@@ -16,7 +16,6 @@ use Rattle.store.proofs.append_new.Reads as reads
 use Rattle.store.proofs.append_new.Lts as lts
 use Rattle.append.proofs.append_block.Reads as append-block-reads
 use Rattle.block.proofs.parts_of.Reads as parts-of-reads
-use Rattle.reader.proofs.used_part.Reads as used-part-reads
 
 -- src/lib.rt:40:9
 used-part-requires : tie.Need-used-part-requires

@@ -5,7 +5,6 @@ use Rattle.store.proofs.compare.Statement.{statement}
 use Rattle.store.proofs.compare.Tie as tie
 use Rattle.store.proofs.compare.Reads as reads
 use Rattle.store.proofs.compare.Lts as lts
-use Rattle.reader.proofs.same_bytes.Reads as same-bytes-reads
 
 -- src/lib.rt:65:9
 returns : tie.Need-returns

@@ -10,7 +10,6 @@ use Rattle.survey_calls.proofs.sound_at.Statement.{statement}
 use Rattle.survey_calls.proofs.sound_at.Tie as tie
 use Rattle.survey_calls.proofs.sound_at.Reads as reads
 use Rattle.survey_calls.proofs.sound_at.Lts as lts
-use Rattle.lookup.proofs.is_allowed.Reads as is-allowed-reads
 use Rattle.reader.proofs.sound_at.Reads as sound-at-reads
 use Rattle.refusal.proofs.number.Reads as number-reads
 

@@ -11,7 +11,6 @@ use Rattle.writer.proofs.write_file.Statement.{statement}
 use Rattle.writer.proofs.write_file.Tie as tie
 use Rattle.writer.proofs.write_file.Reads as reads
 use Rattle.writer.proofs.write_file.Lts as lts
-use Rattle.lookup.proofs.are_allowed.Reads as are-allowed-reads
 use Rattle.sector.proofs.is_date.Reads as is-date-reads
 use Rattle.writer.proofs.depth_of.Reads as depth-of-reads
 use Rattle.writer.proofs.write_tested.Reads as write-tested-reads

@@ -1,0 +1,3 @@
+pub mod Rest
+pub mod Turns
+pub mod Digits
