@@ -1,44 +1,30 @@
--- Write messages one after the other to a log for which nothing waits.
-use mathlib.Core.Path.{_≡_, refl, sym, ap, ap₂, subst, _∙_}
-use mathlib.Core.Bool.{true}
+-- Blocks stored one after the other in a log for which nothing waits, and the visits of a copy.
+use mathlib.Core.Path.{_≡_, refl, sym, ap, subst, _∙_}
 use mathlib.Core.List.{List, [], _∷_, _++_, map}
 use mathlib.Core.Logic.{_⊎_, inl, inr}
 use mathlib.Core.Option.{Option, none, some}
-use Prim.Native.Nat.{ℕ, zero, suc, _≤_, _<_}
-use native.Mathlib.Omega.{arith}
-use lib.ListN.{length, getD, replicate, length-append}
+use Prim.Native.Nat.{ℕ, suc}
+use lib.ListN.{length, replicate}
 use Rattle.ground.specs.Choice.{on}
 use Rattle.ground.proofs.Choices.{cond-ind}
 use Rattle.buffer.specs.Bytes.{Bytes, same}
 use Rattle.sha1.specs.Sha1.{sha1Of}
-use Rattle.sector.specs.Sector.{isDate}
 use Rattle.block.specs.Block.{Row}
 use Rattle.block.proofs.Written.{length-written}
-use Rattle.log.specs.LookUp.{held, logAllowed}
+use Rattle.log.specs.LookUp.{held}
 use Rattle.log.specs.Parts.{Lent, alone, roomFor, appendRow}
 use Rattle.log.specs.Store.{AfterStore, store, appended, compared, partsFor}
 use Rattle.log.specs.declared.Stored.{Stored as StoredAs}
 use Rattle.log.specs.declared.Stored.the-variants.{New, Duplicate, Refused as NotStored}
-use Rattle.request.specs.Step as steps
-use Rattle.request.specs.declared.Session.{Session}
-use Rattle.request.specs.declared.Session.the-variants.{Fresh, Greeted}
 use Rattle.visit.specs.declared.Walked.{Walked}
 use Rattle.visit.specs.Visit as walks
-use Rattle.ledger.specs.Trace.{trace}
-use Rattle.ledger.specs.History.{AllOfBytes, answer}
-use Rattle.demands.specs.Instance.{archive}
-use Rattle.writer.specs.Blocks.{Typed}
+use Rattle.ledger.specs.History.{answer}
 use Rattle.writer.specs.WriteFile.{endOf, endNumber, AfterAll, onward, storeAll}
-use Rattle.writer.specs.declared.End.{End}
-use Rattle.writer.specs.declared.End.the-variants.{Done, Refused}
-use Rattle.writer_laws.specs.Held.{Writable, AllWritable}
-use Rattle.writer_laws.specs.Asking.{going, asked, numbers, writeMessage, writeItem}
+use Rattle.writer_laws.specs.Asking.{going, numbers}
 use Rattle.copying.specs.Copy.{Copied, storeEnd, thenBy}
 use Rattle.copying.specs.PostOrder.{typeOf, Visit, stored, storeVisits}
-use Rattle.copying.proofs.Stored.{Stored, new, there, refused, stored-alone}
-use Rattle.copying.proofs.Promised.{allowed-fits}
+use Rattle.copying.proofs.Stored.{Stored, new, there, refused}
 use Rattle.copy_laws.specs.Requests.{typed}
-use Rattle.copy_laws.proofs.Messages.{small-message, one-write}
 
 -- ---- a store in a log alone leaves a log alone, as long as it was
 
@@ -57,64 +43,6 @@ pub as-long : (s date : Bytes) (t : ℕ) (b : Bytes) (a : AfterStore) → Stored
 as-long s date t b a (new r v f room k sc eb d h e _) = ap length e ∙ length-written s r v room
 as-long s date t b a (there x h eb e _) = ap length e
 as-long s date t b a (refused R e) = ap length e
-
-still-allowed : (s date : Bytes) (x : Typed) → logAllowed (length s) ≡ true → isDate date ≡ true → Writable x
-    → logAllowed (length (store (alone s) date (x .kind) (x .bytes) .lent .log)) ≡ true
-still-allowed s date x al d W =
-    ap logAllowed (as-long s date (x .kind) (x .bytes) (store (alone s) date (x .kind) (x .bytes))
-    (stored-alone s date (x .kind) (x .bytes) (allowed-fits (length s) al) d (W .0) (W .1) (W .2)))
-    ∙ al
-
--- ---- all of them, in the session that message i left
-
-front-stays : (xs ys : List Session) (i : ℕ) → i < length xs → getD (xs ++ ys) i Fresh ≡ getD xs i Fresh
-front-stays [] ys i h = absurd (omega arith)
-front-stays (x ∷ xs) ys zero h = refl
-front-stays (x ∷ xs) ys (suc i) h = front-stays xs ys i (omega arith)
-
-module _ (date buffer : Bytes) (dated : isDate date ≡ true) (room : steps.replyRoom ≤ length buffer) (i : ℕ) where
-  -- what a list of blocks asked for leaves, and its numbers
-  unfoldable pub Same : Lent → List Session → List Typed → Lent → List ℕ → Type 0
-  Same L past xs M ns =
-      let T = trace (answer archive) (record { log = L; past = past }) (map (writeItem date buffer i) xs) in (T .left .log ≡ M) × (map (λ s. s .answer .number) (T .seen) ≡ ns)
-
-  ways : (e : End) (M : Lent) (p : List Session) (ys : List Typed) → Same M p (asked M date ys) (storeAll M date ys .lent) (numbers M date ys)
-      → Same M p (going e (asked M date ys)) (onward e M (storeAll M date ys) .lent) (going e (numbers M date ys))
-  unfolding Same
-  ways Done M p ys s = s
-  ways (Refused y) M p ys s = (refl, refl)
-
-  pub run : (xs : List Typed) (s : Bytes) (past : List Session) → logAllowed (length s) ≡ true → AllWritable xs → i < length past → getD past i Fresh ≡ Greeted
-      → Same (alone s) past (asked (alone s) date xs) (storeAll (alone s) date xs .lent) (numbers (alone s) date xs)
-  unfolding Same asked numbers storeAll
-  run [] s past al A h g = (refl, refl)
-  run (x ∷ xs) s past al A h g =
-      let L = alone s in
-      let a = store L date (x .kind) (x .bytes) in
-      let o = steps.step (getD past i Fresh) (writeMessage x) (some date) L buffer in
-      let one = one-write L date buffer al dated room x (A .0) (getD past i Fresh) g in
-      let past′ = past ++ (o .session ∷ []) in
-      let rest = run xs (a .lent .log) past′ (still-allowed s date x al dated (A .0)) (A .1) (omega (arith, length-append past (o .session ∷ []))) (front-stays past (o .session ∷ []) i h ∙ g) in
-      let after = subst (λ (M : Lent). Same M past′ (asked M date xs) (storeAll M date xs .lent) (numbers M date xs)) (sym (still-alone s date (x .kind) (x .bytes))) rest in
-      let all = subst (λ (l : Lent). Same l past′ (going (endOf (a .receipt .stored)) (asked (a .lent) date xs)) (onward (endOf (a .receipt .stored)) (a .lent) (storeAll (a .lent) date xs) .lent)
-      (going (endOf (a .receipt .stored)) (numbers (a .lent) date xs))) (sym (one .lent)) (ways (endOf (a .receipt .stored)) (a .lent) past′ xs after) in
-      (all .0, ap₂ _∷_ (one .number) (all .1))
-
--- ---- they are of bytes
-
-pub asked-writable : (L : Lent) (date : Bytes) (xs : List Typed) → AllWritable xs → AllWritable (asked L date xs)
-unfolding asked
-asked-writable L date [] A = tt
-asked-writable L date (x ∷ xs) A =
-    let a = store L date (x .kind) (x .bytes) in (A .0, go (endOf (a .receipt .stored)) (asked (a .lent) date xs) (asked-writable (a .lent) date xs (A .1)))
-  where
-    go : (e : End) (ys : List Typed) → AllWritable ys → AllWritable (going e ys)
-    go Done ys h = h
-    go (Refused y) ys h = tt
-
-pub of-bytes : (date buffer : Bytes) (i : ℕ) (xs : List Typed) → AllWritable xs → AllOfBytes archive (map (writeItem date buffer i) xs)
-of-bytes date buffer i [] A = tt
-of-bytes date buffer i (x ∷ xs) A = (small-message x (A .0), of-bytes date buffer i xs (A .1))
 
 -- ---- the visits of a copy
 

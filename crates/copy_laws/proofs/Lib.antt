@@ -1,6 +1,5 @@
--- Laws of a copy: `Messages`, of one write message to any log; `Asked`, of the list of them; `Promised`, the theorems of requests; `Resumed`, of growth; `EveryBlock`, of the
--- walk over a file that was written.
-pub mod Messages
+-- Laws of a copy: `Asked`, of its blocks stored one after the other; `Promised`, the theorems of requests; `Resumed`, of growth; `EveryBlock`, of the walk over a
+-- file that was written.
 pub mod Asked
 pub mod Promised
 pub mod Resumed

@@ -1,18 +1,14 @@
 -- A copy and the write messages of its blocks leave the same log; so it is a list of events.
-use mathlib.Core.Path.{_≡_, refl, sym, ap, ap₂, subst, _∙_}
+use mathlib.Core.Path.{_≡_, refl, sym, ap, subst, _∙_}
 use mathlib.Core.List.{List, [], _∷_, _++_, map}
-use mathlib.Core.Option.{Option, some}
+use mathlib.Core.Option.{Option}
 use Prim.Native.Nat.{ℕ}
-use native.Mathlib.Omega.{arith}
-use lib.ListN.{length, getD, length-append}
+use lib.ListN.{length}
 use Rattle.buffer.specs.Bytes.{Bytes}
 use Rattle.log.specs.LookUp.{lentAllowed}
-use Rattle.log.specs.Parts.{Lent, alone, tape}
-use Rattle.request.specs.Step as steps
-use Rattle.request.specs.declared.Session.{Session}
-use Rattle.request.specs.declared.Session.the-variants.{Fresh, Greeted}
+use Rattle.log.specs.Parts.{alone, tape}
+use Rattle.request.specs.declared.Session.the-variants.{Greeted}
 use Rattle.visit.specs.declared.Walked.{Walked}
-use Rattle.visit.specs.Visit as walks
 use Rattle.ledger.specs.Trace.{trace, Along}
 use Rattle.ledger.specs.History.{Item, AllOfBytes, Standing, Books}
 use Rattle.ledger.specs.Events.{ask, stop, happen, recountEvent, Possible, log-then, books-then}
@@ -20,9 +16,10 @@ use Rattle.ledger.proofs.Trace.{along-append, left-append}
 use Rattle.ledger.proofs.Asks.{happen-left, possible-asks}
 use Rattle.demands.specs.Instance.{relent, archive}
 use Rattle.promises.specs.Histories.{afterwards}
-use Rattle.writer.specs.WriteFile.{storeAll}
 use Rattle.writer_laws.specs.Held.{AllWritable}
-use Rattle.writer_laws.specs.Asking.{asked, numbers, helloMessage}
+use Rattle.writer_laws.specs.Asking.{numbers}
+use Rattle.writer_laws.proofs.Messages.{any-write}
+use Rattle.writer_laws.proofs.Asking.{stores-asked}
 use Rattle.copying.specs.Copy.{Copied, copyOf}
 use Rattle.copying.specs.PostOrder.{typeOf, Visit, postOrderOf}
 use Rattle.copying.specs.Promises.{HoldsAll}
@@ -31,8 +28,7 @@ use Rattle.copying.proofs.Promised.{second-allowed}
 use Rattle.copying.proofs.WalkInPostOrder.{tests-post-order, post-order-is-walk}
 use Rattle.copying.proofs.Writes.{shown-writable}
 use Rattle.copy_laws.specs.Requests.{WritesAreRequests, typed, copyBlocks, copyRequests, CopyIsRequests, NumbersAreItsOwn, copyEvents, CopyIsEvents}
-use Rattle.copy_laws.proofs.Messages.{greets, any-write}
-use Rattle.copy_laws.proofs.Asked.{still-alone, Same, run, asked-writable, of-bytes, stores-are-visits, Numbered, numbered}
+use Rattle.copy_laws.proofs.Asked.{still-alone, stores-are-visits, Numbered, numbered}
 
 -- what a log holds may be written
 writable : (first : Bytes) (vs : List Visit) → HoldsAll first vs → AllWritable (map typed vs)
@@ -43,30 +39,18 @@ writable first (v ∷ vs) h =
 pub writes-are-requests : WritesAreRequests
 writes-are-requests first date v s m buffer h d a f room q e =
     let W = writable first (v ∷ []) (h, tt) in
-    any-write (alone s) date buffer a d room m (typed v) (W .0) f q e .lent ∙ still-alone s date (typeOf (v .role)) (v .bytes)
-
-end-getD : (xs : List Session) (y : Session) → getD (xs ++ (y ∷ [])) (length xs) Fresh ≡ y
-end-getD [] y = refl
-end-getD (x ∷ xs) y = end-getD xs y
+    any-write (alone s) date buffer a d room m (typed v) (W .0) f q e Greeted refl .lent ∙ still-alone s date (typeOf (v .role)) (v .bytes)
 
 pub copy-is-requests : CopyIsRequests
-unfolding Same
 copy-is-requests log waiting date score second n buffer past l d room =
     let p = postOrderOf log waiting score n in
-    let xs = copyBlocks log waiting score n in
     let A = writable (tape log waiting) (p .visits) (tests-post-order (lentAllowed (length log) (length waiting)) score n .shown (tape log waiting)) in
     let al = second-allowed (length log) (length waiting) (length second) l in
-    let L = alone second in
-    let o = steps.step Fresh helloMessage (some date) L buffer in
-    let is = greets L date buffer al d room in
-    let i = length past in
-    let past′ = past ++ (o .session ∷ []) in
-    let greeted : getD past′ i Fresh ≡ Greeted = end-getD past (o .session) ∙ ap (λ (y : steps.Outcome). y .session) is in
-    let r = run date buffer d room i xs second past′ al A (omega (arith, length-append past (o .session ∷ []))) greeted in
-    let s = subst (λ (M : Lent). Same date buffer d room i M past′ (asked L date xs) (storeAll L date xs .lent) (numbers L date xs)) (sym (ap (λ (y : steps.Outcome). y .lent) is)) r in (
-      (refl, of-bytes date buffer i (asked L date xs) (asked-writable L date xs A)),
-      s .0 ∙ stores-are-visits date (p .visits) (p .answer) second ∙ ap (λ (c : Copied). alone (c .second)) (sym (copy-is-stores log waiting date score second n l d)),
-      ap₂ _∷_ (ap (λ (y : steps.Outcome). y .number) is) (s .1),
+    let S = stores-asked (alone second) date buffer past (copyBlocks log waiting score n) al d room A in (
+      S .0,
+      ap (λ (x : Standing archive). x .log) (S .1) ∙ stores-are-visits date (p .visits) (p .answer) second
+          ∙ ap (λ (c : Copied). alone (c .second)) (sym (copy-is-stores log waiting date score second n l d)),
+      S .2,
     )
 
 pub numbers-are-its-own : NumbersAreItsOwn

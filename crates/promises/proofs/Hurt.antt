@@ -32,8 +32,8 @@ given-same a b m buffer count r = go (ltb count (length (r .bytes))) refl
     go true q = rw q
     go false q = rw q
 
--- a read that is well-formed with one log is so with another whose lengths are the same
-allowed-with : (a b : Lent) → extentOf b ≡ extentOf a → steps.allowed a ≡ true → steps.allowed b ≡ true
+-- what may be lent with these lengths may be lent with other bytes, and so a read that is well-formed with one log is so with another
+pub allowed-with : (a b : Lent) → extentOf b ≡ extentOf a → steps.allowed a ≡ true → steps.allowed b ≡ true
 allowed-with a b e q = by-lengths (b .log) (b .waiting) ∙ ap allowed e ∙ sym (by-lengths (a .log) (a .waiting)) ∙ q
   where
     by-lengths : (log : Bytes) (o : Option Bytes) → let L : Lent = record { log = log; waiting = o } in steps.allowed L ≡ allowed (extentOf L)

@@ -4,7 +4,7 @@ use mathlib.Core.Bool.{Bool, true, false, cond}
 use mathlib.Core.List.{List, [], _∷_, _++_, map}
 use mathlib.Core.Logic.{_⊎_, inl, inr}
 use mathlib.Core.Option.{none, some}
-use Prim.Native.Nat.{ℕ, _+_, _≤_, _<_}
+use Prim.Native.Nat.{ℕ, _≤_, _<_}
 use native.Mathlib.Omega.{arith}
 use lib.Dec.{eqb}
 use lib.ListN.{length, getD, length-append}
@@ -31,48 +31,46 @@ use Rattle.writer.specs.declared.End.{End}
 use Rattle.writer.specs.declared.End.the-variants.{Done, Refused}
 use Rattle.writer_laws.specs.Held.{AllWritable}
 use Rattle.writer_laws.specs.Asking.{going, asked, helloMessage, writeMessage, writeItem, requests}
-use Rattle.writer_laws.proofs.Held.{one-kept, store-refuses}
-use Rattle.writer_laws.proofs.Asking.{greets, small-message, one-write, front-stays, end-getD}
+use Rattle.writer_laws.proofs.Held.{store-refuses}
+use Rattle.writer_laws.proofs.Messages.{greets, small-message, one-write, still-allowed}
+use Rattle.writer_laws.proofs.Asking.{front-stays, end-getD}
 use Rattle.writer_events.specs.Happenings.{upToRefused}
 
 not-zero : (y : Refusal) → (y ≡ NoRoom) ⊎ (y ≡ Clash) → eqb (numberOf y) 0 ≡ false
 not-zero y (inl e) = ap (λ (u : Refusal). eqb (numberOf u) 0) e
 not-zero y (inr e) = ap (λ (u : Refusal). eqb (numberOf u) 0) e
 
-module _ (log date buffer : Bytes) (dated : isDate date ≡ true) (room : steps.replyRoom ≤ length buffer) (i : ℕ) where
+module _ (date buffer : Bytes) (dated : isDate date ≡ true) (room : steps.replyRoom ≤ length buffer) (i : ℕ) where
   -- behind one message: on where its block was stored
   behind : (e : End) (rest : List (Item archive)) (xs : List Typed) → ((y : Refusal) → e ≡ Refused y → (y ≡ NoRoom) ⊎ (y ≡ Clash)) → rest ≡ map (writeItem date buffer i) xs
       → cond (eqb (endNumber e) 0) rest [] ≡ map (writeItem date buffer i) (going e xs)
   behind Done rest xs r q = q
   behind (Refused y) rest xs r q = ap (λ (b : Bool). cond b rest []) (not-zero y (r y refl))
 
-  pub writes-cut : (xs : List Typed) (w : Bytes) (past : List Session) (b : Books archive) → Stands archive (record { log = beside log w; past = past }) b
-      → lentAllowed (length log) (length w) ≡ true → AllWritable xs → i < length past → getD past i Fresh ≡ Greeted
-      → upToRefused b (map (writeItem date buffer i) xs) ≡ map (writeItem date buffer i) (asked (beside log w) date xs)
+  pub writes-cut : (xs : List Typed) (L : Lent) (past : List Session) (b : Books archive) → Stands archive (record { log = L; past = past }) b
+      → steps.allowed L ≡ true → AllWritable xs → i < length past → getD past i Fresh ≡ Greeted
+      → upToRefused b (map (writeItem date buffer i) xs) ≡ map (writeItem date buffer i) (asked L date xs)
   unfolding upToRefused asked
-  writes-cut [] w past b S al A h g = refl
-  writes-cut (x ∷ xs) w past b S al A h g =
-      let L = beside log w in
+  writes-cut [] L past b S al A h g = refl
+  writes-cut (x ∷ xs) L past b S al A h g =
       let s : Standing archive = record { log = L; past = past } in
       let q = writeItem date buffer i x in
       let a = store L date (x .kind) (x .bytes) in
-      let K = one-kept log w date x al dated (A .0) in
       let o = steps.step (getD past i Fresh) (writeMessage x) (some date) L buffer in
-      let one = one-write log w date buffer al dated room x (A .0) (getD past i Fresh) g in
+      let one = one-write L date buffer al dated room x (A .0) (getD past i Fresh) g in
       let ok = small-message x (A .0) in
       let t = recount archive b q in
       let number : t .shown .answer .number ≡ endNumber (endOf (a .receipt .stored)) =
       sym (ap (λ (v : Seen Answer Session Lent). v .answer .number) (seen-alike archive lawful s b q ok S)) ∙ one .number in
       let past′ = past ++ (o .session ∷ []) in
-      let S′ : Stands archive (record { log = beside log (K .part); past = past′ }) (t .state) =
-      subst (λ (l : Lent). Stands archive (record { log = l; past = past′ }) (t .state)) (one .lent ∙ K .lent) (goes-on archive lawful s b q ok S) in
-      let rest = writes-cut xs (K .part) past′ (t .state) S′ (ap (λ (n : ℕ). lentAllowed (length log) n) (K .long) ∙ al) (A .1)
+      let S′ : Stands archive (record { log = a .lent; past = past′ }) (t .state) =
+      subst (λ (l : Lent). Stands archive (record { log = l; past = past′ }) (t .state)) (one .lent) (goes-on archive lawful s b q ok S) in
+      let rest = writes-cut xs (a .lent) past′ (t .state) S′ (still-allowed L date buffer al dated room x (A .0)) (A .1)
       (omega (arith, length-append past (o .session ∷ []))) (front-stays past (o .session ∷ []) i h ∙ g) in
-      let there = rest ∙ ap (λ (l : Lent). map (writeItem date buffer i) (asked l date xs)) (sym (K .lent)) in
       ap (λ (ys : List (Item archive)). q ∷ ys)
       (ap (λ (n : ℕ). cond (eqb n 0) (upToRefused (t .state) (map (writeItem date buffer i) xs)) []) number
       ∙ behind (endOf (a .receipt .stored)) (upToRefused (t .state) (map (writeItem date buffer i) xs)) (asked (a .lent) date xs)
-      (λ y e. store-refuses L date (x .kind) (x .bytes) y e) there)
+      (λ y e. store-refuses L date (x .kind) (x .bytes) y e) rest)
 
 -- with the hello in front
 pub messages-cut : (log w date buffer : Bytes) (past : List Session) (b : Books archive) (xs : List Typed) → Stands archive (record { log = beside log w; past = past }) b
@@ -84,7 +82,7 @@ messages-cut log w date buffer past b xs S al da ro A =
     let s : Standing archive = record { log = L; past = past } in
     let q : Item archive = record { request = record { message = helloMessage; buffer = buffer; date = some date }; left-by = none } in
     let o = steps.step Fresh helloMessage (some date) L buffer in
-    let is = greets log w date buffer al da ro in
+    let is = greets L date buffer al da ro in
     let i = length past in
     let t = recount archive b q in
     let number : t .shown .answer .number ≡ 0 =
@@ -93,6 +91,6 @@ messages-cut log w date buffer past b xs S al da ro A =
     let S′ : Stands archive (record { log = L; past = past′ }) (t .state) =
     subst (λ (l : Lent). Stands archive (record { log = l; past = past′ }) (t .state)) (ap (λ (y : steps.Outcome). y .lent) is) (goes-on archive lawful s b q refl S) in
     let greeted : getD past′ i Fresh ≡ Greeted = end-getD past (o .session) ∙ ap (λ (y : steps.Outcome). y .session) is in
-    let rest = writes-cut log date buffer da ro i xs w past′ (t .state) S′ al A (omega (arith, length-append past (o .session ∷ []))) greeted in
+    let rest = writes-cut date buffer da ro i xs L past′ (t .state) S′ al A (omega (arith, length-append past (o .session ∷ []))) greeted in
     ap (λ (ys : List (Item archive)). q ∷ ys)
     (ap (λ (n : ℕ). cond (eqb n 0) (upToRefused (t .state) (map (writeItem date buffer i) xs)) []) number ∙ rest)

@@ -60,16 +60,20 @@ abbrev pub requests : Bytes → Bytes → ℕ → List Typed → List (Item arch
 requests date buffer i xs =
     record { request = record { message = helloMessage; buffer = buffer; date = some date }; left-by = none } ∷ map (writeItem date buffer i) xs
 
--- the blocks stored one after the other, and asked for by messages: the same log and waiting part, and the same numbers; each message leaves a session in which a
--- hello was accepted. The requests are of bytes, so that all that is proved of histories speaks of those in which writing calls stand between messages
-abbrev pub WritesAreStores : Type 0
-WritesAreStores = (log w date buffer : Bytes) (past : List Session) (xs : List Typed)
-    → lentAllowed (length log) (length w) ≡ true → isDate date ≡ true → replyRoom ≤ length buffer → AllWritable xs
-    → let L = beside log w in let qs = requests date buffer (length past) (asked L date xs) in
+-- the blocks stored one after the other in what is lent, and asked for by messages: the same log and waiting part, and the same numbers; each message leaves a
+-- session in which a hello was accepted. The requests are of bytes, so that all that is proved of histories speaks of those in which writing calls stand between
+-- messages
+abbrev pub StoresAsked : Lent → Bytes → Bytes → List Session → List Typed → Type 0
+StoresAsked L date buffer past xs =
+    let qs = requests date buffer (length past) (asked L date xs) in
     let T = trace (answer archive) (record { log = L; past = past }) qs in
     AllOfBytes archive qs
     × (T .left ≡ record { log = storeAll L date xs .lent; past = past ++ replicate (suc (length (asked L date xs))) Greeted })
     × (map (λ s. s .answer .number) (T .seen) ≡ 0 ∷ numbers L date xs)
+
+abbrev pub WritesAreStores : Type 0
+WritesAreStores = (log w date buffer : Bytes) (past : List Session) (xs : List Typed)
+    → lentAllowed (length log) (length w) ≡ true → isDate date ≡ true → replyRoom ≤ length buffer → AllWritable xs → StoresAsked (beside log w) date buffer past xs
 
 -- the last of a list of numbers, n where there is none
 abbrev pub lastOr : ℕ → List ℕ → ℕ
