@@ -1,23 +1,19 @@
 -- A comparison that ends with number 0: what was read, and each of its positions.
 use mathlib.Core.Path.{_≡_, refl, sym, ap, subst, _∙_}
 use mathlib.Core.Bool.{Bool, true, false, cond}
-use mathlib.Core.Option.{Option, none, some}
 use Prim.Native.Nat.{ℕ, zero, suc, _+_, _-_, _≤_, _<_}
 use native.Mathlib.Omega.{arith}
 use lib.Dec.{eqb, ltb}
-use lib.ListN.{length}
 use borrow.Author.Tests.{eqb-true, eqb-false}
-use Rattle.ground.specs.Choice.{on}
 use Rattle.buffer.specs.Bytes.{Bytes}
-use Rattle.refusal.specs.declared.Refusal.the-variants.{OverCount, Pointers, Nest, Spent}
+use Rattle.refusal.specs.declared.Refusal.the-variants.{Nest, Spent}
 use Rattle.block.specs.Block.{Row}
-use Rattle.log.specs.LookUp.{held, absence}
 use Rattle.entry.specs.declared.Entry.{Entry}
-use Rattle.tree.specs.Tree.{typeAt, countAt}
 use Rattle.visit.specs.declared.End.{End}
 use Rattle.visit.specs.declared.End.the-variants.{Done, Refused}
 use Rattle.walk_laws.proofs.Found.{not-done}
-use Rattle.pair.specs.Opened.{ragged, opened}
+use Rattle.pair.specs.Opened.{opened}
+use Rattle.pair.proofs.Opened.{ReadAs, opened-ind}
 use Rattle.comparison.specs.declared.Compared.{Compared}
 use Rattle.comparison.specs.Compared.{refused, oneUnit, andThen, inOrder}
 use Rattle.comparison.specs.Compare.{spending}
@@ -27,38 +23,12 @@ use Rattle.comparison.specs.Compare.{spending}
 -- a block that was read, and with which the comparison went on
 pub record Read (log : Bytes) (e : Entry) (level : ℕ) (s : Bytes) (next : Bytes → Compared) : Type 0 where
   pub row : Row
-  pub row-held : held log (typeAt e level) s ≡ some row
-  pub within-count : ltb (countAt e level) (length (row .bytes)) ≡ false
-  pub whole : ragged level (length (row .bytes)) ≡ false
+  pub read : ReadAs log e level s row
   pub rest-done : next (row .bytes) .end ≡ Done
 
-module _ (log : Bytes) (e : Entry) (level : ℕ) (s : Bytes) (next : Bytes → Compared) where
-  pub read-done : opened log e level s refused next .end ≡ Done → Read log e level s next
-  unfolding opened
-  read-done d = by-held (held log (typeAt e level) s) refl d
-    where
-      by-ragged : (r : Row) (b : Bool) → held log (typeAt e level) s ≡ some r → ltb (countAt e level) (length (r .bytes)) ≡ false → ragged level (length (r .bytes)) ≡ b
-          → cond b (refused Pointers) (next (r .bytes)) .end ≡ Done → Read log e level s next
-      by-ragged r true o c q z = not-done _ z
-      by-ragged r false o c q z = record { row = r; row-held = o; within-count = c; whole = q; rest-done = z }
-
-      by-count : (r : Row) (b : Bool) → held log (typeAt e level) s ≡ some r → ltb (countAt e level) (length (r .bytes)) ≡ b
-          → cond b (refused OverCount) (cond (ragged level (length (r .bytes))) (refused Pointers) (next (r .bytes))) .end ≡ Done → Read log e level s next
-      by-count r true o q z = not-done _ z
-      by-count r false o q z = by-ragged r (ragged level (length (r .bytes))) o q refl z
-
-      by-held : (o : Option Row) → held log (typeAt e level) s ≡ o
-          → on o (refused (absence log))
-          (λ r. cond (ltb (countAt e level) (length (r .bytes))) (refused OverCount) (cond (ragged level (length (r .bytes))) (refused Pointers) (next (r .bytes)))) .end ≡ Done
-          → Read log e level s next
-      by-held none q z = not-done _ z
-      by-held (some r) q z = by-count r (ltb (countAt e level) (length (r .bytes))) q refl z
-
-  -- a block that is held, not over its count and whole is what goes on
-  pub read-is : (r : Row) → held log (typeAt e level) s ≡ some r → ltb (countAt e level) (length (r .bytes)) ≡ false → ragged level (length (r .bytes)) ≡ false
-      → opened log e level s refused next ≡ next (r .bytes)
-  unfolding opened
-  read-is r h c w = rw (h, c, w)
+pub read-done : (log : Bytes) (e : Entry) (level : ℕ) (s : Bytes) (next : Bytes → Compared) → opened log e level s refused next .end ≡ Done → Read log e level s next
+read-done log e level s next d =
+    opened-ind log e level s refused next (λ _ c. c .end ≡ Done → Read log e level s next) (λ w z. not-done w z) (λ r R z. record { row = r; read = R; rest-done = z }) d
 
 -- ---- one unit
 

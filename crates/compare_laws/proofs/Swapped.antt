@@ -21,6 +21,7 @@ use Rattle.pair.specs.declared.Verdict.{Verdict}
 use Rattle.pair.specs.declared.Verdict.the-variants.{Skip, IllFormed, Open, Differ}
 use Rattle.pair.specs.Verdict.{verdict}
 use Rattle.pair.specs.Opened.{opened}
+use Rattle.pair.proofs.Opened.{read-is}
 use Rattle.pair.proofs.Verdicts.{Opening, open-says, verdict-comm, same-comm}
 use Rattle.comparison.specs.declared.Compared.{Compared}
 use Rattle.comparison.specs.Compared.{none, refused, oneUnit, andThen, inOrder}
@@ -28,7 +29,7 @@ use Rattle.comparison.specs.Compare.{Blocks, byVerdict, entriesBy, listed, posi
 use Rattle.comparison.specs.Differences.{directoryAllowed, differencesIn}
 use Rattle.compare_laws.specs.Swapped.{SwappedAlike}
 use Rattle.compare_laws.specs.Again.{ComparedAgain}
-use Rattle.compare_laws.proofs.Done.{Read, read-done, read-is, and-then-done}
+use Rattle.compare_laws.proofs.Done.{Read, read-done, and-then-done}
 use Rattle.ground.proofs.Choices.{and-comm}
 
 -- c, if it ends with number 0, is c′ too
@@ -82,9 +83,11 @@ module _ (log log′ : Bytes) (h : (t : ℕ) (s : Bytes) (r : Row) → held log 
   read-again : (e d : Entry) → Shape e d → (level : ℕ) (s : Bytes) (next next′ : Bytes → Compared) (R : Read log e level s next)
       → opened log′ d level s refused next′ ≡ next′ (R .row .bytes)
   read-again e d S level s next next′ R =
-      read-is log′ d level s next′ (R .row)
-      (ap (λ (t : ℕ). held log′ t s) (type-shape e d S level) ∙ h (typeAt e level) s (R .row) (R .row-held))
-      (ap (λ (n : ℕ). ltb n (length (R .row .bytes))) (count-shape e d S level) ∙ R .within-count) (R .whole)
+      read-is (record {
+        row-held = ap (λ (t : ℕ). held log′ t s) (type-shape e d S level) ∙ h (typeAt e level) s (R .row) (R .read .row-held);
+        within-count = ap (λ (n : ℕ). ltb n (length (R .row .bytes))) (count-shape e d S level) ∙ R .read .within-count;
+        whole = R .read .whole;
+      }) refused next′
 
   -- the other block first
   both-again : (e d : Entry) → Shape e d → (level : ℕ) (s t : Bytes) (next next′ : Bytes → Bytes → Compared) → ((b c : Bytes) → Same (next b c) (next′ c b))
@@ -96,8 +99,8 @@ module _ (log log′ : Bytes) (h : (t : ℕ) (s : Bytes) (r : Row) → held log 
       read-again e d S level t _ (λ c. opened log′ d level s refused (λ b. next′ c b)) Q
       ∙ read-again e d S level s _ (λ b. next′ (Q .row .bytes) b) R
       ∙ f (R .row .bytes) (Q .row .bytes) (Q .rest-done)
-      ∙ sym (read-is log e level t (λ c. next (R .row .bytes) c) (Q .row) (Q .row-held) (Q .within-count) (Q .whole))
-      ∙ sym (read-is log e level s (λ b. opened log e level t refused (λ c. next b c)) (R .row) (R .row-held) (R .within-count) (R .whole))
+      ∙ sym (read-is (Q .read) refused (λ c. next (R .row .bytes) c))
+      ∙ sym (read-is (R .read) refused (λ b. opened log e level t refused (λ c. next b c)))
 
   -- B compares in the first log, B′ the other way round in the second
   module _ (B B′ : Blocks) (f : (e d : Entry) → Shape e d → (l n : ℕ) (s t : Bytes) (a : ℕ) → Same (B e l n s t a) (B′ d l n t s a)) where

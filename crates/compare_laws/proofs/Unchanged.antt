@@ -28,13 +28,14 @@ use Rattle.pair.specs.declared.Verdict.{Verdict}
 use Rattle.pair.specs.declared.Verdict.the-variants.{Skip, IllFormed, Open, Differ}
 use Rattle.pair.specs.Verdict.{verdict}
 use Rattle.pair.specs.Opened.{ragged, opened}
+use Rattle.pair.proofs.Opened.{ReadAs, read-is}
 use Rattle.pair.proofs.Verdicts.{skip-says, equal-skip, inactive-skip}
 use Rattle.comparison.specs.declared.Compared.{Compared}
 use Rattle.comparison.specs.Compared.{none, refused, oneUnit}
 use Rattle.comparison.specs.Compare.{Blocks, byVerdict, entriesBy, listed, positionBy, positions, spending, belowBy, pairBy, compareBlocks, compareEntries}
 use Rattle.comparison.specs.Differences.{directoryAllowed, differencesIn}
 use Rattle.compare_laws.specs.Unchanged.{Unchanged, UnchangedBlocks, same-entry, both-inactive, same-below, same-score, leaves, pointers, NoneCountedUnchanged, UnchangedNoneCounted}
-use Rattle.compare_laws.proofs.Done.{Read, read-done, read-is, spending-done, each-none, none-counted}
+use Rattle.compare_laws.proofs.Done.{read-done, spending-done, each-none, none-counted}
 
 -- ---- past the end of both
 
@@ -83,10 +84,8 @@ record BothRead (B : Blocks) (log : Bytes) (e : Entry) (level nest : ℕ) (s t :
   some-left : 0 < left
   first : Row
   second : Row
-  first-held : held log (typeAt e level) s ≡ some first
-  second-held : held log (typeAt e level) t ≡ some second
-  first-whole : ragged level (length (first .bytes)) ≡ false
-  second-whole : ragged level (length (second .bytes)) ≡ false
+  first-read : ReadAs log e level s first
+  second-read : ReadAs log e level t second
   is : c ≡ oneUnit (belowBy B e level nest (first .bytes) (second .bytes) (left - 1))
 
 both-read : (B : Blocks) (log : Bytes) (e : Entry) (level nest : ℕ) (s t : Bytes) (left : ℕ) → same s t ≡ false → pairBy B log e level nest s t left .end ≡ Done
@@ -102,13 +101,9 @@ both-read B log e level nest s t left q d =
       some-left = p .0;
       first = R .row;
       second = Q .row;
-      first-held = R .row-held;
-      second-held = Q .row-held;
-      first-whole = R .whole;
-      second-whole = Q .whole;
-      is = k ∙ p .2
-          ∙ ap oneUnit (read-is log e level s (λ b. opened log e level t refused (λ c. w b c)) (R .row) (R .row-held) (R .within-count) (R .whole)
-          ∙ read-is log e level t (λ c. w (R .row .bytes) c) (Q .row) (Q .row-held) (Q .within-count) (Q .whole));
+      first-read = R .read;
+      second-read = Q .read;
+      is = k ∙ p .2 ∙ ap oneUnit (read-is (R .read) refused (λ b. opened log e level t refused (λ c. w b c)) ∙ read-is (Q .read) refused (λ c. w (R .row .bytes) c));
     }
 
 -- ---- nothing counted: unchanged
@@ -139,7 +134,7 @@ module _ (B : Blocks) (log : Bytes) (e : Entry) (nest : ℕ) (s t : Bytes) (left
       let b = R .first .bytes in
       let c = R .second .bytes in
       let n = max (positions 0 (length b)) (positions 0 (length c)) in
-      leaves (R .first) (R .second) (R .first-held) (R .second-held)
+      leaves (R .first) (R .second) (R .first-read .row-held) (R .second-read .row-held)
       (everywhere n (λ p. Unchanged log (listed b p) (listed c p))
       (λ p l. each-none (λ i a. positionBy B e 0 nest b c i a) (left - 1) (λ p. Unchanged log (listed b p) (listed c p))
       (λ p a h. entries-unchanged B log left f nest (listed b p) (listed c p) a (omega (arith, R .some-left)))
@@ -153,13 +148,13 @@ module _ (B : Blocks) (log : Bytes) (e : Entry) (nest : ℕ) (s t : Bytes) (left
       let b = R .first .bytes in
       let c = R .second .bytes in
       let n = max (positions (suc d) (length b)) (positions (suc d) (length c)) in
-      pointers (R .first) (R .second) (R .first-held) (R .second-held)
+      pointers (R .first) (R .second) (R .first-read .row-held) (R .second-read .row-held)
       (everywhere n (λ p. UnchangedBlocks log e d (pointer b p) (pointer c p))
       (λ p l. each-none (λ i a. positionBy B e (suc d) nest b c i a) (left - 1) (λ p. UnchangedBlocks log e d (pointer b p) (pointer c p))
       (λ p a h y w. f e d nest (pointer b p) (pointer c p) a (omega (arith, R .some-left))
       (ap (λ (x : Compared). x .end) (sym (position-above B e d nest b c p a)) ∙ y) (ap (λ (x : Compared). x .count) (sym (position-above B e d nest b c p a)) ∙ w))
       n 0 0 0 (ap (λ (x : Compared). x .end) (sym (R .is)) ∙ x) (ap (λ (x : Compared). x .count) (sym (R .is)) ∙ z) p (omega arith) (omega arith))
-      (λ p l. same-score (pointers-past d b c p (not-ragged d (length b) (R .first-whole)) (not-ragged d (length c) (R .second-whole)) l)))
+      (λ p l. same-score (pointers-past d b c p (not-ragged d (length b) (R .first-read .whole)) (not-ragged d (length c) (R .second-read .whole)) l)))
 
   pair-unchanged : (level : ℕ) → pairBy B log e level nest s t left .end ≡ Done → pairBy B log e level nest s t left .count ≡ 0 → UnchangedBlocks log e level s t
   pair-unchanged level d z = go (same s t) refl level d z
@@ -223,7 +218,7 @@ module _ (B : Blocks) (log : Bytes) (f : CountsNone B log) where
       go false q =
           let R = both-read B log e level nest s t left q d in
           ap (λ (c : Compared). c .count) (R .is)
-          ∙ below-none e level nest s t (R .first) (R .second) (left - 1) (R .first-held) (R .second-held) q u (ap (λ (c : Compared). c .end) (sym (R .is)) ∙ d)
+          ∙ below-none e level nest s t (R .first) (R .second) (left - 1) (R .first-read .row-held) (R .second-read .row-held) q u (ap (λ (c : Compared). c .end) (sym (R .is)) ∙ d)
 
 blocks-none : (f : ℕ) (log : Bytes) → CountsNone (λ e l n s t a. compareBlocks f log e l n s t a) log
 unfolding compareBlocks

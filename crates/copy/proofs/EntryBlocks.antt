@@ -1,69 +1,44 @@
 -- A block of an entry: refused, or kept behind what is below it.
-use mathlib.Core.Path.{_≡_, refl, sym, ap, ap₂, _∙_}
-use mathlib.Core.Bool.{Bool, true, false, cond}
-use mathlib.Core.Option.{Option, none, some}
+use mathlib.Core.Path.{_≡_, sym, ap, _∙_}
+use mathlib.Core.Bool.{Bool, true, false}
 use Prim.Native.Nat.{ℕ, zero, suc, _+_, _-_, _/_, _%_, _≤_, _<_}
 use native.Mathlib.Omega.{arith}
-use lib.Dec.{eqb, ltb}
+use lib.Dec.{eqb}
 use borrow.Author.Tests.{eq-eqb, ne-eqb}
 use lib.ListN.{length}
-use Rattle.ground.specs.Choice.{on}
 use Rattle.buffer.specs.Bytes.{Bytes}
 use Rattle.refusal.specs.declared.Refusal.{Refusal}
-use Rattle.refusal.specs.declared.Refusal.the-variants.{OverCount, Nest, Spent, Pointers}
+use Rattle.refusal.specs.declared.Refusal.the-variants.{Pointers}
 use Rattle.block.specs.declared.Block.{Block}
-use Rattle.block.specs.Block.{Row}
 use Rattle.block.specs.Log.{bytesOf}
 use Rattle.reader.proofs.Pieces.{length-bytes}
-use Rattle.lookup.proofs.Held.{held-stands}
+use Rattle.log.specs.declared.Look.{Look}
 use Rattle.log.specs.declared.Look.the-variants.{Found, Refused}
-use Rattle.log.specs.LookUp.{held, absence, lookUp}
 use Rattle.entry.specs.declared.Entry.{Entry}
 use Rattle.visit.specs.declared.Walked.{Walked}
 use Rattle.visit.specs.declared.Met.{Met}
 use Rattle.visit.specs.declared.End.the-variants.{Done, Refused as Stopped}
 use Rattle.tree.specs.Tree.{piece, pointer, typeAt, countAt}
 use Rattle.tree.proofs.Pointers.{pointer-piece}
-use Rattle.visit.specs.Met.{met, metOf, answerOf}
-use Rattle.visit.proofs.Visits.{Known, placed, metBy, found-by-tests, found-known, spent-within}
+use Rattle.visit.specs.Met.{metOf, endOf, answerOf}
+use Rattle.visit.proofs.Visits.{any-refused, any-found, Known, found-known, spent-within}
 use Rattle.copying.specs.Copy.{Copied, copied, stopped, kept, copyVisit, copyInOrder, copyDirectory, copyEntry}
 use Rattle.copying.specs.Parts.{copyScores, copyBelow}
 use Rattle.copy.proofs.InOrder.{OfAll}
 
--- ---- a visit, by its tests
-
-abbrev copyBy : Bytes → Bool → Bool → Option Row → Refusal → ℕ → ℕ → (Bytes → Bytes → Copied) → Bytes → Copied
-copyBy date a b o w kind count below s =
-    cond a (stopped 0 (Stopped Nest) s) (cond b (stopped 0 (Stopped Spent) s) (on o (stopped 1 (Stopped w) s)
-    (λ r. cond (ltb count (length (r .bytes))) (stopped 1 (Stopped OverCount) s) (kept date kind (r .bytes) (below (r .bytes) s)))))
-
-refused-by-tests : (date : Bytes) (a b : Bool) (o : Option Row) (w : Refusal) (kind count : ℕ) (why : Refusal) (below : Bytes → Bytes → Copied) (s : Bytes)
-    → metBy a b o w count .look ≡ Refused why → copied (answerOf (metBy a b o w count)) s ≡ copyBy date a b o w kind count below s
-refused-by-tests date true b o w kind count why below s e = refl
-refused-by-tests date false true o w kind count why below s e = refl
-refused-by-tests date false false none w kind count why below s e = refl
-refused-by-tests date false false (some r) w kind count why below s e = go (ltb count (length (r .bytes))) e
-  where
-    go : (c : Bool) → cond c (Refused OverCount) (placed r) ≡ Refused why
-        → copied (answerOf (met 1 (cond c (Refused OverCount) (placed r)))) s
-        ≡ cond c (stopped 1 (Stopped OverCount) s) (kept date kind (r .bytes) (below (r .bytes) s))
-    go true d = refl
-    go false d = let z : _≡_ {A = ℕ} 0 1 = cc in absurd (omega arith)
+-- ---- a visit
 
 module _ (log date : Bytes) (nest left kind count : ℕ) (score : Bytes) (m : Met) (e : m ≡ metOf log nest left kind count score) (below : Bytes → Bytes → Copied)
     (s : Bytes) where
   pub refused-visit : (why : Refusal) → m .look ≡ Refused why → (r : Walked) → r ≡ answerOf m → copied r s ≡ copyVisit log date nest left kind count score below s
-  unfolding metOf lookUp copyVisit
+  unfolding copyVisit
   refused-visit why d r er =
-      ap (λ (w : Walked). copied w s) (er ∙ ap answerOf e)
-      ∙ refused-by-tests date (ltb 16 nest) (eqb left 0) (held log kind score) (absence log) kind count why below s (ap (λ (x : Met). x .look) (sym e) ∙ d)
+      ap (λ (w : Walked). copied w s) (er ∙ ap (λ (l : Look). record { visits = m .spent; end = endOf l }) d)
+      ∙ sym (any-refused log nest left kind count score m e (λ n y. stopped n (Stopped y) s) (λ r. kept date kind (r .bytes) (below (r .bytes) s)) why d)
 
   pub found-visit : (p : Block) → m .look ≡ Found p → kept date kind (bytesOf log p) (below (bytesOf log p) s) ≡ copyVisit log date nest left kind count score below s
-  unfolding metOf lookUp copyVisit
-  found-visit p d =
-      let k = found-by-tests (ltb 16 nest) (eqb left 0) (held log kind score) (absence log) count p (ap (λ (x : Met). x .look) (sym e) ∙ d) in
-      let bytes : k .row .bytes ≡ bytesOf log p = held-stands log kind score (k .row) (k .row-held) .bytes-there ∙ ap (bytesOf log) (sym (k .place-of-row)) in
-      rw (k .not-deep, k .not-spent, k .row-held, k .within-count) (ap (λ (x : Bytes). kept date kind x (below x s)) (sym bytes))
+  unfolding copyVisit
+  found-visit p d = sym (any-found log nest left kind count score m e (λ n y. stopped n (Stopped y) s) (λ b. kept date kind b (below b s)) p d)
 
 -- ---- a block of an entry
 

@@ -2,7 +2,7 @@
 use mathlib.Core.Path.{_≡_, refl, sym, ap, _∙_, subst}
 use mathlib.Core.Bool.{Bool, true, false, cond}
 use mathlib.Core.List.{List, [], _∷_, _++_, map, List·Memᴰ, List·Memᴰ·head, List·Memᴰ·tail, Memᴰ·append-left, Memᴰ·append-right}
-use mathlib.Core.Option.{Option, none, some}
+use mathlib.Core.Option.{some}
 use Prim.Native.Nat.{ℕ, zero, suc, _+_, _-_, _*_, _/_, _%_, _≤_, _<_}
 use native.Mathlib.Omega.{arith}
 use lib.Dec.{eqb, ltb}
@@ -11,8 +11,7 @@ use borrow.Author.Tests.{eqb-true, eqb-false, ne-eqb}
 use Rattle.ground.proofs.Choices.{some-same}
 use Rattle.buffer.specs.Bytes.{Bytes}
 use Rattle.sha1.specs.Sha1.{sha1Of}
-use Rattle.refusal.specs.declared.Refusal.{Refusal}
-use Rattle.refusal.specs.declared.Refusal.the-variants.{OverCount, Entry as IllFormed, Pointers}
+use Rattle.refusal.specs.declared.Refusal.the-variants.{Entry as IllFormed, Pointers}
 use Rattle.block.specs.Block.{Row}
 use Rattle.log.specs.LookUp.{held, absence}
 use Rattle.entry.specs.declared.Entry.{Entry}
@@ -29,8 +28,8 @@ use Rattle.writer.specs.WriteFile.{writeFile}
 use Rattle.writer_laws.specs.Walk.{both, ComesTo, first, below}
 use Rattle.writer_laws.proofs.Walk.{walk-finds-file-later}
 use Rattle.writer_laws.proofs.Reached.{walk-reaches-file-later}
-use Rattle.copying.specs.PostOrder.{Role, ofEntry, typeOf, Visit, PostOrder, postOrder, later, goOn, behind, visitLast, eachInOrder, judgedLast, directoryLast, entryLast}
-use Rattle.copying.proofs.OneVisit.{lastBy}
+use Rattle.copying.specs.PostOrder.{Role, ofEntry, typeOf, Visit, PostOrder, postOrder, later, goOn, visitLast, eachInOrder, judgedLast, directoryLast, entryLast}
+use Rattle.copying.proofs.OneVisit.{last-by}
 use Rattle.copying.proofs.Visited.{goes-done}
 use Rattle.copy_laws.specs.EveryBlock.{WalkVisitsEveryBlock}
 
@@ -108,38 +107,28 @@ record Stood (log : Bytes) (left : ℕ) (role : Role) (score : Bytes) (B : Bytes
   itself : Sees role score (row .bytes) vs
   under : Under (B (row .bytes) .visits) vs
 
-stood-by : (log : Bytes) (left : ℕ) (role : Role) (count : ℕ) (score : Bytes) (a : Bool) (why : Refusal) (B : Bytes → PostOrder) (b : Bool) → eqb left 0 ≡ b
-    → (o : Option Row) → held log (typeOf role) score ≡ o
-    → lastBy role count score a b o why B .answer .end ≡ Done → Stood log left role score B (lastBy role count score a b o why B .visits)
-stood-by log left role count score true why B b p o q d = not-done _ d
-stood-by log left role count score false why B true p o q d = not-done _ d
-stood-by log left role count score false why B false p none q d = not-done _ d
-stood-by log left role count score false why B false p (some r) q d = go (ltb count (length (r .bytes))) d
+stood : (log : Bytes) (nest left : ℕ) (role : Role) (count : ℕ) (score : Bytes) (B : Bytes → PostOrder) → visitLast log nest left role count score B .answer .end ≡ Done
+    → Stood log left role score B (visitLast log nest left role count score B .visits)
+unfolding visitLast
+stood log nest left role count score B d =
+    last-by role count score (ltb 16 nest) (eqb left 0) (held log (typeOf role) score) (absence log) B (λ p. p .answer .end ≡ Done → Stood log left role score B (p .visits))
+    (λ n y d. not-done y d)
+    (λ r F d. itself-there r (eqb-false left 0 (F .not-spent)) (F .row-held) (B (r .bytes) .answer .end) (map (later 1) (B (r .bytes) .visits)) _ refl (under-later 1 (B (r .bytes) .visits)) d) d
   where
-    itself-there : (e : End) (vs : List Visit) (n : ℕ) → B (r .bytes) .answer .end ≡ e
+    itself-there : (r : Row) → (left ≡ 0 → ⊥) → held log (typeOf role) score ≡ some r → (e : End) (vs : List Visit) (n : ℕ) → B (r .bytes) .answer .end ≡ e
         → let k : ℕ → PostOrder = λ m. postOrder (record { role = role; score = score; bytes = r .bytes; spent = m } ∷ []) (walked m Done) in
         Under (B (r .bytes) .visits) vs → goOn e vs n k .answer .end ≡ Done → Stood log left role score B (goOn e vs n k .visits)
-    itself-there Done vs n e u d =
+    itself-there r p q Done vs n e u d =
         let v : Visit = record { role = role; score = score; bytes = r .bytes; spent = n } in
         record {
           row = r;
-          some-left = let z = eqb-false left 0 p in omega arith;
+          some-left = omega arith;
           row-held = q;
           done = e;
           itself = (v, Memᴰ·append-right vs (List·Memᴰ·head refl), refl, refl, refl);
           under = λ y s b f. under-front vs (v ∷ []) y s b (u y s b f);
         }
-    itself-there (Refused w) vs n e u d = not-done w d
-
-    go : (t : Bool) → cond t (postOrder [] (walked 1 (Refused OverCount))) (behind role score (r .bytes) (B (r .bytes))) .answer .end ≡ Done
-        → Stood log left role score B (cond t (postOrder [] (walked 1 (Refused OverCount))) (behind role score (r .bytes) (B (r .bytes))) .visits)
-    go true d = not-done _ d
-    go false d = itself-there (B (r .bytes) .answer .end) (map (later 1) (B (r .bytes) .visits)) _ refl (under-later 1 (B (r .bytes) .visits)) d
-
-stood : (log : Bytes) (nest left : ℕ) (role : Role) (count : ℕ) (score : Bytes) (B : Bytes → PostOrder) → visitLast log nest left role count score B .answer .end ≡ Done
-    → Stood log left role score B (visitLast log nest left role count score B .visits)
-unfolding visitLast
-stood log nest left role count score B d = stood-by log left role count score (ltb 16 nest) (absence log) B (eqb left 0) refl (held log (typeOf role) score) refl d
+    itself-there r p q (Refused w) vs n e u d = not-done w d
 
 -- ---- the scores that a walk comes to
 

@@ -9,7 +9,6 @@ use mathlib.Core.Logic.{inl, inr}
 use lib.Dec.{eqb, ltb}
 use borrow.Author.Tests.{eqb-false}
 use lib.ListN.{length}
-use Rattle.ground.specs.Choice.{on}
 use Rattle.buffer.specs.Bytes.{Bytes}
 use Rattle.refusal.specs.declared.Refusal.{Refusal}
 use Rattle.refusal.specs.declared.Refusal.the-variants.{NotHeld, NotKnown, OverCount, Nest, Spent}
@@ -20,7 +19,7 @@ use Rattle.visit.specs.declared.Walked.{Walked}
 use Rattle.visit.specs.declared.End.{End}
 use Rattle.visit.specs.declared.End.the-variants.{Done, Refused}
 use Rattle.visit.specs.Visit.{walked, endNumber}
-use Rattle.visit.proofs.Visits.{visitBy}
+use Rattle.visit.proofs.Visits.{byTests, visitBy, FoundByTests, by-tests-both, by-tests}
 use Rattle.walk_laws.proofs.Found.{not-done}
 use Rattle.copying.specs.PostOrder.{Role, typeOf, PostOrder, postOrder, later, goOn, behind}
 use Rattle.copying.specs.Promises.{Shown, HoldsAll, Linked}
@@ -45,14 +44,19 @@ abbrev pub Within : PostOrder → Type 0
 Within p = SpentWithin (p .answer .visits) (p .visits)
 
 -- by its tests: nest over 16, nothing left, what is held
+abbrev refusedLast : ℕ → Refusal → PostOrder
+refusedLast n why = postOrder [] (walked n (Refused why))
+
 abbrev pub lastBy : Role → ℕ → Bytes → Bool → Bool → Option Row → Refusal → (Bytes → PostOrder) → PostOrder
-lastBy role count score a b o why below =
-    cond a (postOrder [] (walked 0 (Refused Nest))) (cond b (postOrder [] (walked 0 (Refused Spent))) (on o (postOrder [] (walked 1 (Refused why)))
-    (λ r. cond (ltb count (length (r .bytes))) (postOrder [] (walked 1 (Refused OverCount))) (behind role score (r .bytes) (below (r .bytes))))))
+lastBy role count score a b o why below = byTests a b o why count refusedLast (λ r. behind role score (r .bytes) (below (r .bytes)))
 
 module _ (role : Role) (count : ℕ) (score : Bytes) where
   abbrev itself : Bytes → ℕ → PostOrder
   itself b n = postOrder (record { role = role; score = score; bytes = b; spent = n } ∷ []) (walked n Done)
+
+  pub last-by : (a b : Bool) (o : Option Row) (why : Refusal) (B : Bytes → PostOrder) (P : PostOrder → Type 0) → ((n : ℕ) (y : Refusal) → P (refusedLast n y))
+      → ((r : Row) → FoundByTests a b o count r → P (behind role score (r .bytes) (B (r .bytes)))) → P (lastBy role count score a b o why B)
+  last-by a b o why B P u v = by-tests a b o why count refusedLast (λ r. behind role score (r .bytes) (B (r .bytes))) P u v
 
   -- a block that a log holds behind what is below it
   behind-held : (L b : Bytes) (p : PostOrder) → behind role score b p .answer .end ≡ Done → HoldsAll L (behind role score b p .visits) → Shown L (typeOf role) score b
@@ -65,91 +69,51 @@ module _ (role : Role) (count : ℕ) (score : Bytes) where
 
   pub walks-by : (a b : Bool) (o : Option Row) (why : Refusal) (B : Bytes → PostOrder) (X : Bytes → Walked) → (b ≡ false → (x : Bytes) → B x .answer ≡ X x)
       → lastBy role count score a b o why B .answer ≡ visitBy a b o why count X
-  walks-by true b o why B X f = refl
-  walks-by false true o why B X f = refl
-  walks-by false false none why B X f = refl
-  walks-by false false (some r) why B X f = go (ltb count (length (r .bytes)))
-    where
-      go : (t : Bool) → cond t (postOrder [] (walked 1 (Refused OverCount))) (behind role score (r .bytes) (B (r .bytes))) .answer
-          ≡ cond t (walked 1 (Refused OverCount)) (record { visits = X (r .bytes) .visits + 1; end = X (r .bytes) .end })
-      go true = refl
-      go false = behind-answer role score (r .bytes) (B (r .bytes)) (X (r .bytes)) (f refl (r .bytes))
+  walks-by a b o why B X f =
+      by-tests-both a b o why count refusedLast (λ r. behind role score (r .bytes) (B (r .bytes))) (λ n y. walked n (Refused y))
+      (λ r. record { visits = X (r .bytes) .visits + 1; end = X (r .bytes) .end }) (λ p w. p .answer ≡ w) (λ n y. refl)
+      (λ r F. behind-answer role score (r .bytes) (B (r .bytes)) (X (r .bytes)) (f (F .not-spent) (r .bytes)))
 
   pub within-by : (a b : Bool) (o : Option Row) (why : Refusal) (B : Bytes → PostOrder) → (b ≡ false → (x : Bytes) → Within (B x)) → Within (lastBy role count score a b o why B)
-  within-by true b o why B f = tt
-  within-by false true o why B f = tt
-  within-by false false none why B f = tt
-  within-by false false (some r) why B f = go (ltb count (length (r .bytes)))
-    where
-      go : (t : Bool) → Within (cond t (postOrder [] (walked 1 (Refused OverCount))) (behind role score (r .bytes) (B (r .bytes))))
-      go true = tt
-      go false =
-          let p = B (r .bytes) in
-          let m = 1 + p .answer .visits in
-          within-on (p .answer .end) (map (later 1) (p .visits)) m (itself (r .bytes)) (within-later 1 (p .answer .visits) (p .visits) (f refl (r .bytes))) (omega arith) (omega arith, tt)
+  within-by a b o why B f =
+      last-by a b o why B Within (λ n y. tt) (λ r F. let p = B (r .bytes) in
+      within-on (p .answer .end) (map (later 1) (p .visits)) (1 + p .answer .visits) (itself (r .bytes))
+      (within-later 1 (p .answer .visits) (p .visits) (f (F .not-spent) (r .bytes))) (omega arith) (omega arith, tt))
 
   pub shown-by : (L : Bytes) (a b : Bool) (o : Option Row) (why : Refusal) (B : Bytes → PostOrder) → held L (typeOf role) score ≡ o
       → (b ≡ false → (x : Bytes) → HoldsAll L (B x .visits)) → HoldsAll L (lastBy role count score a b o why B .visits)
-  shown-by L true b o why B q f = tt
-  shown-by L false true o why B q f = tt
-  shown-by L false false none why B q f = tt
-  shown-by L false false (some r) why B q f = go (ltb count (length (r .bytes)))
-    where
-      go : (t : Bool) → HoldsAll L (cond t (postOrder [] (walked 1 (Refused OverCount))) (behind role score (r .bytes) (B (r .bytes))) .visits)
-      go true = tt
-      go false =
-          let p = B (r .bytes) in
-          holds-on L (p .answer .end) (map (later 1) (p .visits)) (1 + p .answer .visits) (itself (r .bytes)) (holds-later L 1 (p .visits) (f refl (r .bytes)))
-          (record { row = r; row-held = q; these = refl }, tt)
+  shown-by L a b o why B q f =
+      last-by a b o why B (λ p. HoldsAll L (p .visits)) (λ n y. tt) (λ r F. let p = B (r .bytes) in
+      holds-on L (p .answer .end) (map (later 1) (p .visits)) (1 + p .answer .visits) (itself (r .bytes))
+      (holds-later L 1 (p .visits) (f (F .not-spent) (r .bytes))) (record { row = r; row-held = q ∙ F .row-held; these = refl }, tt))
 
   -- over a log that holds the blocks
   pub again-by : (L : Bytes) (a b : Bool) (o o′ : Option Row) (why why′ : Refusal) (B B′ : Bytes → PostOrder) → held L (typeOf role) score ≡ o′
       → (b ≡ false → (x : Bytes) → B x .answer .end ≡ Done → HoldsAll L (B x .visits) → B′ x ≡ B x)
       → lastBy role count score a b o why B .answer .end ≡ Done → HoldsAll L (lastBy role count score a b o why B .visits)
       → lastBy role count score a b o′ why′ B′ ≡ lastBy role count score a b o why B
-  again-by L true b o o′ why why′ B B′ q f d h = refl
-  again-by L false true o o′ why why′ B B′ q f d h = refl
-  again-by L false false none o′ why why′ B B′ q f d h = not-done why d
-  again-by L false false (some r) o′ why why′ B B′ q f d h = go (ltb count (length (r .bytes))) refl d h
-    where
-      go : (t : Bool) → ltb count (length (r .bytes)) ≡ t
-          → cond t (postOrder [] (walked 1 (Refused OverCount))) (behind role score (r .bytes) (B (r .bytes))) .answer .end ≡ Done
-          → HoldsAll L (cond t (postOrder [] (walked 1 (Refused OverCount))) (behind role score (r .bytes) (B (r .bytes))) .visits)
-          → lastBy role count score false false o′ why′ B′ ≡ cond t (postOrder [] (walked 1 (Refused OverCount))) (behind role score (r .bytes) (B (r .bytes)))
-      go true z d h = not-done _ d
-      go false z d h =
-          let S = behind-held L (r .bytes) (B (r .bytes)) d h in
-          let y : o′ ≡ some (S .row) = sym q ∙ S .row-held in
-          let e : lastBy role count score false false o′ why′ B′ ≡ behind role score (r .bytes) (B′ (r .bytes)) = rw (y, S .these, z) in
-          e ∙ followed-again L (B (r .bytes)) (B′ (r .bytes)) 1 (itself (r .bytes)) (itself (r .bytes)) (f refl (r .bytes)) (λ m u v. refl) d h
+  again-by L a b o o′ why why′ B B′ q f d h =
+      last-by a b o why B (λ p. p .answer .end ≡ Done → HoldsAll L (p .visits) → lastBy role count score a b o′ why′ B′ ≡ p) (λ n y d h. not-done y d)
+      (λ r F d h. let S = behind-held L (r .bytes) (B (r .bytes)) d h in
+      let y : o′ ≡ some (S .row) = sym q ∙ S .row-held in
+      let e : lastBy role count score a b o′ why′ B′ ≡ behind role score (r .bytes) (B′ (r .bytes)) = rw (F .not-deep, F .not-spent, y, S .these, F .within-count) in
+      e ∙ followed-again L (B (r .bytes)) (B′ (r .bytes)) 1 (itself (r .bytes)) (itself (r .bytes)) (f (F .not-spent) (r .bytes)) (λ m u v. refl) d h) d h
 
   pub links-by : (a b : Bool) (o : Option Row) (why : Refusal) (B : Bytes → PostOrder) → (b ≡ false → (x : Bytes) → LinksFirst Any (B x .visits))
       → (b ≡ false → (x : Bytes) → B x .answer .end ≡ Done → (L : Bytes) → HoldsAll L (B x .visits) → Linked L role x)
       → LinksFirst Any (lastBy role count score a b o why B .visits)
-  links-by true b o why B f g = tt
-  links-by false true o why B f g = tt
-  links-by false false none why B f g = tt
-  links-by false false (some r) why B f g = go (ltb count (length (r .bytes)))
+  links-by a b o why B f g = last-by a b o why B (λ p. LinksFirst Any (p .visits)) (λ n y. tt) (λ r F. last r (F .not-spent) (B (r .bytes) .answer .end) refl)
     where
-      last : (e : End) → B (r .bytes) .answer .end ≡ e → LinksFirst Any (goOn e (map (later 1) (B (r .bytes) .visits)) (1 + B (r .bytes) .answer .visits) (itself (r .bytes)) .visits)
-      last Done q =
-          links-join Any (map (later 1) (B (r .bytes) .visits)) (itself (r .bytes) (1 + B (r .bytes) .answer .visits) .visits) (links-later Any 1 (B (r .bytes) .visits) (f refl (r .bytes)))
-          ((λ L h. g refl (r .bytes) q L (holds-earlier L 1 (B (r .bytes) .visits) (h .1))), tt)
-      last (Refused y) q = links-later Any 1 (B (r .bytes) .visits) (f refl (r .bytes))
-
-      go : (t : Bool) → LinksFirst Any (cond t (postOrder [] (walked 1 (Refused OverCount))) (behind role score (r .bytes) (B (r .bytes))) .visits)
-      go true = tt
-      go false = last (B (r .bytes) .answer .end) refl
+      last : (r : Row) → b ≡ false → (e : End) → B (r .bytes) .answer .end ≡ e
+          → LinksFirst Any (goOn e (map (later 1) (B (r .bytes) .visits)) (1 + B (r .bytes) .answer .visits) (itself (r .bytes)) .visits)
+      last r z Done q =
+          links-join Any (map (later 1) (B (r .bytes) .visits)) (itself (r .bytes) (1 + B (r .bytes) .answer .visits) .visits) (links-later Any 1 (B (r .bytes) .visits) (f z (r .bytes)))
+          ((λ L h. g z (r .bytes) q L (holds-earlier L 1 (B (r .bytes) .visits) (h .1))), tt)
+      last r z (Refused y) q = links-later Any 1 (B (r .bytes) .visits) (f z (r .bytes))
 
   pub counted-by : (a b : Bool) (o : Option Row) (why : Refusal) (B : Bytes → PostOrder) → (b ≡ false → (x : Bytes) → Counted 0 (B x)) → Counted 0 (lastBy role count score a b o why B)
-  counted-by true b o why B f d = not-done _ d
-  counted-by false true o why B f d = not-done _ d
-  counted-by false false none why B f d = not-done why d
-  counted-by false false (some r) why B f d = go (ltb count (length (r .bytes))) d
-    where
-      go : (t : Bool) → Counted 0 (cond t (postOrder [] (walked 1 (Refused OverCount))) (behind role score (r .bytes) (B (r .bytes))))
-      go true e = not-done _ e
-      go false e = counted-behind role score (r .bytes) (B (r .bytes)) (f refl (r .bytes)) e
+  counted-by a b o why B f =
+      last-by a b o why B (Counted 0) (λ n y d. not-done y d) (λ r F. counted-behind role score (r .bytes) (B (r .bytes)) (f (F .not-spent) (r .bytes)))
 
   pub first-by : (a b : Bool) (o : Option Row) (why : Refusal) (B : Bytes → PostOrder) → OfFirst (Refused why) → (b ≡ false → (x : Bytes) → OfFirst (B x .answer .end))
       → OfFirst (lastBy role count score a b o why B .answer .end)

@@ -23,77 +23,72 @@ use Rattle.entry.specs.declared.Entry.{Entry}
 use Rattle.tree.specs.Tree.{typeAt, countAt}
 use Rattle.pair.specs.Opened.{ragged, opened, wholeScores, placeAt}
 
--- by its tests: what is held, over the count, ragged
 abbrev placed : Row → Look
 placed r = Found (placeOf r)
+
+-- a row that passes the tests: it is held, not over the count and not ragged
+pub record ReadAs (log : Bytes) (e : Entry) (level : ℕ) (score : Bytes) (r : Row) : Type 0 where
+  pub row-held : held log (typeAt e level) score ≡ some r
+  pub within-count : ltb (countAt e level) (length (r .bytes)) ≡ false
+  pub whole : ragged level (length (r .bytes)) ≡ false
+
+-- what goes on has its bytes
+pub read-is : {log : Bytes} {e : Entry} {level : ℕ} {score : Bytes} {r : Row} → ReadAs log e level score r → {A : Type 0} (refused : Refusal → A) (next : Bytes → A)
+    → opened log e level score refused next ≡ next (r .bytes)
+unfolding opened
+read-is R refused next = rw (R .row-held, R .within-count, R .whole)
 
 -- what is known where a block is found
 pub record OpenedAt (log : Bytes) (e : Entry) (level : ℕ) (score : Bytes) (place : Block) : Type 0 where
   pub row : Row
-  pub row-held : held log (typeAt e level) score ≡ some row
+  pub read : ReadAs log e level score row
   pub place-of-row : place ≡ placeOf row
-  pub within-count : ltb (countAt e level) (length (row .bytes)) ≡ false
-  pub whole : ragged level (length (row .bytes)) ≡ false
 
 module _ (log : Bytes) (e : Entry) (level : ℕ) (score : Bytes) where
-  pub found-at : (p : Block) → placeAt log e level score ≡ Found p → OpenedAt log e level score p
-  unfolding placeAt lookUp
-  found-at p h = by-held (held log (typeAt e level) score) refl h
+  -- the program's place and what goes on by the definition: both are a refusal, or of a row that is read
+  pub opened-ind : {A : Type 0} (refused : Refusal → A) (next : Bytes → A) (P : Look → A → Type 0) → ((w : Refusal) → P (Refused w) (refused w))
+      → ((r : Row) → ReadAs log e level score r → P (placed r) (next (r .bytes))) → P (placeAt log e level score) (opened log e level score refused next)
+  unfolding placeAt lookUp opened
+  opened-ind {A} refused next P f g = by-held (held log (typeAt e level) score) refl
     where
-      by-ragged : (r : Row) (b : Bool) → held log (typeAt e level) score ≡ some r → ltb (countAt e level) (length (r .bytes)) ≡ false → ragged level (length (r .bytes)) ≡ b
-          → cond b (Refused Pointers) (placed r) ≡ Found p → OpenedAt log e level score p
-      by-ragged r true o c q z = let x : _≡_ {A = ℕ} 0 1 = cc in absurd (omega arith)
-      by-ragged r false o c q z = record {
-        row = r;
-        row-held = o;
-        place-of-row = cc;
-        within-count = c;
-        whole = q;
-      }
+      by-ragged : (r : Row) → (ragged level (length (r .bytes)) ≡ false → ReadAs log e level score r) → (b : Bool) → ragged level (length (r .bytes)) ≡ b
+          → P (cond b (Refused Pointers) (placed r)) (cond b (refused Pointers) (next (r .bytes)))
+      by-ragged r R true q = f Pointers
+      by-ragged r R false q = g r (R q)
 
-      by-count : (r : Row) (b : Bool) → held log (typeAt e level) score ≡ some r → ltb (countAt e level) (length (r .bytes)) ≡ b
-          → wholeScores level (cond b (Refused OverCount) (placed r)) ≡ Found p → OpenedAt log e level score p
-      by-count r true o q z = let x : _≡_ {A = ℕ} 0 1 = cc in absurd (omega arith)
-      by-count r false o q z = by-ragged r (ragged level (length (r .bytes))) o q refl z
+      by-count : (r : Row) → held log (typeAt e level) score ≡ some r → (b : Bool) → ltb (countAt e level) (length (r .bytes)) ≡ b
+          → P (wholeScores level (cond b (Refused OverCount) (placed r)))
+          (cond b (refused OverCount) (cond (ragged level (length (r .bytes))) (refused Pointers) (next (r .bytes))))
+      by-count r o true q = f OverCount
+      by-count r o false q = by-ragged r (λ z. record { row-held = o; within-count = q; whole = z }) (ragged level (length (r .bytes))) refl
 
-      by-held : (o : Option Row) → held log (typeAt e level) score ≡ o → wholeScores level (counted (countAt e level) (on o (Refused (absence log)) placed)) ≡ Found p → OpenedAt log e level score p
-      by-held none q z = let x : _≡_ {A = ℕ} 0 1 = cc in absurd (omega arith)
-      by-held (some r) q z = by-count r (ltb (countAt e level) (length (r .bytes))) q refl z
+      by-held : (o : Option Row) → held log (typeAt e level) score ≡ o
+          → P (wholeScores level (counted (countAt e level) (on o (Refused (absence log)) placed)))
+          (on o (refused (absence log)) (λ r. cond (ltb (countAt e level) (length (r .bytes))) (refused OverCount) (cond (ragged level (length (r .bytes))) (refused Pointers) (next (r .bytes)))))
+      by-held none q = f (absence log)
+      by-held (some r) q = by-count r q (ltb (countAt e level) (length (r .bytes))) refl
+
+  pub found-at : (p : Block) → placeAt log e level score ≡ Found p → OpenedAt log e level score p
+  found-at p h =
+      opened-ind {A = ℕ} (λ w. 0) (λ b. 0) (λ l _. l ≡ Found p → OpenedAt log e level score p) (λ w z. let x : _≡_ {A = ℕ} 0 1 = cc in absurd (omega arith))
+      (λ r R z. record { row = r; read = R; place-of-row = cc }) h
 
   -- a block that is refused is its refusal, whatever would go on
   pub refused-at : {A : Type 0} (w : Refusal) → placeAt log e level score ≡ Refused w → (refused : Refusal → A) (next : Bytes → A)
       → refused w ≡ opened log e level score refused next
-  unfolding placeAt lookUp opened
-  refused-at {A} w h refused next = by-held (held log (typeAt e level) score) h
-    where
-      by-ragged : (r : Row) (b : Bool) → cond b (Refused Pointers) (placed r) ≡ Refused w → refused w ≡ cond b (refused Pointers) (next (r .bytes))
-      by-ragged r true z = let x : w ≡ Pointers = cc in ap refused x
-      by-ragged r false z = let x : _≡_ {A = ℕ} 0 1 = cc in absurd (omega arith)
-
-      by-count : (r : Row) (b : Bool) → wholeScores level (cond b (Refused OverCount) (placed r)) ≡ Refused w
-          → refused w ≡ cond b (refused OverCount) (cond (ragged level (length (r .bytes))) (refused Pointers) (next (r .bytes)))
-      by-count r true z = let x : w ≡ OverCount = cc in ap refused x
-      by-count r false z = by-ragged r (ragged level (length (r .bytes))) z
-
-      by-held : (o : Option Row) → wholeScores level (counted (countAt e level) (on o (Refused (absence log)) placed)) ≡ Refused w
-          → refused w ≡ on o (refused (absence log))
-          (λ r. cond (ltb (countAt e level) (length (r .bytes))) (refused OverCount) (cond (ragged level (length (r .bytes))) (refused Pointers) (next (r .bytes))))
-      by-held none z = let x : w ≡ absence log = cc in ap refused x
-      by-held (some r) z = by-count r (ltb (countAt e level) (length (r .bytes))) z
+  refused-at {A} w h refused next =
+      opened-ind refused next (λ l x. l ≡ Refused w → refused w ≡ x) (λ v z. let x : w ≡ v = cc in ap refused x) (λ r R z. let x : _≡_ {A = ℕ} 0 1 = cc in absurd (omega arith)) h
 
 module _ {log : Bytes} {e : Entry} {level : ℕ} {score : Bytes} {p : Block} (O : OpenedAt log e level score p) where
   stands : Stands log (O .row)
-  stands = held-stands log (typeAt e level) score (O .row) (O .row-held)
+  stands = held-stands log (typeAt e level) score (O .row) (O .read .row-held)
 
   size-of-row : p .size ≡ length (O .row .bytes)
   size-of-row = ap (λ (x : Block). x .size) (O .place-of-row)
 
   -- what goes on has the bytes at its place
   pub goes-on : {A : Type 0} (refused : Refusal → A) (next : Bytes → A) → next (bytesOf log p) ≡ opened log e level score refused next
-  unfolding opened
-  goes-on refused next =
-      let bytes : bytesOf log p ≡ O .row .bytes = ap (bytesOf log) (O .place-of-row) ∙ sym (stands .bytes-there) in
-      rw (O .row-held, O .within-count, O .whole) (ap next bytes)
+  goes-on refused next = ap next (ap (bytesOf log) (O .place-of-row) ∙ sym (stands .bytes-there)) ∙ sym (read-is (O .read) refused next)
 
   pub in-log : Inside (sectors (length log)) p
   in-log = rw (O .place-of-row) (stands .within)
@@ -103,7 +98,7 @@ module _ {log : Bytes} {e : Entry} {level : ℕ} {score : Bytes} {p : Block} (O 
 
   pub whole-scores : (level ≡ 0 → ⊥) → p .size % 20 ≡ 0
   whole-scores h =
-      eqb-true (p .size % 20) 0 (not-ragged (eqb level 0) (eqb (p .size % 20) 0) (ne-eqb level 0 h) (ap (λ (m : ℕ). ragged level m) size-of-row ∙ O .whole))
+      eqb-true (p .size % 20) 0 (not-ragged (eqb level 0) (eqb (p .size % 20) 0) (ne-eqb level 0 h) (ap (λ (m : ℕ). ragged level m) size-of-row ∙ O .read .whole))
     where
       not-ragged : (a b : Bool) → a ≡ false → (not a && not b) ≡ false → b ≡ true
       not-ragged false true q r = refl

@@ -2,7 +2,7 @@
 use mathlib.Core.Path.{_≡_, refl, sym, ap, _∙_}
 use mathlib.Core.Bool.{Bool, true, false, cond}
 use mathlib.Core.List.{[]}
-use mathlib.Core.Option.{Option, none, some}
+use mathlib.Core.Option.{some}
 use Prim.Native.Nat.{ℕ, zero, suc, _+_, _-_, _*_, _/_, _%_}
 use lib.Dec.{eqb, ltb}
 use lib.ListN.{length}
@@ -22,7 +22,7 @@ use Rattle.tree.specs.Tree.{piece, typeAt, countAt}
 use Rattle.visit.specs.Visit.{walked, more, visiting}
 use Rattle.descent.specs.Descent.{andThen, paddedTo, inOrder, nestOf, entriesOf, judged, visitDirectory, visitEntry}
 use Rattle.walk.specs.Walk.{walkTop, walkRoot, walkIn, walkOf, mostAllowance}
-use Rattle.visit.proofs.Visits.{visitBy}
+use Rattle.visit.proofs.Visits.{by-tests}
 use Rattle.walk_laws.proofs.Found.{not-done, and-then-done}
 
 -- w, if it is done, is w′ too
@@ -35,15 +35,6 @@ refused-same n r w e = not-done r e
 cond-again : (b : Bool) {x y x′ y′ : Walked} → Same x x′ → Same y y′ → Same (cond b x y) (cond b x′ y′)
 cond-again true f g = f
 cond-again false f g = g
-
--- a visit: what is held is held again
-visit-by : (a b : Bool) (o o′ : Option Row) (w w′ : Refusal) (count : ℕ) (next next′ : Bytes → Walked) → ((r : Row) → o ≡ some r → o′ ≡ some r)
-    → ((x : Bytes) → Same (next x) (next′ x)) → Same (visitBy a b o w count next) (visitBy a b o′ w′ count next′)
-visit-by true b o o′ w w′ count next next′ h f = refused-same _ _ _
-visit-by false true o o′ w w′ count next next′ h f = refused-same _ _ _
-visit-by false false none o′ w w′ count next next′ h f = refused-same _ _ _
-visit-by false false (some r) o′ w w′ count next next′ h f =
-    rw (h r refl) (cond-again (ltb count (length (r .bytes))) (refused-same _ _ _) (λ e. ap more (f (r .bytes) e)))
 
 -- a part that is done, and the rest
 and-then-again : (r r′ : Walked) (n : ℕ) (k k′ : ℕ → Walked) → Same r r′ → ((m : ℕ) → Same (k m) (k′ m))
@@ -65,11 +56,14 @@ order-again go go′ w b left f (suc k) i n =
     (λ m. order-again go go′ w b left f k (suc i) m)
 
 module _ (log log′ : Bytes) (h : (t : ℕ) (s : Bytes) (r : Row) → held log t s ≡ some r → held log′ t s ≡ some r) where
+  -- a visit: what is held is held again
   visit-again : (nest left kind count : ℕ) (score : Bytes) (next next′ : Bytes → Walked) → ((x : Bytes) → Same (next x) (next′ x))
       → Same (visiting log nest left kind count score next) (visiting log′ nest left kind count score next′)
   unfolding visiting
   visit-again nest left kind count score next next′ f =
-      visit-by (ltb 16 nest) (eqb left 0) (held log kind score) (held log′ kind score) (absence log) (absence log′) count next next′ (h kind score) f
+      by-tests (ltb 16 nest) (eqb left 0) (held log kind score) (absence log) count (λ n y. walked n (Refused y)) (λ r. more (next (r .bytes)))
+      (λ w. Same w (visiting log′ nest left kind count score next′)) (λ n y. refused-same n y _)
+      (λ r F e. rw (F .not-deep, F .not-spent, h kind score r (F .row-held), F .within-count) (ap more (f (r .bytes) e)))
 
   mutual
     unfolding visitEntry visitDirectory

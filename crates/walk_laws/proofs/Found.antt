@@ -1,7 +1,7 @@
 -- A walk that ends visits only blocks that look-up finds.
 use mathlib.Core.Path.{_≡_, refl, sym, ap, subst, _∙_}
 use mathlib.Core.Bool.{Bool, true, false, cond}
-use mathlib.Core.Option.{Option, none, some}
+use mathlib.Core.Option.{Option, some}
 use Prim.Native.Nat.{ℕ, zero, suc, _+_, _-_, _*_, _/_, _%_, _≤_, _<_}
 use native.Mathlib.Omega.{arith}
 use lib.Dec.{eqb, ltb}
@@ -9,7 +9,7 @@ use borrow.Author.Tests.{eqb-true, eqb-false, ne-eqb}
 use lib.ListN.{length}
 use Rattle.buffer.specs.Bytes.{Bytes}
 use Rattle.refusal.specs.declared.Refusal.{Refusal}
-use Rattle.refusal.specs.declared.Refusal.the-variants.{OverCount, Entry as IllFormed, Pointers, LogLength, Allowance}
+use Rattle.refusal.specs.declared.Refusal.the-variants.{Entry as IllFormed, Pointers, LogLength, Allowance}
 use Rattle.kind.specs.Kind.{longest}
 use Rattle.block.specs.Block.{Row}
 use Rattle.log.specs.LookUp.{held, absence, lentAllowed}
@@ -26,33 +26,24 @@ use Rattle.descent.specs.Descent.{andThen, paddedTo, inOrder, nestOf, entriesOf
 use Rattle.walk.specs.Walk.{walkTop, walkRoot, walkIn, mostAllowance}
 use Rattle.descent.specs.Parts.{entryIn}
 use Rattle.walk_laws.specs.Found.{Found, leaf, directory, pointers, FoundEntries, FoundRoot, WalkFinds}
-use Rattle.visit.proofs.Visits.{visitBy}
+use Rattle.visit.proofs.Visits.{FoundByTests, by-tests}
 
 -- no refusal is the end of a walk that is done
 pub not-done {ℓ} : {A : Type ℓ} (w : Refusal) → Refused w ≡ Done → A
 not-done w e = let z : _≡_ {A = ℕ} 0 1 = cc in absurd (omega arith)
 
 -- what is known of a visit after which the walk was done: its block, and that what goes on was done
-pub record Seen (b : Bool) (o : Option Row) (next : Bytes → Walked) : Type 0 where
+pub record Seen (a b : Bool) (o : Option Row) (count : ℕ) (next : Bytes → Walked) : Type 0 where
   pub row : Row
-  pub not-spent : b ≡ false
-  pub row-held : o ≡ some row
+  pub found : FoundByTests a b o count row
   pub rest-done : next (row .bytes) .end ≡ Done
 
-seen-by-tests : (a b : Bool) (o : Option Row) (w : Refusal) (count : ℕ) (next : Bytes → Walked) → visitBy a b o w count next .end ≡ Done → Seen b o next
-seen-by-tests true b o w count next e = not-done _ e
-seen-by-tests false true o w count next e = not-done _ e
-seen-by-tests false false none w count next e = not-done _ e
-seen-by-tests false false (some r) w count next e = go (ltb count (length (r .bytes))) e
-  where
-    go : (c : Bool) → cond c (walked 1 (Refused OverCount)) (more (next (r .bytes))) .end ≡ Done → Seen false (some r) next
-    go true d = not-done _ d
-    go false d = record { row = r; not-spent = refl; row-held = refl; rest-done = d }
-
-module _ (log : Bytes) (nest left kind count : ℕ) (score : Bytes) (next : Bytes → Walked) where
-  pub seen : visiting log nest left kind count score next .end ≡ Done → Seen (eqb left 0) (held log kind score) next
-  unfolding visiting
-  seen e = seen-by-tests (ltb 16 nest) (eqb left 0) (held log kind score) (absence log) count next e
+pub seen : (log : Bytes) (nest left kind count : ℕ) (score : Bytes) (next : Bytes → Walked) → visiting log nest left kind count score next .end ≡ Done
+    → Seen (ltb 16 nest) (eqb left 0) (held log kind score) count next
+unfolding visiting
+seen log nest left kind count score next e =
+    by-tests (ltb 16 nest) (eqb left 0) (held log kind score) (absence log) count (λ n y. walked n (Refused y)) (λ r. more (next (r .bytes)))
+    (λ w. w .end ≡ Done → Seen (ltb 16 nest) (eqb left 0) (held log kind score) count next) (λ n y d. not-done y d) (λ r F d. record { row = r; found = F; rest-done = d }) e
 
 -- after a part that was done the rest goes on
 pub and-then-done : (e : End) (n : ℕ) (k : ℕ → Walked) → andThen e n k .end ≡ Done → (e ≡ Done) × (k n .end ≡ Done)
@@ -134,15 +125,15 @@ mutual
   found-entry zero log e level nest score left d h = absurd (omega arith)
   found-entry (suc f) log e zero nest score left d h =
       let s = seen log nest left (typeAt e zero) (countAt e zero) score _ d in
-      let p = eqb-false left 0 (s .not-spent) in
+      let p = eqb-false left 0 (s .found .not-spent) in
       leaf-found log e score (s .row) (λ b. visitDirectory f log nest b (left - 1))
-      (λ y. found-directory f log nest (s .row .bytes) (left - 1) y (omega arith)) (e .directory) refl (s .row-held) (s .rest-done)
+      (λ y. found-directory f log nest (s .row .bytes) (left - 1) y (omega arith)) (e .directory) refl (s .found .row-held) (s .rest-done)
   found-entry (suc f) log e (suc l) nest score left d h =
       let s = seen log nest left (typeAt e (suc l)) (countAt e (suc l)) score _ d in
-      let p = eqb-false left 0 (s .not-spent) in
+      let p = eqb-false left 0 (s .found .not-spent) in
       scores-found log e score (s .row) l (λ x a. visitEntry f log e (suc l - 1) nest x a) (left - 1)
       (λ x a k y. subst (λ (m : ℕ). Found log e m x) (level-below l) (found-entry f log e (suc l - 1) nest x a y (omega arith)))
-      (ap (λ (t : ℕ). held log t score) (sym (type-above e l)) ∙ s .row-held) (eqb (length (s .row .bytes) % 20) 0) refl
+      (ap (λ (t : ℕ). held log t score) (sym (type-above e l)) ∙ s .found .row-held) (eqb (length (s .row .bytes) % 20) 0) refl
       (else-done (eqb (suc l) 0) _ _ (ne-eqb (suc l) 0 (λ z. omega arith)) (s .rest-done))
 
   pub found-directory : (f : ℕ) (log : Bytes) (nest : ℕ) (b : Bytes) (left : ℕ)
@@ -163,7 +154,7 @@ root-done-found log score n r h true z d =
       root-held = h;
       formed = z;
       top = s .row;
-      top-held = s .row-held;
+      top-held = s .found .row-held;
       below = found-directory _ log 1 (s .row .bytes) (n - 1) (s .rest-done) (omega arith);
     }
 root-done-found log score n r h false z d = not-done _ d
@@ -178,7 +169,7 @@ unfolding walkIn walkRoot
 found-in lent log score n v e =
     let d = tests-passed lent (ltb mostAllowance n) (walkRoot log score n) (ap (λ (w : Walked). w .end) e) in
     let s = seen log 0 n 1 300 score _ d in
-    root-done-found log score (n - 1) (s .row) (s .row-held) (rootWellFormed (paddedTo 300 (s .row .bytes))) refl (s .rest-done)
+    root-done-found log score (n - 1) (s .row) (s .found .row-held) (rootWellFormed (paddedTo 300 (s .row .bytes))) refl (s .rest-done)
 
 pub walk-found : WalkFinds
 walk-found log waiting score n v e = found-in (lentAllowed (length log) (length waiting)) (tape log waiting) score n v e
