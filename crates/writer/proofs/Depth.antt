@@ -48,10 +48,10 @@ module _ (n dsize p : ℕ) where
   unfolding depthFrom
   seeking-none room d s h = let m : 8 - d ≡ 0 = omega arith in sym (s .2 ∙ ap (λ (k : ℕ). number (depthFrom k d n dsize p)) m)
 
-  pub room-fits : (room : ℕ) → room < n → n ≤ longest → p ≤ longest → room * p ≤ longest * longest
+  pub room-fits : (room : ℕ) → room ≤ n → n ≤ longest → p ≤ longest → room * p ≤ longest * longest
   room-fits room a b c = omega (arith, mul-le-mul-right p (room-below room a b), below-all c)
     where
-      room-below : (room : ℕ) → room < n → n ≤ longest → room ≤ longest
+      room-below : (room : ℕ) → room ≤ n → n ≤ longest → room ≤ longest
       room-below room a b = omega arith
 
       below-all : p ≤ longest → longest * p ≤ longest * longest

@@ -28,6 +28,6 @@ pub fn write_file(
 ) -> u32
     ensures { λ r. ⌜ wroteFile r (beside (now (log .entry)) (now (waiting .exit))) (now (entry .exit)) (now (scores .exit)) ≡ wroteResult (writeFile (now (log .entry)) (now (waiting .entry)) (now (date .entry)) (now (slice .entry)) dsize psize (now (entry .entry)) (now (scores .entry))) ⌝ }
 {
-    let end = writer::write_file(log, waiting, date, slice, dsize, psize, entry, scores);
+    let end = write::write_file(log, waiting, date, slice, dsize, psize, entry, scores);
     end_number(end)
 }
