@@ -42,7 +42,7 @@ pub fn refuse(why: Refusal, tag: u8, session: Session, reply: &mut [u8]) -> Answ
     requires { ⌜ replyRoom ≤ length (now reply) ⌝ }
     ensures { λ r. ⌜ ((log waiting : Bytes) → outcomeOf r log waiting (now (reply .exit)) ≡ refused why tag session (beside log waiting) (now (reply .entry))) ⌝ }
 {
-    message::write_error(reply, tag, why);
+    reply::write_error(reply, tag, why);
     Answer {
         number: refusal::number(why),
         session: session,
@@ -54,7 +54,7 @@ pub fn acknowledge(kind: u8, tag: u8, reply: &mut [u8]) -> Answer
     requires { ⌜ replyRoom ≤ length (now reply) ⌝ }
     ensures { λ r. ⌜ ((log waiting : Bytes) → outcomeOf r log waiting (now (reply .exit)) ≡ granted (replyOf kind tag []) Greeted (beside log waiting) (now (reply .entry))) ⌝ }
 {
-    message::write_head(reply, kind, tag, 0);
+    reply::write_head(reply, kind, tag, 0);
     Answer {
         number: 0,
         session: Session::Greeted,
@@ -80,7 +80,7 @@ fn greet(message: &[u8], reply: &mut [u8]) -> Answer
     if !message::is_version(message) {
         return refuse(Refusal::Hello, tag, Session::Fresh, reply);
     }
-    message::write_hello(reply, tag);
+    reply::write_hello(reply, tag);
     Answer {
         number: 0,
         session: Session::Greeted,
@@ -118,7 +118,7 @@ pub fn answer_read<'a>(
     requires { ⌜ (end .0 ≤ sectors (length (now log))) × Inside (end .0 + sectors (length (now waiting))) b × (b .size ≤ longest) × (replyRoom ≤ length (now reply)) ⌝ }
     ensures { λ r. ⌜ outcomeOf r (now (log .entry)) (now (waiting .entry)) (now (reply .exit)) ≡ granted (readReply tag (bytesOf (joined (end .0) (now (log .entry)) (now (waiting .entry))) b)) Greeted (beside (now (log .entry)) (now (waiting .entry))) (now (reply .entry)) ⌝ }
 {
-    message::write_head(reply, message::READ_REPLY, tag, b.size);
+    reply::write_head(reply, message::READ_REPLY, tag, b.size);
     reader::copy_out(log, end, waiting, b, &mut reply[message::HEAD..]);
     Answer {
         number: 0,
@@ -136,7 +136,7 @@ pub fn answer_store(receipt: Receipt, tag: u8, reply: &mut [u8]) -> Answer
     if let Stored::Refused(why) = stored {
         return refuse(why, tag, Session::Greeted, reply);
     }
-    message::write_reply(reply, message::WRITE_REPLY, tag, &score);
+    reply::write_reply(reply, message::WRITE_REPLY, tag, &score);
     Answer {
         number: 0,
         session: Session::Greeted,

@@ -1,4 +1,4 @@
--- Laws of no one function. `Replies`, `Requests`: for callers; `Cases`: the returns of the code.
+-- Laws of no one function. `Replies`, `Requests`: for callers; `Returns`: the returns of the code.
 pub mod Returns
 pub mod Replies
 pub mod Requests

@@ -1,9 +1,9 @@
--- `message::write_error` meets its contract: the body is the text of the refusal, with its sector where it has one.
+-- `reply::write_error` meets its contract: the body is the text of the refusal, with its sector where it has one.
 use mathlib.Core.Path.{_∙_}
 use Rattle.message.proofs.Replies.{error-doubt, error-plain}
 use borrow.Author.Needs.{needs}
-use Rattle.message.proofs.write_error.Statement.{statement}
-use Rattle.message.proofs.write_error.Tie as tie
+use Rattle.reply.proofs.write_error.Statement.{statement}
+use Rattle.reply.proofs.write_error.Tie as tie
 
 number-requires : tie.Need-number-requires
 number-requires c κs = search needs

@@ -1,11 +1,11 @@
--- `message::doubt_text` meets its contract: the digits stand behind the words.
+-- `reply::doubt_text` meets its contract: the digits stand behind the words.
 use mathlib.Core.Path.{ap, _∙_}
 use mathlib.Core.List.{_∷_, _++_, append-nil}
 use Rattle.buffer.specs.Bytes.{Bytes}
 use Rattle.message.specs.Reply.{why}
 use borrow.Author.Needs.{needs}
-use Rattle.message.proofs.doubt_text.Statement.{statement}
-use Rattle.message.proofs.doubt_text.Tie as tie
+use Rattle.reply.proofs.doubt_text.Statement.{statement}
+use Rattle.reply.proofs.doubt_text.Tie as tie
 
 add-tens : tie.Need-add-tens
 add-tens c = search needs

@@ -1,10 +1,10 @@
--- `message::write_reply` meets its contract: the body after the head.
+-- `reply::write_reply` meets its contract: the body after the head.
 use mathlib.Core.Path.{ap, _∙_}
 use Rattle.buffer.specs.Bytes.{Bytes, put}
 use Rattle.message.proofs.Replies.{head-body}
 use borrow.Author.Needs.{needs}
-use Rattle.message.proofs.write_reply.Statement.{statement}
-use Rattle.message.proofs.write_reply.Tie as tie
+use Rattle.reply.proofs.write_reply.Statement.{statement}
+use Rattle.reply.proofs.write_reply.Tie as tie
 
 write-head-requires : tie.Need-write-head-requires
 write-head-requires c κs = search needs

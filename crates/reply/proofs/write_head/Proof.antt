@@ -1,10 +1,10 @@
--- `message::write_head` meets its contract: the size, and two bytes after it.
+-- `reply::write_head` meets its contract: the size, and two bytes after it.
 use lib.ListN.{length-take}
 use Rattle.message.proofs.Replies.{size-type-tag}
 use native.Mathlib.Omega.{arith}
 use borrow.Author.Needs.{needs}
-use Rattle.message.proofs.write_head.Statement.{statement}
-use Rattle.message.proofs.write_head.Tie as tie
+use Rattle.reply.proofs.write_head.Statement.{statement}
+use Rattle.reply.proofs.write_head.Tie as tie
 
 slice-relend-prefix-put-be : tie.Need-slice-relend-prefix-put-be
 slice-relend-prefix-put-be c = search needs
