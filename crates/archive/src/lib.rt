@@ -46,7 +46,7 @@ fn serve_sync(log: &mut [u8], waiting: &mut [u8], tag: u8, reply: &mut [u8]) -> 
     requires { ⌜ replyRoom ≤ length (now reply) ⌝ }
     ensures { λ r. ⌜ outcomeOf r (now (log .exit)) (now (waiting .exit)) (now (reply .exit)) ≡ sync tag (beside (now (log .entry)) (now (waiting .entry))) (now (reply .entry)) ⌝ }
 {
-    if !store::settle(log, waiting) {
+    if !settle::settle(log, waiting) {
         return answer::refuse(Refusal::NoRoom, tag, Session::Greeted, reply);
     }
     answer::acknowledge(message::SYNC_REPLY, tag, reply)

@@ -50,7 +50,7 @@ fn store_block<'a>(
 {
     let mut page = [0u8; LONGEST];
     reader::copy_out(log, end, waiting, b, &mut page);
-    let receipt = store::store_alone(second, date, kind, &page[..b.size]);
+    let receipt = alone::store_alone(second, date, kind, &page[..b.size]);
     let stored = receipt.stored;
     end_of(stored)
 }

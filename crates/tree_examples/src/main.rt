@@ -47,7 +47,7 @@ fn put(log: &mut [u8], kind: u8, data: &[u8]) -> [u8; 20] {
     }
     let mut waiting = [0u8; 8192];
     let receipt = store::store(log, &mut waiting, b"20261116", kind, data);
-    store::settle(log, &mut waiting);
+    settle::settle(log, &mut waiting);
     receipt.score
 }
 

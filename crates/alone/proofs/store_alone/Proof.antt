@@ -1,13 +1,13 @@
--- `store::store_alone` meets its contract: what look-up finds in the log.
+-- `alone::store_alone` meets its contract: what look-up finds in the log.
 use native.Mathlib.Omega.{arith}
 use borrow.Author.Needs.{needs}
 use Rattle.block.specs.Log.{joined}
 use Rattle.block.proofs.Joined.{sectors-joined}
 use Rattle.log.specs.Parts.{alone}
-use Rattle.store.proofs.Alone.{alone-found, alone-new}
+use Rattle.alone.proofs.Alone.{alone-found, alone-new}
 use Rattle.store.proofs.Outcomes.{found-within}
-use Rattle.store.proofs.store_alone.Statement.{statement}
-use Rattle.store.proofs.store_alone.Tie as tie
+use Rattle.alone.proofs.store_alone.Statement.{statement}
+use Rattle.alone.proofs.store_alone.Tie as tie
 
 -- where the function began: one `.before` for each lent slice
 abbrev start : tie.After-sha1 → tie.Start

@@ -1,4 +1,4 @@
--- `store::append_new` meets its contract: no room among the waiting sectors, none in the log, or room in both.
+-- `insert::append_new` meets its contract: no room among the waiting sectors, none in the log, or room in both.
 use mathlib.Core.Path.{_≡_, sym, ap, _∙_}
 use Prim.Native.Nat.{ℕ, _+_, _-_, _*_, _≤_, _<_}
 use native.Mathlib.Omega.{arith}
@@ -8,12 +8,12 @@ use Rattle.block.proofs.Facts.{parts-bounds}
 use Rattle.sha1.proofs.Digest.{digest-length}
 use Rattle.log.specs.Parts.{writtenFrom}
 use Rattle.log.proofs.Room.{lacks-in-log, lacks-in-waiting}
-use Rattle.store.proofs.Outcomes.{no-room, room, parts-dated}
+use Rattle.insert.proofs.Inserted.{no-room, room, parts-dated}
 use borrow.Author.Needs.{needs}
-use Rattle.store.proofs.append_new.Statement.{statement}
-use Rattle.store.proofs.append_new.Tie as tie
-use Rattle.store.proofs.append_new.Reads as reads
-use Rattle.store.proofs.append_new.Lts as lts
+use Rattle.insert.proofs.append_new.Statement.{statement}
+use Rattle.insert.proofs.append_new.Tie as tie
+use Rattle.insert.proofs.append_new.Reads as reads
+use Rattle.insert.proofs.append_new.Lts as lts
 use Rattle.append.proofs.append_block.Reads as append-block-reads
 use Rattle.block.proofs.parts_of.Reads as parts-of-reads
 

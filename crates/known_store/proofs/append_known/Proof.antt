@@ -4,7 +4,7 @@ use native.Mathlib.Omega.{arith}
 use lib.ListN.{length}
 use Rattle.block.proofs.Facts.{parts-bounds}
 use Rattle.sha1.proofs.Digest.{digest-length}
-use Rattle.store.proofs.Outcomes.{parts-dated}
+use Rattle.insert.proofs.Inserted.{parts-dated}
 use Rattle.known_store.proofs.Stored.{lacks-in-waiting, lacks-in-log, has-room}
 use borrow.Author.Needs.{needs}
 use Rattle.known_store.proofs.append_known.Statement.{statement}

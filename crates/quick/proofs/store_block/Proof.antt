@@ -3,7 +3,7 @@ use Prim.Native.Nat.{_+_, _<_, _^_}
 use native.Mathlib.Omega.{arith}
 use lib.ListN.{length}
 use Rattle.block.proofs.Facts.{parts-bounds}
-use Rattle.store.proofs.Outcomes.{parts-dated}
+use Rattle.insert.proofs.Inserted.{parts-dated}
 use Rattle.known.proofs.Belongs.{belongs-within}
 use Rattle.quick.proofs.Writing.{stored-answered}
 use borrow.Author.Needs.{needs}

@@ -1,14 +1,14 @@
--- `store::settle` meets its contract: nothing is moved, or all that waits.
+-- `settle::settle` meets its contract: nothing is moved, or all that waits.
 use mathlib.Core.Path.{sym}
 use Prim.Native.Nat.{_*_}
 use native.Mathlib.Omega.{arith}
 use lib.ListN.{length-take}
 use Rattle.block.proofs.Used.{used-le-sectors}
 use Rattle.log.proofs.Room.{can-settle, cannot-settle}
-use Rattle.store.proofs.Outcomes.{nothing-moved, all-moved}
+use Rattle.settle.proofs.Moved.{nothing-moved, all-moved}
 use borrow.Author.Needs.{needs}
-use Rattle.store.proofs.settle.Statement.{statement}
-use Rattle.store.proofs.settle.Tie as tie
+use Rattle.settle.proofs.settle.Statement.{statement}
+use Rattle.settle.proofs.settle.Tie as tie
 
 used-part-requires : tie.Need-used-part-requires
 used-part-requires c κs = search needs
