@@ -85,7 +85,7 @@ module _ (log : Bytes) (e : Entry) (level nest : ℕ) (s t : Bytes) (left : ℕ)
 
 pub lies : (u : ℕ) (log waiting : Bytes) → u ≤ sectors (length log) → {e : Entry} {level : ℕ} {score : Bytes} {b : Block}
     → OpenedAt (joined u log waiting) e level score b → Lies level b (u + sectors (length waiting))
-lies u log waiting h {b = b} O = record { before = in-both u log waiting h b (in-log O); not-many = not-many O; whole = whole-scores O }
+lies u log waiting h {b = b} O = record { before = in-both u log waiting h b (in-log O); not-many = not-many O; full-scores = whole-scores O }
 
 -- all positions of two blocks in the log
 pub of-below : (log : Bytes) (e : Entry) (level nest : ℕ) (b c : Block) (end : ℕ) → Lies level b end → Lies level c end → (left : ℕ) {most : ℕ}

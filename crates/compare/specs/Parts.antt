@@ -9,4 +9,4 @@ use Rattle.block.specs.declared.Block.{Block}
 pub record Lies (level : ℕ) (b : Block) (end : ℕ) : Type 0 where
   pub before : Inside end b
   pub not-many : b .size ≤ longest
-  pub whole : (level ≡ 0 → ⊥) → b .size % 20 ≡ 0
+  pub full-scores : (level ≡ 0 → ⊥) → b .size % 20 ≡ 0

@@ -109,7 +109,7 @@ module _ (log waiting date score second : Bytes) (n : ℕ) where
   begun l d before rest q z W e = record {
     rest = rest;
     beginning = q;
-    whole = z;
+    nothing-left = z;
     writes = W;
     behind = e;
     linked = λ v m. subst (λ (s : Bytes). Linked s (v .role) (v .bytes)) (sym e) (writes-linked (tape log waiting) date d W (fits l) v m);
@@ -132,7 +132,7 @@ module _ (log waiting date score second : Bytes) (n : ℕ) where
   unwritten why e = record {
     rest = reached .visits;
     beginning = refl;
-    whole = λ z. unspent (lentAllowed (length log) (length waiting)) (tape log waiting) score n
+    nothing-left = λ z. unspent (lentAllowed (length log) (length waiting)) (tape log waiting) score n
         (ap (λ (w : Walked). w .visits) (sym z) ∙ ap (λ (c : Copied). c .answer .visits) e);
     writes = none;
     behind = ap (λ (c : Copied). c .second) e;

@@ -118,7 +118,7 @@ made log waiting date score second n =
 pub record OnlyWrites (first date : Bytes) (p : PostOrder) (before : List Visit) (second : Bytes) (c : Copied) : Type 0 where
   pub rest : List Visit
   pub beginning : p .visits ≡ before ++ rest
-  pub whole : c .answer ≡ p .answer → rest ≡ []
+  pub nothing-left : c .answer ≡ p .answer → rest ≡ []
   pub writes : Writes first date before second
   pub behind : c .second ≡ wroteAll date before second
   pub linked : (v : Visit) → List·Memᴰ v before → Linked (c .second) (v .role) (v .bytes)

@@ -41,7 +41,7 @@ first-at a b i w h p d = record {
   position = i;
   byte = refl;
   is-active = p;
-  whole = whole-within a i (active-within a i w p);
+  full-length = whole-within a i (active-within a i w p);
   before = h;
   differ = d;
 }
@@ -89,10 +89,10 @@ says-the-first a b = cond-ind (Says a b) (blockAllowed a && blockAllowed b) _ _ 
 
 -- an entry that is handed back lies within its block
 pub first-within : (a b : Bytes) (at : ℕ) → differenceOf a b ≡ First at → at + 40 ≤ length a
-first-within a b at e = let s = subst (Says a b) e (says-the-first a b) in within a (s .position) at (s .byte) (s .whole)
+first-within a b at e = let s = subst (Says a b) e (says-the-first a b) in within a (s .position) at (s .byte) (s .full-length)
 
 pub second-within : (a b : Bytes) (at : ℕ) → differenceOf a b ≡ Second at → at + 40 ≤ length b
-second-within a b at e = let s = subst (Says a b) e (says-the-first a b) .first in within b (s .position) at (s .byte) (s .whole)
+second-within a b at e = let s = subst (Says a b) e (says-the-first a b) .first in within b (s .position) at (s .byte) (s .full-length)
 
 -- ---- equal blocks, and the other order
 

@@ -20,7 +20,7 @@ pub record FirstAt (a b : Bytes) (at : ℕ) : Type 0 where
   pub position : ℕ
   pub byte : at ≡ 40 * position
   pub is-active : active (entryAt a position) ≡ true
-  pub whole : length (entryAt a position) ≡ 40
+  pub full-length : length (entryAt a position) ≡ 40
   pub before : (j : ℕ) → j < position → Agree a b j
   pub differ : Agree a b position → ⊥
 

@@ -34,10 +34,10 @@ module _ (t : ℕ) where
       (y .entry-bytes2 .ensures)
 
   score-at-requires : lts.Need-score-at-requires (position-calls t) (position-at t) Post
-  score-at-requires c κs = let p = c .before .before .before .pre .1 in (p .0, p .1 .before, p .1 .whole (c .if1 .left), omega (arith, p .7))
+  score-at-requires c κs = let p = c .before .before .before .pre .1 in (p .0, p .1 .before, p .1 .full-scores (c .if1 .left), omega (arith, p .7))
 
   score-at-requires-2 : lts.Need-score-at-requires-2 (position-calls t) (position-at t) Post
-  score-at-requires-2 c κs = let p = c .before .before .before .before .pre .1 in (p .0, p .2 .before, p .2 .whole (c .before .if1 .left), omega (arith, p .7))
+  score-at-requires-2 c κs = let p = c .before .before .before .before .pre .1 in (p .0, p .2 .before, p .2 .full-scores (c .before .if1 .left), omega (arith, p .7))
 
   compare-blocks-requires : lts.Need-compare-blocks-requires (position-calls t) (position-at t) Post
   compare-blocks-requires c κs =
@@ -50,8 +50,8 @@ module _ (t : ℕ) where
         omega arith,
         (
           p .0,
-          score-of-20 log (a .b) (p .1 .before .1) (a .i) (y .before .score-at .ensures) (p .1 .whole (i .if1 .left)),
-          score-of-20 log (a .c) (p .2 .before .1) (a .i) (y .score-at2 .ensures) (p .2 .whole (i .if1 .left)),
+          score-of-20 log (a .b) (p .1 .before .1) (a .i) (y .before .score-at .ensures) (p .1 .full-scores (i .if1 .left)),
+          score-of-20 log (a .c) (p .2 .before .1) (a .i) (y .score-at2 .ensures) (p .2 .full-scores (i .if1 .left)),
           omega (arith, p .3),
           p .5,
           p .6,
