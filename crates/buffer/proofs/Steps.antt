@@ -7,7 +7,7 @@ use Prim.Native.Nat.{ℕ, zero, suc, _+_, _≤_, _<_, max}
 use native.Mathlib.Omega.{arith}
 use native.Mathlib.Numerals.{add-one}
 use lib.Dec.{eqb}
-use lib.Bits.{bitOr, bitAnd, or-add-and, and-le-l, and-le-r, or-zero-r}
+use lib.Bits.{bitOr, bitXor, or-add-and, xor-add-and, xor-self, and-le-l, and-le-r}
 use borrow.Author.Tests.{eqb-true, eqb-false, eq-eqb, ne-eqb}
 use lib.ListN.{length, getD, take, drop, set, drop-of-length-le}
 use lib.Seq.{drop-cons, drop-length, paste, paste-suc, take-all}
@@ -46,6 +46,23 @@ zeros-step s i seen h =
 
 pub zeros-end : (s : Bytes) (i seen : ℕ) → length s ≤ i → (eqb seen 0 && zeros (drop i s)) ≡ eqb seen 0
 zeros-end s i seen h = rw (drop-of-length-le s h) (and-one (eqb seen 0))
+
+-- same, without a way out: one byte more, the end
+xor-test : (a b : ℕ) → eqb (bitXor a b) 0 ≡ eqb a b
+xor-test a b = go (eqb a b) refl
+  where
+    go : (p : Bool) → eqb a b ≡ p → eqb (bitXor a b) 0 ≡ p
+    go true e = eq-eqb (bitXor a b) 0 (ap (bitXor a) (sym (eqb-true a b e)) ∙ xor-self a)
+    go false e = ne-eqb (bitXor a b) 0 (λ z. eqb-false a b e (omega (arith, xor-add-and a b, and-le-l a b, and-le-r a b, z)))
+
+pub agree-step : (a b : Bytes) (i seen : ℕ) → i < length a → i < length b
+    → (eqb (bitOr seen (bitXor (getD a i 0) (getD b i 0))) 0 && same (drop (i + 1) a) (drop (i + 1) b)) ≡ (eqb seen 0 && same (drop i a) (drop i b))
+agree-step a b i seen ha hb =
+    rw (drop-cons a i 0, drop-cons b i 0, add-one, or-test seen (bitXor (getD a i 0) (getD b i 0)), xor-test (getD a i 0) (getD b i 0))
+    (and-assoc (eqb seen 0) (eqb (getD a i 0) (getD b i 0)) (same (drop (suc i) a) (drop (suc i) b)))
+
+pub agree-end : (a b : Bytes) (i seen : ℕ) → length a ≤ i → length b ≤ i → (eqb seen 0 && same (drop i a) (drop i b)) ≡ eqb seen 0
+agree-end a b i seen ha hb = rw (drop-of-length-le a ha, drop-of-length-le b hb) (and-one (eqb seen 0))
 
 -- put: one byte more, none, all
 pub put-all : (d : Bytes) (at : ℕ) (s : Bytes) → paste d at s (length s) ≡ put d at s
