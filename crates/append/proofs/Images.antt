@@ -14,7 +14,7 @@ use Rattle.sector.specs.declared.Label.{Label}
 use Rattle.sector.proofs.Encode.{length-encode}
 use Rattle.sector.proofs.Editions.{length-dated}
 use Rattle.sector.proofs.Dates.{front-is, front-eight}
-use Rattle.sector.proofs.Written.{length-date}
+use Rattle.sector.proofs.Dates.{length-date}
 use Rattle.block.specs.Block.{Row, partsOf, payload, parts, labelAt, rowLabel, image, images}
 use Rattle.block.specs.Log.{sectors}
 use Rattle.block.proofs.Facts.{parts-bounds}

@@ -51,7 +51,7 @@ fn write_part(
     };
     let at = SECTOR * k;
     let end = at + SECTOR;
-    sector::write_sector(&mut part[at..end], front, label, score, piece);
+    sector_lines::write_sector(&mut part[at..end], front, label, score, piece);
 }
 
 // Writes the sectors of a block to the front of a part of the log; the rest of the part stays.
@@ -89,7 +89,7 @@ pub fn append_block(
     ensures { λ _. ⌜ now (part .exit) ≡ writtenFrom (from .0) (now (part .entry)) (rowOf kind (now (score .entry)) (now («data» .entry)) (first .0) (now (date .entry))) ⌝ }
 {
     let mut front = [0u8; 14];
-    sector::write_front(&mut front, date);
+    sector_lines::write_front(&mut front, date);
     let at = SECTOR * (first.0 - from.0);
     write_parts(&mut part[at..], &front, first, kind, score, data);
 }

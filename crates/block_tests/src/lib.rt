@@ -40,7 +40,7 @@ pub fn labels_agree<'a>(
         };
         let n = first.0 + i;
         let s = two_runs::sector_at(log, end, waiting, SectorNumber(n));
-        if !sector::has_label(s, front, label, score) {
+        if !sector_lines::has_label(s, front, label, score) {
             return false;
         }
         i += 1;
@@ -62,7 +62,7 @@ pub fn checks_fit<'a>(
     let mut n = first.0;
     let last = n + count;
     while n < last {
-        if !sector::has_check(two_runs::sector_at(log, end, waiting, SectorNumber(n))) {
+        if !sector_lines::has_check(two_runs::sector_at(log, end, waiting, SectorNumber(n))) {
             return false;
         }
         n += 1;

@@ -1,53 +1,17 @@
 -- The line of a date, before the lines of a label: when a sector begins with one, and that it is read back.
 use mathlib.Core.Path.{_≡_, refl, sym, ap, ap₂, _∙_}
-use mathlib.Core.Bool.{Bool, true, false, cond, _&&_}
-use mathlib.Core.List.{List, [], _∷_, _++_, append-assoc}
-use mathlib.Core.Logic.{_≢_, _⊎_, inl, inr}
-use Prim.Native.Nat.{ℕ, zero, suc, _+_, _≤_, _<_}
+use mathlib.Core.Bool.{Bool, true, false, _&&_}
+use mathlib.Core.List.{[], _∷_, _++_}
+use Prim.Native.Nat.{ℕ, _+_, _≤_}
 use native.Mathlib.Omega.{arith}
-use native.Mathlib.Numerals.{add-one}
-use lib.Dec.{leb, eqb}
-use borrow.Author.Tests.{leb-true, le-leb, lt-leb, eqb-true, eq-eqb, ne-eqb}
-use lib.ListN.{length, getD, take, drop, length-append, length-take, length-drop, drop-of-length-le}
-use lib.Seq.{drop-cons, take-at, take-add, getD-take, getD-append-add, length-take-le, drop-drop}
+use lib.ListN.{length, getD, take, drop, length-append}
+use lib.Seq.{drop-cons, take-add, getD-take, getD-append-add, drop-drop}
 use Rattle.ground.proofs.Choices.{and-true}
 use Rattle.buffer.specs.Bytes.{Bytes, same}
-use Rattle.buffer.proofs.Bytes.{same-true, same-refl, small-append}
+use Rattle.buffer.proofs.Bytes.{same-true, same-refl}
 use Rattle.buffer.proofs.Parts.{part-within}
-use Rattle.word.specs.Number.{small}
-use Rattle.sector.specs.Sector.{line, dateName, decimals, isDate, isDateOrNone, frontOf, isDated, dateField}
-use Rattle.sector.specs.declared.Label.{Label}
-
--- one digit more
-module _ (d : Bytes) (i : ℕ) (h : i < length d) where
-  pub decimal : 48 ≤ getD d i 0 → getD d i 0 ≤ 57 → decimals (drop i d) ≡ decimals (drop (i + 1) d)
-  decimal a b = rw (drop-cons d i 0, add-one, le-leb 48 (getD d i 0) a, le-leb (getD d i 0) 57 b)
-
-  pub too-low : getD d i 0 < 48 → decimals (drop i d) ≡ false
-  too-low a = rw (drop-cons d i 0, lt-leb 48 (getD d i 0) a)
-
-  pub too-high : 57 < getD d i 0 → decimals (drop i d) ≡ false
-  too-high a = rw (drop-cons d i 0, lt-leb (getD d i 0) 57 a) (and-false (leb 48 (getD d i 0)))
-    where
-      and-false : (b : Bool) → ((b && false) && decimals (drop (suc i) d)) ≡ false
-      and-false true = refl
-      and-false false = refl
-
-pub of-eight : (d : Bytes) → length d ≡ 8 → isDate d ≡ decimals d
-unfolding isDate
-of-eight d e = rw (eq-eqb (length d) 8 e)
-
-pub not-eight : (d : Bytes) → (length d ≡ 8 → ⊥) → isDate d ≡ false
-unfolding isDate
-not-eight d n = rw (ne-eqb (length d) 8 n)
-
-pub date-length : (d : Bytes) → isDate d ≡ true → length d ≡ 8
-unfolding isDate
-date-length d e = eqb-true (length d) 8 ((and-true (eqb (length d) 8) (decimals d) e) .0)
-
-pub date-decimals : (d : Bytes) → isDate d ≡ true → decimals d ≡ true
-unfolding isDate
-date-decimals d e = (and-true (eqb (length d) 8) (decimals d) e) .1
+use Rattle.sector.specs.Sector.{line, dateName, isDate, isDateOrNone, frontOf, isDated, dateField}
+pub use Rattle.date.proofs.Digits.{date-length}
 
 -- what begins with a date's line
 module _ (s : Bytes) (e : isDated s ≡ true) where
@@ -87,6 +51,9 @@ dated-by s h n f d =
     rw (e, d) (ap (λ (b : Bool). b && true) (same-refl (line dateName (take 8 (drop 5 s)))))
 
 -- how long the line is
+pub length-date : (date : Bytes) → length (line dateName date) ≡ length date + 6
+length-date date = omega (arith, length-append dateName (date ++ (10 ∷ [])), length-append date (10 ∷ []))
+
 pub front-eight : (d : Bytes) → length d ≡ 8 → length (frontOf d) ≡ 14
 front-eight [] e = absurd (omega arith)
 front-eight (b ∷ bs) e = omega (arith, length-append (b ∷ bs) (10 ∷ []))

@@ -14,10 +14,11 @@ use Rattle.buffer.specs.Bytes.{Bytes, same, zeros}
 use Rattle.buffer.proofs.Bytes.{same-refl, small-append}
 use Rattle.buffer.proofs.Parts.{part-within}
 use Rattle.word.specs.Number.{small}
-use Rattle.sector.specs.Sector.{line, dateName, labelOf, decimals, isDate, isDateOrNone, frontOf, datedLabel, labelLength, isDated, dateField, behind}
+use Rattle.sector.specs.Sector.{line, dateName, labelOf, isDate, isDateOrNone, frontOf, datedLabel, labelLength, isDated, dateField, behind}
 use Rattle.sector.specs.declared.Label.{Label}
-use Rattle.sector.proofs.Dates.{date-length, date-decimals, front-eight, dated-name, undated}
-use Rattle.sector.proofs.Written.{length-date}
+use Rattle.date.specs.Date.{decimals}
+use Rattle.date.proofs.Digits.{date-decimals}
+use Rattle.sector.proofs.Dates.{date-length, front-eight, length-date, dated-name, undated}
 use Rattle.sector.proofs.Fields.{length-label, small-label, label-marked}
 
 -- of either edition

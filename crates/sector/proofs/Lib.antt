@@ -3,4 +3,3 @@ pub mod Dates
 pub mod Encode
 pub mod Fields
 pub mod Unfit
-pub mod Written

@@ -3,12 +3,12 @@
 use mathlib.Core.Bool.{Bool, true, cond, _&&_}
 use mathlib.Core.List.{List, [], _∷_, _++_}
 use Prim.Native.Nat.{ℕ, _+_, _-_}
-use lib.Dec.{leb, eqb}
 use lib.ListN.{length, take, drop, replicate}
 use Rattle.buffer.specs.Bytes.{Bytes, same}
 use Rattle.word.specs.Hex.{hex, hexBytes, hexValue, readBytes}
 use Rattle.crc32_rule.specs.Crc32.{crc32Of}
 use Rattle.sector.specs.declared.Label.{Label}
+unfoldable pub use Rattle.date.specs.Date.{isDate}
 
 -- "The log is sectors of 512 bytes"
 abbrev pub sectorLength : ℕ
@@ -73,14 +73,6 @@ labelLines l score =
 
 unfoldable pub labelOf : Label → Bytes → Bytes
 labelOf l score = lines (labelLines l score)
-
--- "eight decimal digits": bytes 0x30 to 0x39, and no calendar
-abbrev pub decimals : Bytes → Bool
-decimals [] = true
-decimals (b ∷ bs) = (leb 48 b && leb b 57) && decimals bs
-
-unfoldable pub isDate : Bytes → Bool
-isDate d = eqb (length d) 8 && decimals d
 
 -- a date, or none
 abbrev pub isDateOrNone : Bytes → Bool

@@ -13,7 +13,7 @@ use Rattle.append.proofs.write_part.Lts as lts
 use Rattle.append.proofs.smaller.Reads as smaller-reads
 use Rattle.block.proofs.parts_of.Reads as parts-of-reads
 use Rattle.block.proofs.payload_of.Reads as payload-of-reads
-use Rattle.sector.proofs.write_sector.Reads as write-sector-reads
+use Rattle.sector_lines.proofs.write_sector.Reads as write-sector-reads
 
 -- src/lib.rt:39:17
 add-label : tie.Need-add-label

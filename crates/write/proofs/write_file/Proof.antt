@@ -11,7 +11,6 @@ use Rattle.write.proofs.write_file.Statement.{statement}
 use Rattle.write.proofs.write_file.Tie as tie
 use Rattle.write.proofs.write_file.Reads as reads
 use Rattle.write.proofs.write_file.Lts as lts
-use Rattle.sector.proofs.is_date.Reads as is-date-reads
 use Rattle.depth.proofs.depth_of.Reads as depth-of-reads
 use Rattle.write.proofs.write_tested.Reads as write-tested-reads
 

@@ -2,12 +2,13 @@ use mathlib.Core.Path.{_≡_, refl, sym, ap, ap₂, _∙_}
 use Prim.Native.Nat.{ℕ, _+_, _-_, _≤_}
 use native.Mathlib.Omega.{arith}
 use lib.ListN.{length, take, drop}
-use Rattle.sector.proofs.Written.{front-written, length-date}
+use Rattle.sector_lines.proofs.Written.{front-written}
+use Rattle.sector.proofs.Dates.{length-date}
 use borrow.Author.Needs.{needs}
-use Rattle.sector.proofs.write_front.Statement.{statement}
-use Rattle.sector.proofs.write_front.Tie as tie
-use Rattle.sector.proofs.write_front.Reads as reads
-use Rattle.sector.proofs.write_front.Lts as lts
+use Rattle.sector_lines.proofs.write_front.Statement.{statement}
+use Rattle.sector_lines.proofs.write_front.Tie as tie
+use Rattle.sector_lines.proofs.write_front.Reads as reads
+use Rattle.sector_lines.proofs.write_front.Lts as lts
 use Rattle.buffer.proofs.copy_at.Reads as copy-at-reads
 
 -- src/lib.rt:75:27

@@ -110,9 +110,6 @@ front-written d d₁ d₂ date h k e₁ e₂ =
     ∙ put-next d 0 13 (dateName ++ date) (10 ∷ []) (omega arith) (omega arith)
     ∙ ap (put d 0) (append-assoc dateName date (10 ∷ []))
     ∙ put-whole d (line dateName date) (omega (arith, length-append dateName (date ++ (10 ∷ [])), length-append date (10 ∷ [])))
-
-pub length-date : (date : Bytes) → length (line dateName date) ≡ length date + 6
-length-date date = omega (arith, length-append dateName (date ++ (10 ∷ [])), length-append date (10 ∷ []))
 
 -- whether a front and a label stand at a sector's beginning: one after the other
 pub labels-same : (s front label : Bytes) (n : ℕ) → length label ≡ n → length front + n ≤ length s

@@ -8,16 +8,16 @@ use borrow.Author.Tests.{not-true, not-false}
 use Rattle.buffer.specs.Bytes.{Bytes, same}
 use Rattle.buffer.proofs.Bytes.{same-true, same-refl}
 use Rattle.buffer.proofs.Put.{put-whole}
 use Rattle.sector.specs.Sector.{labelOf}
 use Rattle.sector.proofs.Fields.{length-label}
-use Rattle.sector.proofs.Written.{label-unlike, label-alike}
+use Rattle.sector_lines.proofs.Written.{label-unlike, label-alike}
 use borrow.Author.Needs.{needs}
-use Rattle.sector.proofs.has_label.Statement.{statement}
-use Rattle.sector.proofs.has_label.Tie as tie
-use Rattle.sector.proofs.has_label.Reads as reads
-use Rattle.sector.proofs.has_label.Lts as lts
+use Rattle.sector_lines.proofs.has_label.Statement.{statement}
+use Rattle.sector_lines.proofs.has_label.Tie as tie
+use Rattle.sector_lines.proofs.has_label.Reads as reads
+use Rattle.sector_lines.proofs.has_label.Lts as lts
 use Rattle.buffer.proofs.equal.Reads as equal-reads
-use Rattle.sector.proofs.write_label.Reads as write-label-reads
+use Rattle.sector_lines.proofs.write_label.Reads as write-label-reads
 
 -- src/lib.rt:124:23
 slice-aggregate-equal : tie.Need-slice-aggregate-equal

@@ -7,19 +7,19 @@ use lib.Seq.{length-take-le}
 use borrow.Author.Tests.{not-true, not-false}
 use Rattle.buffer.specs.Bytes.{Bytes, same}
 use Rattle.buffer.proofs.Bytes.{same-true, same-refl}
 use Rattle.sector.specs.Sector.{labelOf}
 use Rattle.sector.proofs.Fields.{length-label}
-use Rattle.sector.proofs.Written.{three-front, sector-written}
+use Rattle.sector_lines.proofs.Written.{three-front, sector-written}
 use borrow.Author.Needs.{needs}
-use Rattle.sector.proofs.write_sector.Statement.{statement}
-use Rattle.sector.proofs.write_sector.Tie as tie
-use Rattle.sector.proofs.write_sector.Reads as reads
-use Rattle.sector.proofs.write_sector.Lts as lts
+use Rattle.sector_lines.proofs.write_sector.Statement.{statement}
+use Rattle.sector_lines.proofs.write_sector.Tie as tie
+use Rattle.sector_lines.proofs.write_sector.Reads as reads
+use Rattle.sector_lines.proofs.write_sector.Lts as lts
 use Rattle.buffer.proofs.clear.Reads as clear-reads
 use Rattle.buffer.proofs.copy_at.Reads as copy-at-reads
 use Rattle.crc32.proofs.crc32.Reads as crc32-reads
-use Rattle.sector.proofs.write_label.Reads as write-label-reads
-use Rattle.sector.proofs.write_line.Reads as write-line-reads
+use Rattle.sector_lines.proofs.write_label.Reads as write-label-reads
+use Rattle.sector_lines.proofs.write_line.Reads as write-line-reads
 
 -- src/lib.rt:149:5
 copy-at-requires : tie.Need-copy-at-requires

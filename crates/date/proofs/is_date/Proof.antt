@@ -2,13 +2,13 @@ use mathlib.Core.Path.{_≡_, refl, sym, ap, _∙_}
 use Prim.Native.Nat.{ℕ, _+_, _-_, _≤_, _<_}
 use native.Mathlib.Omega.{arith}
 use lib.ListN.{length, drop, drop-of-length-le}
-use Rattle.sector.specs.Sector.{decimals}
-use Rattle.sector.proofs.Dates.{decimal, too-low, too-high, of-eight, not-eight}
+use Rattle.date.specs.Date.{decimals}
+use Rattle.date.proofs.Digits.{decimal, too-low, too-high, of-eight, not-eight}
 use borrow.Author.Needs.{needs}
-use Rattle.sector.proofs.is_date.Statement.{statement}
-use Rattle.sector.proofs.is_date.Tie as tie
-use Rattle.sector.proofs.is_date.Reads as reads
-use Rattle.sector.proofs.is_date.Lts as lts
+use Rattle.date.proofs.is_date.Statement.{statement}
+use Rattle.date.proofs.is_date.Tie as tie
+use Rattle.date.proofs.is_date.Reads as reads
+use Rattle.date.proofs.is_date.Lts as lts
 
 abbrev Inv-loop : tie.InvT-loop
 Inv-loop d i₀ i = (i ≤ length d) × (length d ≡ 8) × (decimals (drop i d) ≡ decimals d)

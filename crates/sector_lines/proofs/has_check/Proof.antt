@@ -7,18 +7,18 @@ use Rattle.buffer.specs.Bytes.{Bytes, same}
 use Rattle.buffer.proofs.Put.{put-whole}
 use Rattle.word.specs.Hex.{hex}
 use Rattle.crc32_rule.specs.Crc32.{crc32Of}
 use Rattle.sector.specs.Sector.{line, crcName, labelOf, check, fits}
 use Rattle.sector.proofs.Encode.{length-check}
 use Rattle.sector.proofs.Fields.{length-label}
-use Rattle.sector.proofs.Written.{length-three, sector-written}
+use Rattle.sector_lines.proofs.Written.{length-three, sector-written}
 use borrow.Author.Needs.{needs}
-use Rattle.sector.proofs.has_check.Statement.{statement}
-use Rattle.sector.proofs.has_check.Tie as tie
-use Rattle.sector.proofs.has_check.Reads as reads
-use Rattle.sector.proofs.has_check.Lts as lts
+use Rattle.sector_lines.proofs.has_check.Statement.{statement}
+use Rattle.sector_lines.proofs.has_check.Tie as tie
+use Rattle.sector_lines.proofs.has_check.Reads as reads
+use Rattle.sector_lines.proofs.has_check.Lts as lts
 use Rattle.buffer.proofs.equal.Reads as equal-reads
 use Rattle.crc32.proofs.crc32.Reads as crc32-reads
-use Rattle.sector.proofs.write_line.Reads as write-line-reads
+use Rattle.sector_lines.proofs.write_line.Reads as write-line-reads
 
 slice-aggregate-crc32 : tie.Need-slice-aggregate-crc32
 slice-aggregate-crc32 c = sym (length-take-le 499 ((c .before .before .args .s .now)) (omega arith))

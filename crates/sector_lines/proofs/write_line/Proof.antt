@@ -6,13 +6,13 @@ use lib.ListN.{length, take, drop}
 use Rattle.buffer.proofs.Put.{length-put}
 use Rattle.word.specs.Hex.{hex, hexBytes}
 use Rattle.word.proofs.HexLaws.{hex-length, hexBytes-length}
 use Rattle.sector.specs.Sector.{scoreName}
-use Rattle.sector.proofs.Written.{digits-part, line-written, line-length}
+use Rattle.sector_lines.proofs.Written.{digits-part, line-written, line-length}
 use borrow.Author.Needs.{needs}
-use Rattle.sector.proofs.write_line.Statement.{statement}
-use Rattle.sector.proofs.write_line.Tie as tie
-use Rattle.sector.proofs.write_line.Reads as reads
-use Rattle.sector.proofs.write_line.Lts as lts
+use Rattle.sector_lines.proofs.write_line.Statement.{statement}
+use Rattle.sector_lines.proofs.write_line.Tie as tie
+use Rattle.sector_lines.proofs.write_line.Reads as reads
+use Rattle.sector_lines.proofs.write_line.Lts as lts
 use Rattle.buffer.proofs.copy_at.Reads as copy-at-reads
 use Rattle.word.proofs.hex.put_hex.Reads as put-hex-reads
 

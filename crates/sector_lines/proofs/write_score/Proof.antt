@@ -1,13 +1,13 @@
 use native.Mathlib.Omega.{arith}
 use Rattle.word.specs.Hex.{hexBytes}
 use Rattle.word.proofs.HexLaws.{hexBytes-length}
 use Rattle.sector.specs.Sector.{scoreName}
-use Rattle.sector.proofs.Written.{line-written, line-length}
+use Rattle.sector_lines.proofs.Written.{line-written, line-length}
 use borrow.Author.Needs.{needs}
-use Rattle.sector.proofs.write_score.Statement.{statement}
-use Rattle.sector.proofs.write_score.Tie as tie
-use Rattle.sector.proofs.write_score.Reads as reads
-use Rattle.sector.proofs.write_score.Lts as lts
+use Rattle.sector_lines.proofs.write_score.Statement.{statement}
+use Rattle.sector_lines.proofs.write_score.Tie as tie
+use Rattle.sector_lines.proofs.write_score.Reads as reads
+use Rattle.sector_lines.proofs.write_score.Lts as lts
 use Rattle.buffer.proofs.copy_at.Reads as copy-at-reads
 use Rattle.word.proofs.hex.put_hex_bytes.Reads as put-hex-bytes-reads
 
