@@ -6,7 +6,7 @@ use native.Mathlib.Numerals.{add-one}
 use lib.ListN.{getD}
 use Rattle.sha1_block.specs.declared.Hash.{Hash}
 use Rattle.sha1_block.specs.Block.{roundOf, roundsOf}
-use Rattle.sha1_block.specs.Ring.{RoundsDone}
+use Rattle.sha1_block.specs.Rounds.{RoundsDone}
 
 pub round-more : (w : List ℕ) (h s r : Hash) (t q x : ℕ) → t / 20 ≡ q → x ≡ getD w t 0 → s ≡ roundsOf t w h → r ≡ roundOf s q x → r ≡ roundsOf (t + 1) w h
 unfolding roundsOf

@@ -2,9 +2,11 @@
 ghost use mathlib.Core.Path.{_≡_};
 ghost use mathlib.Core.List.{List};
 ghost use Prim.Native.Nat.{ℕ, _+_, _-_, _*_, _%_, _<_, _≤_};
-ghost use lib.ListN.{length, getD};
-ghost use Rattle.sha1_block.specs.Block.{chOf, parityOf, majOf, fOf, kOf, initial, roundOf, roundsOf, wordAt, wordsOf, scheduleOf, addHash, compressOf};
-ghost use Rattle.sha1_block.specs.Ring.{Ring, RoundsDone};
+ghost use lib.ListN.{length};
+ghost use Rattle.sha1_schedule.specs.Schedule.{scheduleOf};
+ghost use Rattle.sha1_schedule.specs.Ring.{Ring};
+ghost use Rattle.sha1_block.specs.Block.{initial, roundOf, roundsOf, addHash, compressOf};
+ghost use Rattle.sha1_block.specs.Rounds.{RoundsDone};
 
 // The five words of a hash value, and of the working variables.
 pub struct Hash {
@@ -28,57 +30,12 @@ pub fn first() -> Hash
     }
 }
 
-// Ch, section 4.1.1, without the complement: with it the rounds are a fifth slower.
-fn ch(x: u32, y: u32, z: u32) -> u32
-    ensures { λ r. ⌜ r ≡ chOf x y z ⌝ }
-{
-    ((y ^ z) & x) ^ z
-}
-
-// Parity, section 4.1.1.
-fn parity(x: u32, y: u32, z: u32) -> u32
-    ensures { λ r. ⌜ r ≡ parityOf x y z ⌝ }
-{
-    x ^ y ^ z
-}
-
-// Maj, section 4.1.1.
-fn maj(x: u32, y: u32, z: u32) -> u32
-    ensures { λ r. ⌜ r ≡ majOf x y z ⌝ }
-{
-    (x & y) ^ (x & z) ^ (y & z)
-}
-
-// The function of the rounds of the quarter q, section 4.1.1.
-fn mixed(q: usize, x: u32, y: u32, z: u32) -> u32
-    ensures { λ r. ⌜ r ≡ fOf q x y z ⌝ }
-{
-    match q {
-        0 => ch(x, y, z),
-        1 => parity(x, y, z),
-        2 => maj(x, y, z),
-        _ => parity(x, y, z),
-    }
-}
-
-// The constant of the rounds of the quarter q, section 4.2.1.
-fn constant(q: usize) -> u32
-    ensures { λ r. ⌜ r ≡ kOf q ⌝ }
-{
-    match q {
-        0 => 0x5a827999,
-        1 => 0x6ed9eba1,
-        2 => 0x8f1bbcdc,
-        _ => 0xca62c1d6,
-    }
-}
-
 // One round of the quarter q.
 fn round(s: Hash, q: usize, w: u32) -> Hash
     ensures { λ r. ⌜ r ≡ roundOf s q w ⌝ }
 {
-    let f = mixed(q, s.b, s.c, s.d);
-    let k = constant(q);
+    let f = sha1_functions::mixed(q, s.b, s.c, s.d);
+    let k = sha1_functions::constant(q);
     let t = word::add(
         word::add(word::add(word::add(word::rotate_left(s.a, 5), f), s.e), k),
         w,
@@ -90,44 +47,6 @@ fn round(s: Hash, q: usize, w: u32) -> Hash
         d: s.c,
         e: s.d,
     }
-}
-
-// Word i of a block.
-fn word_at(b: &[u8], i: usize) -> u32
-    requires { ⌜ (length (now b) ≡ 64) × (i < 16) ⌝ }
-    ensures { λ r. ⌜ r ≡ wordAt (now (b .entry)) i ⌝ }
-{
-    let at = 4 * i;
-    word::word(b[at], b[at + 1], b[at + 2], b[at + 3])
-}
-
-// The words of a block: the first sixteen of its message schedule.
-fn words(b: &[u8]) -> [u32; 16]
-    requires { ⌜ length (now b) ≡ 64 ⌝ }
-    ensures { λ r. ⌜ r ≡ wordsOf 16 (now (b .entry)) ⌝ }
-{
-    let mut w = [0u32; 16];
-    let mut i = 0;
-    while i < 16 {
-        w[i] = word_at(b, i);
-        i += 1;
-    }
-    w
-}
-
-// Round t's word, from round 16 on, of those 3, 8, 14 and 16 before it, as in section 6.1.3. It takes the place of the
-// last of them: in this round the ring holds the latest sixteen words of the standard's schedule.
-fn latest(w: &mut [u32; 16], t: usize) -> u32
-    requires { ⌜ (16 ≤ t) × (t < 80) ⌝ }
-    ensures { λ r. ⌜ ((m : List ℕ) → Ring m (t - 1) (now (w .entry)) → Ring m t (now (w .exit)) × (r ≡ getD (scheduleOf 64 m) t 0)) ⌝ }
-{
-    let i = t % 16;
-    let three = (i + 13) % 16;
-    let eight = (i + 8) % 16;
-    let fourteen = (i + 2) % 16;
-    let x = word::rotate_left(w[three] ^ w[eight] ^ w[fourteen] ^ w[i], 1);
-    w[i] = x;
-    x
 }
 
 // The first sixteen rounds, with the words of the block.
@@ -148,7 +67,7 @@ fn turn(s: Hash, q: usize, w: &mut [u32; 16], t: usize) -> Hash
     requires { ⌜ (16 ≤ t) × (t < 80) × (20 * q ≤ t) × (t < 20 * q + 20) ⌝ }
     ensures { λ r. ⌜ ((m : List ℕ) (h : Hash) → RoundsDone m h t (now (w .entry)) s → RoundsDone m h (t + 1) (now (w .exit)) r) ⌝ }
 {
-    let x = latest(w, t);
+    let x = sha1_schedule::latest(w, t);
     round(s, q, x)
 }
 
@@ -195,6 +114,6 @@ pub fn compress(h: Hash, b: &[u8]) -> Hash
     requires { ⌜ length (now b) ≡ 64 ⌝ }
     ensures { λ r. ⌜ r ≡ compressOf h (now (b .entry)) ⌝ }
 {
-    let mut w = words(b);
+    let mut w = sha1_schedule::words(b);
     added(rounds(h, &mut w), h)
 }

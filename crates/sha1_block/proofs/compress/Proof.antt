@@ -3,8 +3,8 @@ use mathlib.Core.Path.{ap, _∙_}
 use borrow.Author.Needs.{needs}
 use Rattle.sha1_block.specs.declared.Hash.{Hash}
 use Rattle.sha1_block.specs.Block.{addHash, compressOf}
-use Rattle.sha1_block.specs.Ring.{RoundsDone}
-use Rattle.sha1_block.proofs.Schedule.{ring-first}
+use Rattle.sha1_block.specs.Rounds.{RoundsDone}
+use Rattle.sha1_schedule.proofs.Schedule.{ring-first}
 use Rattle.sha1_block.proofs.compress.Statement.{statement}
 use Rattle.sha1_block.proofs.compress.Tie as tie
 

@@ -5,8 +5,8 @@ use Prim.Native.Nat.{ℕ, _≤_, _-_}
 use native.Mathlib.Omega.{arith}
 use borrow.Author.Needs.{needs}
 use Rattle.sha1_block.specs.Block.{roundsOf, scheduleOf}
-use Rattle.sha1_block.specs.Ring.{Ring}
-use Rattle.sha1_block.proofs.Schedule.{ring-at}
+use Rattle.sha1_schedule.specs.Ring.{Ring}
+use Rattle.sha1_schedule.proofs.Schedule.{ring-at}
 use Rattle.sha1_block.proofs.Turns.{round-more}
 use Rattle.sha1_block.proofs.first_rounds.Statement.{statement}
 use Rattle.sha1_block.proofs.first_rounds.Tie as tie

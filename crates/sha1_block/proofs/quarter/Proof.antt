@@ -5,7 +5,7 @@ use Prim.Native.Nat.{ℕ, _≤_, _-_, _+_, _%_}
 use native.Mathlib.Omega.{arith}
 use borrow.Author.Needs.{needs}
 use Rattle.sha1_block.specs.declared.Hash.{Hash}
-use Rattle.sha1_block.specs.Ring.{RoundsDone}
+use Rattle.sha1_block.specs.Rounds.{RoundsDone}
 use Rattle.sha1_block.proofs.Turns.{after-move}
 use Rattle.sha1_block.proofs.quarter.Statement.{statement}
 use Rattle.sha1_block.proofs.quarter.Tie as tie

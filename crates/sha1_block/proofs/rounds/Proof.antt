@@ -1,6 +1,6 @@
 -- `sha1_block::rounds` meets its contract. Assumes nothing.
 use borrow.Author.Needs.{needs}
-use Rattle.sha1_block.specs.Ring.{RoundsDone}
+use Rattle.sha1_block.specs.Rounds.{RoundsDone}
 use Rattle.sha1_block.proofs.rounds.Statement.{statement}
 use Rattle.sha1_block.proofs.rounds.Tie as tie
 

@@ -3,8 +3,8 @@ use Prim.Native.Nat.{_+_, _-_}
 use native.Mathlib.Omega.{arith}
 use borrow.Author.Needs.{needs}
 use Rattle.sha1_block.specs.Block.{scheduleOf}
-use Rattle.sha1_block.specs.Ring.{RoundsDone}
-use Rattle.sha1_block.proofs.Schedule.{ring-move}
+use Rattle.sha1_block.specs.Rounds.{RoundsDone}
+use Rattle.sha1_schedule.proofs.Schedule.{ring-move}
 use Rattle.sha1_block.proofs.Turns.{round-more}
 use Rattle.sha1_block.proofs.turn.Statement.{statement}
 use Rattle.sha1_block.proofs.turn.Tie as tie

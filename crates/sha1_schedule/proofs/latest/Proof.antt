@@ -1,9 +1,9 @@
--- `sha1_block::latest` meets its contract. Assumes nothing.
+-- `sha1_schedule::latest` meets its contract. Assumes nothing.
 use native.Mathlib.Omega.{arith}
 use borrow.Author.Needs.{needs}
-use Rattle.sha1_block.proofs.Schedule.{made, ring-next}
-use Rattle.sha1_block.proofs.latest.Statement.{statement}
-use Rattle.sha1_block.proofs.latest.Tie as tie
+use Rattle.sha1_schedule.proofs.Schedule.{made, ring-next}
+use Rattle.sha1_schedule.proofs.latest.Statement.{statement}
+use Rattle.sha1_schedule.proofs.latest.Tie as tie
 
 add-three : tie.Need-add-three
 add-three c = search needs

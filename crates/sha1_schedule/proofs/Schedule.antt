@@ -10,8 +10,8 @@ use lib.Bits.{bitXor}
 use lib.ListN.{length, getD, take, set, length-set, length-append, List·getD-append}
 use lib.Seq.{take-suc-set, getD-at, getD-set-same, getD-set-other}
 use Rattle.word.specs.Word.{rotL}
-use Rattle.sha1_block.specs.Block.{wordAt, wordsOf, nextWord, snocWord, scheduleOf}
-use Rattle.sha1_block.specs.Ring.{Ring, ringWord, RingGoesOn}
+use Rattle.sha1_schedule.specs.Schedule.{wordAt, wordsOf, nextWord, snocWord, scheduleOf}
+use Rattle.sha1_schedule.specs.Ring.{Ring, ringWord, RingGoesOn}
 
 -- ---- the words of a block
 

@@ -5,8 +5,7 @@ use Prim.Native.Nat.{ℕ, _+_, _-_, _%_, _<_, _≤_}
 use lib.ListN.{length, getD, set}
 use lib.Bits.{bitXor}
 use Rattle.word.specs.Word.{rotL}
-use Rattle.sha1_block.specs.declared.Hash.{Hash}
-use Rattle.sha1_block.specs.Block.{scheduleOf, roundsOf}
+use Rattle.sha1_schedule.specs.Schedule.{scheduleOf}
 
 -- #103: "Keep sixteen words of the message schedule in a ring [..] and prove that from round 16 on they are the latest sixteen
 -- of the standard's schedule". In round t the ring w holds the words t - 15 to t of the schedule of the block m, word n in
@@ -24,8 +23,3 @@ ringWord w t =
 abbrev pub RingGoesOn : Type 0
 RingGoesOn = (m w : List ℕ) (t : ℕ) → 16 ≤ t → t < 80 → Ring m (t - 1) w
     → (ringWord w t ≡ getD (scheduleOf 64 m) t 0) × Ring m t (set w (t % 16) (ringWord w t))
-
--- t rounds are done, from 16 on: the ring w is as round t - 1 left it, and s is the standard's working variables for the
--- block m and the hash value h before it
-unfoldable pub RoundsDone : List ℕ → Hash → ℕ → List ℕ → Hash → Type 0
-RoundsDone m h t w s = Ring m (t - 1) w × (s ≡ roundsOf t (scheduleOf 64 m) h)

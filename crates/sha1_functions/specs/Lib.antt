@@ -1,0 +1,2 @@
+-- What the clauses of `sha1_functions` cite.
+pub mod Functions

@@ -1,0 +1,2 @@
+-- The laws of the schedule and of the ring.
+pub mod Schedule
