@@ -1,4 +1,3 @@
-pub mod Decimal
 pub mod Printed
 pub mod Answer
 pub mod Examples

@@ -21,8 +21,11 @@ use Rattle.block.proofs.Apart.{none-past}
 use Rattle.block.proofs.Used.{used-le-sectors}
 use Rattle.log.specs.LookUp.{logAllowed}
 use Rattle.report.specs.declared.Reported.{Reported}
-use Rattle.report.specs.Report.{sectorsName, usedName, recordsName, doubtfulName, verdictName, decimal, verdict, surveyOf, textOf, reportText, ReportOutcome, reportOutcome, reportOf}
-use Rattle.report.proofs.Printed.{verdict-length, line-short, report-room}
+use Rattle.survey.specs.Survey.{surveyOf}
+use Rattle.print.specs.Text.{sectorsName, usedName, recordsName, doubtfulName, verdictName, decimal, verdict, textOf}
+use Rattle.print.proofs.Lines.{verdict-length, line-short}
+use Rattle.report.specs.Report.{reportText, ReportOutcome, reportOutcome, reportOf}
+use Rattle.report.proofs.Printed.{report-room}
 use Rattle.results.specs.Survey.{reportNumber, textLength, reported, reportResult, soundResult, sizeOf}
 
 -- ---- the report

@@ -1,4 +1,4 @@
--- `report::scan` meets its contract: what the walk counted up to a sector is what the definitions count there.
+-- `survey::scan` meets its contract: what the walk counted up to a sector is what the definitions count there.
 use mathlib.Core.Path.{_≡_, _∙_}
 use Prim.Native.Nat.{ℕ, _+_, _-_, _≤_, _<_}
 use native.Mathlib.Omega.{arith}
@@ -6,12 +6,12 @@ use Rattle.block.specs.Log.{used}
 use Rattle.block.proofs.Used.{used-le-sectors}
 use Rattle.reader.proofs.Alone.{placed-alone}
 use Rattle.lookup.proofs.Outcomes.{block-bounds}
-use Rattle.report.proofs.Printed.{Counted, counted-zero, counted-none, counted-some, counted-end, parts-some}
+use Rattle.survey.proofs.Counted.{Counted, counted-zero, counted-none, counted-some, counted-end, parts-some}
 use borrow.Author.Needs.{needs}
-use Rattle.report.proofs.scan.Statement.{statement}
-use Rattle.report.proofs.scan.Tie as tie
-use Rattle.report.proofs.scan.Reads as reads
-use Rattle.report.proofs.scan.Lts as lts
+use Rattle.survey.proofs.scan.Statement.{statement}
+use Rattle.survey.proofs.scan.Tie as tie
+use Rattle.survey.proofs.scan.Reads as reads
+use Rattle.survey.proofs.scan.Lts as lts
 use Rattle.block.proofs.parts_of.Reads as parts-of-reads
 use Rattle.reader.proofs.sound_at.Reads as sound-at-reads
 
@@ -55,7 +55,7 @@ add-records c = let args = c .before .before .before .before .before .before .be
     let l = c .before .before .before .before .before .before .before .before .loop in
     let sound-at = c .before .before .before .before .sound-at in
     let on = counted-some (args .log .now) (l .n) (l .records) (l .doubtful) (sound-at .result) _ (l .inv) ((sound-at .ensures) ∙ placed-alone (args .log .now) (l .n))
-    ((c .before .before .place .given .1)) in
+    ((c .before .before .place .given .1)) _ (c .parts-of .ensures) in
     omega (arith, (l .inv .few), (l .inv .inside), on .inside, (c .parts-of .ensures), used-le-sectors (args .log .now))
 
 -- src/lib.rt:43:17
@@ -64,8 +64,8 @@ add-n c = let args = c .before .before .before .before .before .before .before .
     let l = c .before .before .before .before .before .before .before .before .loop in
     let sound-at = c .before .before .before .before .sound-at in
     let on = counted-some (args .log .now) (l .n) (l .records) (l .doubtful) (sound-at .result) _ (l .inv) ((sound-at .ensures) ∙ placed-alone (args .log .now) (l .n))
-    ((c .before .before .place .given .1)) in
-    omega (arith, (l .inv .inside), on .inside, (c .parts-of .ensures), used-le-sectors (args .log .now))
+    ((c .before .before .place .given .1)) _ (c .parts-of .ensures) in
+    omega (arith, (l .inv .inside), on .inside, used-le-sectors (args .log .now))
 
 -- src/lib.rt:37:5
 loop-less : tie.Need-loop-less Inv-loop μ-loop
@@ -74,7 +74,7 @@ loop-less c = let args = c .before .before .before .before .before .before .befo
     let place = c .before .before .place in
     let given = c .before .before .before .before .before .before .before .before .before .before .pre in
     let sound-at = c .before .before .before .before .sound-at in
-    let on = counted-some (args .log .now) (l .n) (l .records) (l .doubtful) (sound-at .result) _ (l .inv) ((sound-at .ensures) ∙ placed-alone (args .log .now) (l .n)) (place .given .1) in
+    let on = counted-some (args .log .now) (l .n) (l .records) (l .doubtful) (sound-at .result) _ (l .inv) ((sound-at .ensures) ∙ placed-alone (args .log .now) (l .n)) (place .given .1) _ (c .parts-of .ensures) in
     let pos = parts-some (args .log .now) (l .n) (sound-at .result) _ ((sound-at .ensures) ∙ placed-alone (args .log .now) (l .n)) (place .given .1) in
     omega (arith, on .inside, (c .parts-of .ensures), pos, given)
 
@@ -83,9 +83,8 @@ loop-again : tie.Need-loop-again Inv-loop μ-loop
 loop-again c = let args = c .before .before .before .before .before .before .before .before .before .before .args in
     let l = c .before .before .before .before .before .before .before .before .loop in
     let sound-at = c .before .before .before .before .sound-at in
-    let on = counted-some (args .log .now) (l .n) (l .records) (l .doubtful) (sound-at .result) _ (l .inv) ((sound-at .ensures) ∙ placed-alone (args .log .now) (l .n))
-    ((c .before .before .place .given .1)) in
-    rw ((c .parts-of .ensures)) on
+    counted-some (args .log .now) (l .n) (l .records) (l .doubtful) (sound-at .result) _ (l .inv) ((sound-at .ensures) ∙ placed-alone (args .log .now) (l .n))
+    ((c .before .before .place .given .1)) _ (c .parts-of .ensures)
 
 -- src/lib.rt:46:17
 enum-told : tie.Need-enum-told Inv-loop μ-loop

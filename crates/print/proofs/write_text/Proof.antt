@@ -1,10 +1,10 @@
--- `report::write_text` meets its contract: the lines stand one after the other.
+-- `print::write_text` meets its contract: the lines stand one after the other.
 use borrow.Author.Needs.{needs}
 use native.Mathlib.Omega.{arith}
-use Rattle.report.specs.Report.{sectorsName, usedName, recordsName, doubtfulName}
-use Rattle.report.proofs.Printed.{line-room, line-end, text-written}
-use Rattle.report.proofs.write_text.Statement.{statement}
-use Rattle.report.proofs.write_text.Tie as tie
+use Rattle.print.specs.Text.{sectorsName, usedName, recordsName, doubtfulName}
+use Rattle.print.proofs.Lines.{line-room, line-end, text-written}
+use Rattle.print.proofs.write_text.Statement.{statement}
+use Rattle.print.proofs.write_text.Tie as tie
 
 slice-aggregate-write-line : tie.Need-slice-aggregate-write-line
 slice-aggregate-write-line c = search needs

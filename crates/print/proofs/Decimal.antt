@@ -10,7 +10,7 @@ use lib.ListN.{length, getD, length-append, List·getD-append}
 use Rattle.buffer.specs.Bytes.{Bytes}
 use Rattle.word.specs.Number.{valueFrom}
 use Rattle.word.proofs.NumberLaws.{value-append}
-use Rattle.report.specs.Report.{digits, decimal}
+use Rattle.print.specs.Text.{digits, decimal}
 
 -- places beyond enough change nothing
 enough : (w v n : ℕ) → n < w → n < v → digits w n ≡ digits v n

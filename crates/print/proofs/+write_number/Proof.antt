@@ -1,15 +1,15 @@
--- `report::write_number` meets its contract: the digits of the tenth, then the last digit. The measure is the number.
+-- `print::write_number` meets its contract: the digits of the tenth, then the last digit. The measure is the number.
 use borrow.Author.Needs.{needs}
 use Prim.Native.Nat.{ℕ, _≤_, _<_}
 use native.Mathlib.Omega.{arith}
-use Rattle.report.proofs.Printed.{one-room, tenth-room, number-one, number-more}
+use Rattle.print.proofs.Lines.{one-room, tenth-room, number-one, number-more}
 use borrow.Fn.Kinds.{In}
 use borrow.Fn.PlainCycle.{Measures, is, falls, and}
-use Rattle.report.proofs.write_number.Reads as write-number
-use Rattle.report.proofs.write_number.Kinds as write-number-kinds
-use Rattle.report.proofs.+write_number.Lts-write_number as write-number-lts
-use Rattle.report.proofs.+write_number.{statement}
-use Rattle.report.proofs.+write_number.Tie.{close}
+use Rattle.print.proofs.write_number.Reads as write-number
+use Rattle.print.proofs.write_number.Kinds as write-number-kinds
+use Rattle.print.proofs.+write_number.Lts-write_number as write-number-lts
+use Rattle.print.proofs.+write_number.{statement}
+use Rattle.print.proofs.+write_number.Tie.{close}
 
 abbrev μ-write-number : Measures 1 write-number-kinds.ps ℕ
 μ-write-number κs a = a .1 .1 .0

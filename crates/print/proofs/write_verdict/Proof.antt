@@ -1,9 +1,9 @@
--- `report::write_verdict` meets its contract: the line of either verdict.
+-- `print::write_verdict` meets its contract: the line of either verdict.
 use borrow.Author.Needs.{needs}
-use Rattle.report.specs.Report.{verdict}
-use Rattle.report.proofs.Printed.{verdict-sound, verdict-notknown}
-use Rattle.report.proofs.write_verdict.Statement.{statement}
-use Rattle.report.proofs.write_verdict.Tie as tie
+use Rattle.print.specs.Text.{verdict}
+use Rattle.print.proofs.Lines.{verdict-sound, verdict-notknown}
+use Rattle.print.proofs.write_verdict.Statement.{statement}
+use Rattle.print.proofs.write_verdict.Tie as tie
 
 slice-aggregate-copy-at : tie.Need-slice-aggregate-copy-at
 slice-aggregate-copy-at c = search needs

@@ -1,11 +1,11 @@
--- `report::write_line` meets its contract: a name, a number and a line feed.
+-- `print::write_line` meets its contract: a name, a number and a line feed.
 use borrow.Author.Needs.{needs}
 use mathlib.Core.Path.{_∙_}
 use lib.ListN.{length-set}
-use Rattle.report.specs.Report.{decimal}
-use Rattle.report.proofs.Printed.{line-written}
-use Rattle.report.proofs.write_line.Statement.{statement}
-use Rattle.report.proofs.write_line.Tie as tie
+use Rattle.print.specs.Text.{decimal}
+use Rattle.print.proofs.Lines.{line-written}
+use Rattle.print.proofs.write_line.Statement.{statement}
+use Rattle.print.proofs.write_line.Tie as tie
 
 copy-at-requires : tie.Need-copy-at-requires
 copy-at-requires c κs = search needs
