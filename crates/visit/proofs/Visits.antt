@@ -161,7 +161,7 @@ module _ (log : Bytes) (nest left kind count : ℕ) (score : Bytes) (m : Met) (e
         not-many = omega (arith, size, s .not-many);
         counted-in = omega (arith, size, ltb-false count (length (r .bytes)) (F .within-count));
         one-spent = refl;
-        goes-on = λ go w h. ap more h ∙ sym (any-found (λ n y. walked n (Stopped y)) (λ b. more (go b)) p d);
+        goes-on = λ go w h. rw (F .not-deep, F .not-spent, F .row-held, F .within-count) (ap more (h ∙ ap go (sym (s .bytes-there ∙ ap (bytesOf log) z))));
       }) d
 
   pub refused-known : (why : Refusal) → m .look ≡ Refused why → (go : Bytes → Walked) → answerOf m ≡ visiting log nest left kind count score go
