@@ -3,7 +3,7 @@ use mathlib.Core.Path.{_≡_, refl, sym, ap, _∙_}
 use mathlib.Core.Bool.{Bool, true, false, cond, _&&_}
 use mathlib.Core.List.{List, [], _∷_, _++_, append-assoc}
 use mathlib.Core.Option.{Option, none, some}
-use Prim.Native.Nat.{ℕ, zero, suc, _+_, _≤_}
+use Prim.Native.Nat.{ℕ, zero, suc, _≤_}
 use native.Mathlib.Omega.{arith}
 use lib.Dec.{eqb}
 use borrow.Author.Tests.{eq-eqb}
@@ -15,7 +15,7 @@ use Rattle.buffer.specs.Bytes.{Bytes, same}
 use Rattle.buffer.proofs.Bytes.{same-true}
 use Rattle.kleene.specs.declared.Value.the-variants.{NotKnown}
 use Rattle.card.specs.Name.{isName, before}
-use Rattle.card.specs.Card.{Line, line, ending, lineText, text, goodFrom, upToEquals, begins, lineWith, lineOf, linesAt, frontLines, wellFormed, told, say, valueIn}
+use Rattle.card.specs.Card.{Line, line, ending, lineText, text, goodFrom, upTo, upToEquals, begins, lineWith, lineOf, linesAt, frontLines, wellFormed, told, say, valueIn}
 
 -- ---- what stands at the front
 
@@ -24,7 +24,7 @@ pub seam : (s x t : Bytes) → s ≡ x ++ t → s ≡ x ++ drop (length x) s
 seam s x t e = e ∙ ap (λ (y : Bytes). x ++ y) (sym (drop-append-seam x t)) ∙ ap (λ (y : Bytes). x ++ drop (length x) y) (sym e)
 
 up-to : (s : Bytes) → s ≡ upToEquals s ++ drop (length (upToEquals s)) s
-unfolding upToEquals
+unfolding upTo
 up-to [] = refl
 up-to (b ∷ s) = go (eqb b 0x3D) refl (up-to s)
   where
@@ -75,7 +75,7 @@ line-front s l e =
 
 -- as many as there are bytes are enough
 enough : (k j : ℕ) (s : Bytes) → length s ≤ k → length s ≤ j → linesAt k s ≡ linesAt j s
-unfolding linesAt lineWith upToEquals
+unfolding linesAt lineWith upTo
 enough zero zero s h g = refl
 enough zero (suc j) [] h g = refl
 enough zero (suc j) (b ∷ s) h g = absurd (omega arith)

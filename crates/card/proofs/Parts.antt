@@ -1,4 +1,4 @@
--- Where the first "=" is, and what stands at the front of bytes.
+-- Where the first of a byte is, and what stands at the front of bytes.
 use mathlib.Core.Path.{_≡_, sym}
 use mathlib.Core.Bool.{false}
 use Prim.Native.Nat.{ℕ, suc, _+_, _-_, _≤_, _<_}
@@ -9,20 +9,20 @@ use lib.ListN.{length, getD, take, drop, drop-of-length-le, length-take, length-
 use lib.Seq.{drop-cons}
 use Rattle.buffer.specs.Bytes.{Bytes, same}
 use Rattle.buffer.proofs.Steps.{same-lengths}
-use Rattle.card.specs.Card.{upToEquals, begins}
+use Rattle.card.specs.Card.{upTo, begins}
 
-module _ (s : Bytes) (i : ℕ) where
-  pub equals-here : i < length s → getD s i 0 ≡ 0x3D → length (upToEquals (drop i s)) ≡ 0
-  unfolding upToEquals
-  equals-here h e = rw (drop-cons s i 0, eq-eqb (getD s i 0) 0x3D e)
+module _ (c : ℕ) (s : Bytes) (i : ℕ) where
+  pub byte-here : i < length s → getD s i 0 ≡ c → length (upTo c (drop i s)) ≡ 0
+  unfolding upTo
+  byte-here h e = rw (drop-cons s i 0, eq-eqb (getD s i 0) c e)
 
-  pub equals-on : i < length s → (getD s i 0 ≡ 0x3D → ⊥) → length (upToEquals (drop i s)) ≡ suc (length (upToEquals (drop (i + 1) s)))
-  unfolding upToEquals
-  equals-on h n = rw (drop-cons s i 0, add-one, ne-eqb (getD s i 0) 0x3D n)
+  pub byte-on : i < length s → (getD s i 0 ≡ c → ⊥) → length (upTo c (drop i s)) ≡ suc (length (upTo c (drop (i + 1) s)))
+  unfolding upTo
+  byte-on h n = rw (drop-cons s i 0, add-one, ne-eqb (getD s i 0) c n)
 
-  pub equals-none : length s ≤ i → length (upToEquals (drop i s)) ≡ 0
-  unfolding upToEquals
-  equals-none h = rw (drop-of-length-le s h)
+  pub byte-none : length s ≤ i → length (upTo c (drop i s)) ≡ 0
+  unfolding upTo
+  byte-none h = rw (drop-of-length-le s h)
 
 module _ (s : Bytes) (at : ℕ) (p : Bytes) where
   pub begins-short : length s - at < length p → false ≡ begins (drop at s) p

@@ -13,7 +13,7 @@ use Rattle.ground.proofs.Choices.{and-true}
 use Rattle.buffer.specs.Bytes.{Bytes, same}
 use Rattle.buffer.proofs.Bytes.{same-true, same-refl}
 use Rattle.card.specs.Name.{letterOrDigit, lettersAndDigits, reserved, isName}
-use Rattle.card.specs.Card.{Line, line, ending, lineText, text, goodFrom, good, upToEquals, lineWith, lineOf, frontLines, wellFormed, linesOf}
+use Rattle.card.specs.Card.{Line, line, ending, lineText, text, goodFrom, good, upTo, upToEquals, lineWith, lineOf, frontLines, wellFormed, linesOf}
 use Rattle.card.specs.Pinned.{Pinned, OneLineOfAName}
 use Rattle.card.proofs.Lines.{front-none, front-some}
 use Rattle.card.proofs.Order.{good-first, good-other, good-rest}
@@ -26,7 +26,7 @@ unfolding letterOrDigit
 equals-no-letter = refl
 
 up-to-name : (n t : Bytes) → lettersAndDigits n ≡ true → upToEquals (n ++ (0x3D ∷ t)) ≡ n
-unfolding upToEquals
+unfolding upTo
 up-to-name [] t e = refl
 up-to-name (b ∷ n) t e = go (eqb b 0x3D) refl (up-to-name n t)
   where
@@ -62,7 +62,7 @@ line-read l t e =
 -- ---- all lines
 
 nothing-read : lineOf [] ≡ none
-unfolding lineWith upToEquals
+unfolding lineWith upTo
 nothing-read = refl
 
 pub lines-read : (n : Bytes) (ls : List Line) → goodFrom n ls ≡ true → frontLines (text ls) ≡ ls

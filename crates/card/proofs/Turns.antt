@@ -10,7 +10,7 @@ use lib.Seq.{drop-cons, drop-drop, take-append-le, take-append-seam}
 use Rattle.buffer.specs.Bytes.{Bytes, same}
 use Rattle.kleene.specs.declared.Value.the-variants.{NotKnown}
 use Rattle.card.specs.Name.{isName, before}
-use Rattle.card.specs.Card.{Line, ending, lineText, upToEquals, begins, lineWith, lineOf, told, valueIn}
+use Rattle.card.specs.Card.{Line, ending, lineText, upTo, upToEquals, begins, lineWith, lineOf, told, valueIn}
 use Rattle.card.specs.Scan.{placeOf}
 use Rattle.card.specs.declared.Place.{Place}
 use Rattle.card.specs.declared.Place.the-variants as place
@@ -90,7 +90,7 @@ module _ (s : Bytes) (at : ℕ) (h : at ≤ length s) (r : Place) (e : r ≡ pla
 -- ---- what a card says, line by line
 
 no-line : lineOf [] ≡ none
-unfolding lineWith upToEquals
+unfolding lineWith upTo
 no-line = refl
 
 module _ (s n : Bytes) (at : ℕ) where

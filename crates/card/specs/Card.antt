@@ -43,10 +43,14 @@ good ls = goodFrom [] ls
 
 -- ---- the lines of bytes
 
--- the bytes before the first "="
-unfoldable pub upToEquals : Bytes → Bytes
-upToEquals [] = []
-upToEquals (b ∷ s) = cond (eqb b 0x3D) [] (b ∷ upToEquals s)
+-- the bytes before the first that is c
+unfoldable pub upTo : ℕ → Bytes → Bytes
+upTo c [] = []
+upTo c (b ∷ s) = cond (eqb b c) [] (b ∷ upTo c s)
+
+-- before the first "="
+abbrev pub upToEquals : Bytes → Bytes
+upToEquals s = upTo 0x3D s
 
 -- p stands at the front of s
 abbrev pub begins : Bytes → Bytes → Bool

@@ -4,7 +4,7 @@ ghost use mathlib.Core.Path.{_≡_};
 ghost use Prim.Native.Nat.{_+_, _≤_};
 ghost use lib.ListN.{length, drop};
 ghost use Rattle.card.specs.Name.{letterOrDigit, lettersAndDigits, reserved, isName, before};
-ghost use Rattle.card.specs.Card.{upToEquals, begins, lineOf, told, wellFormed, valueIn};
+ghost use Rattle.card.specs.Card.{upTo, begins, lineOf, told, wellFormed, valueIn};
 ghost use Rattle.card.specs.Scan.{placeOf};
 
 // A line by its places: where its name ends, where the line ends, and whether it says present; or that there is none.
@@ -99,14 +99,14 @@ fn is_before(a: &[u8], b: &[u8]) -> bool
     false
 }
 
-// Where the first "=" from a place on stands, or the end of the bytes.
-fn equals_from(s: &[u8], at: usize) -> usize
+// Where the first byte of a value from a place on stands, or the end of the bytes.
+pub fn byte_from(s: &[u8], at: usize, byte: u8) -> usize
     requires { ⌜ at ≤ length (now s) ⌝ }
-    ensures { λ r. ⌜ (r ≡ at + length (upToEquals (drop at (now (s .entry))))) × (r ≤ length (now (s .entry))) ⌝ }
+    ensures { λ r. ⌜ (r ≡ at + length (upTo byte (drop at (now (s .entry))))) × (r ≤ length (now (s .entry))) ⌝ }
 {
     let mut i = at;
     while i < s.len() {
-        if s[i] == b'=' {
+        if s[i] == byte {
             return i;
         }
         i += 1;
@@ -131,7 +131,7 @@ fn line_at(s: &[u8], at: usize) -> Place
     requires { ⌜ at ≤ length (now s) ⌝ }
     ensures { λ r. ⌜ r ≡ placeOf at (lineOf (drop at (now (s .entry)))) ⌝ }
 {
-    let equals = equals_from(s, at);
+    let equals = byte_from(s, at, b'=');
     if begins_at(s, equals, b"=present\n") {
         return Place::Line {
             equals,

@@ -5,7 +5,7 @@ use mathlib.Core.List.{map}
 use Rattle.buffer.specs.Bytes.{Bytes}
 use Rattle.word.specs.Number.{small}
 use Rattle.card.specs.Name.{letterOrDigit, reserved, isName, before}
-use Rattle.card.specs.Card.{text, goodFrom, upToEquals, lineWith, linesAt, frontLines, wellFormed, say, valueIn}
+use Rattle.card.specs.Card.{text, goodFrom, upTo, lineWith, linesAt, frontLines, wellFormed, say, valueIn}
 use Rattle.query.specs.Grammar.{words, after, nameAt, listAt, readingOf}
 use Rattle.query.specs.Value.{valueOf}
 use Rattle.query.specs.Examples.{Valued, values}
@@ -20,7 +20,7 @@ answers slice query answer sm e log waiting date dsize psize entry scores page p
     search-of-written-later log waiting date slice dsize psize entry scores page query sm p done past qs b ∙ e
 
 pub donor-answers : Donor
-unfolding letterOrDigit reserved isName before text goodFrom upToEquals lineWith linesAt frontLines wellFormed say valueIn words after nameAt listAt readingOf valueOf judged
+unfolding letterOrDigit reserved isName before text goodFrom upTo lineWith linesAt frontLines wellFormed say valueIn words after nameAt listAt readingOf valueOf judged
 donor-answers = record {
   present = answers _ _ _ refl refl;
   absent = answers _ _ _ refl refl;
@@ -31,12 +31,12 @@ donor-answers = record {
 }
 
 pub values-of-written : ValuesOfWritten
-unfolding letterOrDigit reserved isName before text goodFrom upToEquals lineWith linesAt frontLines wellFormed say valueIn words after nameAt listAt readingOf valueOf judged
+unfolding letterOrDigit reserved isName before text goodFrom upTo lineWith linesAt frontLines wellFormed say valueIn words after nameAt listAt readingOf valueOf judged
 values-of-written log waiting date dsize psize entry scores page p done =
     (λ i. map (λ (e : Valued). search-of-written log waiting date _ dsize psize entry scores page (e .text) refl p done i) values)
 
 pub border : Border
-unfolding counted letterOrDigit reserved isName before text goodFrom upToEquals lineWith linesAt frontLines wellFormed say valueIn words after nameAt listAt readingOf valueOf judged
+unfolding counted letterOrDigit reserved isName before text goodFrom upTo lineWith linesAt frontLines wellFormed say valueIn words after nameAt listAt readingOf valueOf judged
 border = record {
   sizes = (refl, refl, refl);
   first = answers _ _ _ refl refl;

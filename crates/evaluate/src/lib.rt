@@ -2,10 +2,8 @@
 use kleene::Value;
 use refusal::Refusal;
 ghost use mathlib.Core.Path.{_≡_};
-ghost use Prim.Native.Nat.{_+_, _≤_};
-ghost use lib.ListN.{length, drop};
 ghost use Rattle.kleene.specs.Kleene.{andOf, orOf};
-ghost use Rattle.query.specs.Place.{firstWord, wordsFrom, nextIs};
+ghost use Rattle.query.specs.Place.{wordsFrom, nextIs};
 ghost use Rattle.evaluate.specs.Read.{joinedBy, negatedOf, closedOf, OfList, OfChoice, OfTerm, OfName};
 ghost use Rattle.evaluate.specs.Evaluate.{evaluateOf};
 
@@ -21,21 +19,6 @@ pub enum Answer {
     Refused(Refusal),
 }
 
-// Where the word ends that starts at a place.
-fn word_end(text: &[u8], at: usize) -> usize
-    requires { ⌜ at ≤ length (now text) ⌝ }
-    ensures { λ r. ⌜ (r ≡ at + length (firstWord (drop at (now (text .entry))))) × (r ≤ length (now (text .entry))) ⌝ }
-{
-    let mut i = at;
-    while i < text.len() {
-        if text[i] == b' ' {
-            return i;
-        }
-        i += 1;
-    }
-    i
-}
-
 // Whether a word starts at a place, and is a given one.
 fn next_is(text: &[u8], at: usize, word: &[u8]) -> bool
     ensures { λ r. ⌜ r ≡ nextIs (now (word .entry)) (wordsFrom (now (text .entry)) at) ⌝ }
@@ -43,7 +26,7 @@ fn next_is(text: &[u8], at: usize, word: &[u8]) -> bool
     if text.len() < at {
         return false;
     }
-    let end = word_end(text, at);
+    let end = card::byte_from(text, at, b' ');
     buffer::equal(&text[at..end], word)
 }
 
@@ -109,7 +92,7 @@ fn read_name(card: &[u8], text: &[u8], at: usize) -> Read
     if text.len() < at {
         return Read::Ill;
     }
-    let end = word_end(text, at);
+    let end = card::byte_from(text, at, b' ');
     if !card::is_name(&text[at..end]) {
         return Read::Ill;
     }

@@ -2,37 +2,24 @@
 use mathlib.Core.Path.{_≡_, refl, sym, ap, _∙_}
 use mathlib.Core.Bool.{Bool, true, false, cond, false≢true}
 use mathlib.Core.List.{List, [], _∷_}
-use Prim.Native.Nat.{ℕ, zero, suc, _+_, _-_, _≤_, _<_}
+use Prim.Native.Nat.{ℕ, suc, _+_, _-_, _≤_, _<_}
 use native.Mathlib.Omega.{arith}
-use native.Mathlib.Numerals.{add-one}
 use lib.Dec.{eqb, leb}
-use borrow.Author.Tests.{eq-eqb, ne-eqb, eqb-true, le-leb, lt-leb, leb-true, leb-false}
-use lib.ListN.{length, getD, take, drop, drop-of-length-le, length-drop}
-use lib.Seq.{drop-cons, drop-drop}
+use borrow.Author.Tests.{le-leb, lt-leb, leb-true, leb-false}
+use lib.ListN.{length, take, drop, length-drop}
+use lib.Seq.{drop-drop}
 use Rattle.ground.proofs.Choices.{cond-ind}
 use Rattle.buffer.specs.Bytes.{Bytes, same}
 use Rattle.buffer.proofs.Bytes.{same-true}
+use Rattle.card.specs.Card.{upTo}
 use Rattle.query.specs.Grammar.{onto, words}
 use Rattle.query.proofs.Front.{NotNext}
 use Rattle.query.specs.Place.{firstWord, wordsFrom, nextIs}
 
 -- ---- where a word ends
 
-module _ (s : Bytes) (i : ℕ) where
-  pub space-here : i < length s → getD s i 0 ≡ 0x20 → length (firstWord (drop i s)) ≡ 0
-  unfolding firstWord
-  space-here h e = rw (drop-cons s i 0, eq-eqb (getD s i 0) 0x20 e)
-
-  pub space-on : i < length s → (getD s i 0 ≡ 0x20 → ⊥) → length (firstWord (drop i s)) ≡ suc (length (firstWord (drop (i + 1) s)))
-  unfolding firstWord
-  space-on h n = rw (drop-cons s i 0, add-one, ne-eqb (getD s i 0) 0x20 n)
-
-  pub space-none : length s ≤ i → length (firstWord (drop i s)) ≡ 0
-  unfolding firstWord
-  space-none h = rw (drop-of-length-le s h)
-
 first-at-front : (s : Bytes) → take (length (firstWord s)) s ≡ firstWord s
-unfolding firstWord
+unfolding upTo
 first-at-front [] = refl
 first-at-front (b ∷ s) = go (eqb b 0x20) (first-at-front s)
   where
@@ -80,7 +67,7 @@ from-drop s at n h =
     go false q = rw (lt-leb n (length s - at) (omega (arith, leb-false (at + n) (length s) q)))
 
 words-first : (s : Bytes) → words s ≡ firstWord s ∷ wordsFrom s (length (firstWord s) + 1)
-unfolding words firstWord
+unfolding words upTo
 words-first [] = ap (λ (x : List Bytes). [] ∷ x) (sym (from-outside [] 1 (omega arith)))
 words-first (b ∷ s) = go (eqb b 0x20) (words-first s)
   where
@@ -100,7 +87,7 @@ from-inside s at h =
     ∙ ap (λ (x : List Bytes). firstWord (drop at s) ∷ x) (from-drop s at (length (firstWord (drop at s)) + 1) h ∙ ap (wordsFrom s) z))
 
 first-length : (s : Bytes) → length (firstWord s) ≤ length s
-unfolding firstWord
+unfolding upTo
 first-length [] = omega arith
 first-length (b ∷ s) = cond-ind (λ x. length x ≤ suc (length s)) (eqb b 0x20) [] (b ∷ firstWord s) (λ _. omega arith) (λ _. omega (arith, first-length s))
 

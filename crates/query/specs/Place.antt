@@ -2,15 +2,15 @@
 use mathlib.Core.Bool.{Bool, false, cond}
 use mathlib.Core.List.{List, [], _∷_}
 use Prim.Native.Nat.{ℕ}
-use lib.Dec.{eqb, leb}
+use lib.Dec.{leb}
 use lib.ListN.{length, drop}
 use Rattle.buffer.specs.Bytes.{Bytes, same}
+use Rattle.card.specs.Card.{upTo}
 use Rattle.query.specs.Grammar.{words}
 
 -- the bytes before the first space
-unfoldable pub firstWord : Bytes → Bytes
-firstWord [] = []
-firstWord (b ∷ s) = cond (eqb b 0x20) [] (b ∷ firstWord s)
+abbrev pub firstWord : Bytes → Bytes
+firstWord s = upTo 0x20 s
 
 -- the words from a place on: at the end of the text there is one, the empty word, and behind it none
 unfoldable pub wordsFrom : Bytes → ℕ → List Bytes

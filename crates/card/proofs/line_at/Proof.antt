@@ -4,8 +4,8 @@ use borrow.Author.Needs.{needs}
 use Rattle.card.proofs.line_at.Statement.{statement}
 use Rattle.card.proofs.line_at.Tie as tie
 
-equals-from-requires : tie.Need-equals-from-requires
-equals-from-requires c κs = search needs
+byte-from-requires : tie.Need-byte-from-requires
+byte-from-requires c κs = search needs
 
 slice-aggregate-begins-at : tie.Need-slice-aggregate-begins-at
 slice-aggregate-begins-at c = search needs
@@ -17,7 +17,7 @@ add-t9 : tie.Need-add-t9
 add-t9 c = search needs
 
 returns : tie.Need-returns
-returns c = place-present _ _ _ (c .before .before .before .equals-from .ensures .0) _ (c .before .begins-at .ensures) (c .if1 .taken)
+returns c = place-present _ _ _ (c .before .before .before .byte-from .ensures .0) _ (c .before .begins-at .ensures) (c .if1 .taken)
 
 slice-aggregate-begins-at-2 : tie.Need-slice-aggregate-begins-at-2
 slice-aggregate-begins-at-2 c = search needs
@@ -30,23 +30,23 @@ add-t13 c = search needs
 
 returns-2 : tie.Need-returns-2
 returns-2 c =
-    let equals-from = c .before .before .before .before .before .before .equals-from in
+    let byte-from = c .before .before .before .before .before .before .byte-from in
     let begins-at = c .before .before .before .before .begins-at in
     let if1 = c .before .before .before .if1 in
-    place-absent _ _ _ (equals-from .ensures .0) _ (begins-at .ensures) (if1 .left) _ (c .before .begins-at2 .ensures) (c .if2 .taken)
+    place-absent _ _ _ (byte-from .ensures .0) _ (begins-at .ensures) (if1 .left) _ (c .before .begins-at2 .ensures) (c .if2 .taken)
 
 returns-3 : tie.Need-returns-3
 returns-3 c =
-    let equals-from = c .before .before .before .before .before .before .equals-from in
+    let byte-from = c .before .before .before .before .before .before .byte-from in
     let begins-at = c .before .before .before .before .begins-at in
     let if1 = c .before .before .before .if1 in
-    place-nothing _ _ _ (equals-from .ensures .0) _ (begins-at .ensures) (if1 .left) _ (c .before .begins-at2 .ensures) (c .if2 .left)
+    place-nothing _ _ _ (byte-from .ensures .0) _ (begins-at .ensures) (if1 .left) _ (c .before .begins-at2 .ensures) (c .if2 .left)
 
 pub line-at-spec : {M : Type 1} → statement M
 line-at-spec =
     tie.close
     (tie.spec
-    equals-from-requires
+    byte-from-requires
     slice-aggregate-begins-at
     begins-at-requires
     add-t9

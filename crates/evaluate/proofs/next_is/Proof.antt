@@ -8,8 +8,8 @@ use Rattle.evaluate.proofs.next_is.Tie as tie
 returns : tie.Need-returns
 returns c = let a = c .before .before .before .args in no-word (a .text .now) (a .at) (a .word .now) (c .if1 .taken)
 
-word-end-requires : tie.Need-word-end-requires
-word-end-requires c κs = search needs
+byte-from-requires : tie.Need-byte-from-requires
+byte-from-requires c κs = search needs
 
 sub-equal : tie.Need-sub-equal
 sub-equal c = search needs
@@ -26,14 +26,14 @@ equal-requires c κs = search needs
 returns-2 : tie.Need-returns-2
 returns-2 c =
     let a = c .before .before .before .before .before .before .args in
-    word-is (a .text .now) (a .at) (a .word .now) (omega arith) (c .before .before .word-end .ensures .0) (c .equal .ensures)
+    word-is (a .text .now) (a .at) (a .word .now) (omega arith) (c .before .before .byte-from .ensures .0) (c .equal .ensures)
 
 pub next-is-spec : {M : Type 1} → statement M
 next-is-spec =
     tie.close
     (tie.spec
     returns
-    word-end-requires
+    byte-from-requires
     sub-equal
     part-equal-start
     part-equal-end

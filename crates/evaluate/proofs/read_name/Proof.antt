@@ -9,8 +9,8 @@ use Rattle.evaluate.proofs.read_name.Tie as tie
 returns : tie.Need-returns
 returns c = let a = c .before .before .before .args in no-word-left (a .card .now) (a .text .now) (a .at) (c .if1 .taken)
 
-word-end-requires : tie.Need-word-end-requires
-word-end-requires c κs = search needs
+byte-from-requires : tie.Need-byte-from-requires
+byte-from-requires c κs = search needs
 
 sub-is-name : tie.Need-sub-is-name
 sub-is-name c = search needs
@@ -27,7 +27,7 @@ is-name-requires c κs = search needs
 returns-2 : tie.Need-returns-2
 returns-2 c =
     let a = c .before .before .before .before .before .before .before .args in
-    not-a-name (a .card .now) (a .text .now) (a .at) (omega arith) (c .before .before .before .word-end .ensures .0) (c .before .is-name .ensures) (not-true _ (c .if2 .taken))
+    not-a-name (a .card .now) (a .text .now) (a .at) (omega arith) (c .before .before .before .byte-from .ensures .0) (c .before .is-name .ensures) (not-true _ (c .if2 .taken))
 
 sub-value-in : tie.Need-sub-value-in
 sub-value-in c = search needs
@@ -48,14 +48,14 @@ returns-3 : tie.Need-returns-3
 returns-3 c =
     let k = c .before .before in
     let a = k .before .before .before .before .before .before .before .args in
-    is-a-name (a .card .now) (a .text .now) (a .at) (omega arith) (k .before .before .before .word-end .ensures .0) (k .before .is-name .ensures) (not-false _ (k .if2 .left)) (c .value-in .ensures)
+    is-a-name (a .card .now) (a .text .now) (a .at) (omega arith) (k .before .before .before .byte-from .ensures .0) (k .before .is-name .ensures) (not-false _ (k .if2 .left)) (c .value-in .ensures)
 
 pub read-name-spec : {M : Type 1} → statement M
 read-name-spec =
     tie.close
     (tie.spec
     returns
-    word-end-requires
+    byte-from-requires
     sub-is-name
     part-is-name-start
     part-is-name-end
