@@ -72,7 +72,7 @@ pub fn same_bytes<'a>(
             data.len() - done,
         );
         let next = done + piece.len();
-        if !buffer::equal(piece, &data[done..next]) {
+        if !buffer::agree(piece, &data[done..next]) {
             return false;
         }
         done = next;

@@ -25,16 +25,16 @@ pub fn equal(a: &[u8], b: &[u8]) -> bool
 pub fn agree(a: &[u8], b: &[u8]) -> bool
     ensures { λ r. ⌜ r ≡ same (now (a .entry)) (now (b .entry)) ⌝ }
 {
-    if a.len() != b.len() {
+    if b.len() != a.len() {
         return false;
     }
-    let mut seen: u8 = 0;
+    let mut differ: u8 = 0;
     let mut i: usize = 0;
     while i < a.len() {
-        seen = seen | (a[i] ^ b[i]);
+        differ = differ | (a[i] ^ b[i]);
         i += 1;
     }
-    seen == 0
+    differ == 0
 }
 
 // Whether all bytes are zeros. No way out before the end: the compiler makes vector code of it.

@@ -70,7 +70,7 @@ pub fn has_label(s: &[u8], front: &[u8], l: Label, score: &[u8]) -> bool
     let mut expected = [0u8; LABEL];
     write_label(&mut expected, l, score);
     let end = from + LABEL;
-    buffer::equal(&s[from..end], &expected)
+    buffer::agree(&s[from..end], &expected)
 }
 
 // Whether the last 13 bytes of a sector are exactly the line of its check.

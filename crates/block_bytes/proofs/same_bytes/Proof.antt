@@ -54,22 +54,22 @@ add-next c =
     let l = c .before .before .loop in
     omega (arith, piece-length (a .b .label) (q .1 .1) log (l .n) (length (a .«data» .now)) (l .done) (c .before .loop-test .taken) _ (c .piece-at .ensures))
 
-sub-equal : tie.Need-sub-equal Inv-loop μ-loop
-sub-equal c = search needs
+sub-agree : tie.Need-sub-agree Inv-loop μ-loop
+sub-agree c = search needs
 
-part-equal-start : tie.Need-part-equal-start Inv-loop μ-loop
-part-equal-start c = search needs
+part-agree-start : tie.Need-part-agree-start Inv-loop μ-loop
+part-agree-start c = search needs
 
-part-equal-end : tie.Need-part-equal-end Inv-loop μ-loop
-part-equal-end c =
+part-agree-end : tie.Need-part-agree-end Inv-loop μ-loop
+part-agree-end c =
     let a = c .before .before .before .before .before .before .args in
     let q = c .before .before .before .before .before .before .pre in
     let log = joined (a .end .0) (a .log .now) (a .waiting .now) in
     let l = c .before .before .loop in
     omega (arith, piece-length (a .b .label) (q .1 .1) log (l .n) (length (a .«data» .now)) (l .done) (c .before .loop-test .taken) _ (c .piece-at .ensures))
 
-equal-requires : tie.Need-equal-requires Inv-loop μ-loop
-equal-requires c κs = search needs
+agree-requires : tie.Need-agree-requires Inv-loop μ-loop
+agree-requires c κs = search needs
 
 returns : tie.Need-returns Inv-loop μ-loop
 returns c =
@@ -85,7 +85,7 @@ returns c =
     let p = piece-at .result .now in
     let k = piece-length (a .b .label) (q .1 .1) log (l .n) (length x) (l .done) t p e in
     let g = piece-next (a .b .label) (q .1 .1) log (l .n) (length x) (l .done) t p e in
-    sym (same-stop _ p _ x (l .done) (omega (arith, k)) g (sym (c .before .equal .ensures) ∙ not-true _ (c .if1 .taken))) ∙ l .inv .2
+    sym (same-stop _ p _ x (l .done) (omega (arith, k)) g (sym (c .before .agree .ensures) ∙ not-true _ (c .if1 .taken))) ∙ l .inv .2
 
 add-n : tie.Need-add-n Inv-loop μ-loop
 add-n c =
@@ -120,7 +120,7 @@ loop-again c =
     let g = piece-next (a .b .label) (q .1 .1) log (l .n) (length x) (l .done) t p e in (
       omega (arith, k),
       piece-room (a .b .label) (q .1 .1) log (l .n) (length x) (l .done) t p e _ (l .inv .1),
-      same-turn _ p _ x (l .done) (omega (arith, k)) g (sym (c .before .equal .ensures) ∙ not-false _ (c .if1 .left)) ∙ l .inv .2,
+      same-turn _ p _ x (l .done) (omega (arith, k)) g (sym (c .before .agree .ensures) ∙ not-false _ (c .if1 .left)) ∙ l .inv .2,
     )
 
 returns-2 : tie.Need-returns-2 Inv-loop μ-loop
@@ -134,5 +134,5 @@ returns-2 c =
     sym (same-none _ x (l .done) (test .left) (piece-none (a .b .label) log (l .n) (length x) (l .done) (test .left))) ∙ l .inv .2
 
 pub same-bytes-spec : {M : Type 1} → statement M
-same-bytes-spec = tie.close (tie.spec Inv-loop μ-loop loop-holds sub-piece-at piece-at-requires add-next sub-equal part-equal-start part-equal-end equal-requires returns add-n loop-less loop-again
+same-bytes-spec = tie.close (tie.spec Inv-loop μ-loop loop-holds sub-piece-at piece-at-requires add-next sub-agree part-agree-start part-agree-end agree-requires returns add-n loop-less loop-again
     returns-2)

@@ -49,24 +49,24 @@ add-end : tie.Need-add-end
 add-end c = search needs
 
 -- src/lib.rt:130:19
-sub-equal : tie.Need-sub-equal
-sub-equal c = search needs
+sub-agree : tie.Need-sub-agree
+sub-agree c = search needs
 
 -- src/lib.rt:130:19
-part-equal-start : tie.Need-part-equal-start
-part-equal-start c = search needs
+part-agree-start : tie.Need-part-agree-start
+part-agree-start c = search needs
 
 -- src/lib.rt:130:19
-part-equal-end : tie.Need-part-equal-end
-part-equal-end c = search needs
+part-agree-end : tie.Need-part-agree-end
+part-agree-end c = search needs
 
 -- src/lib.rt:130:34
-slice-aggregate-equal-2 : tie.Need-slice-aggregate-equal-2
-slice-aggregate-equal-2 c = search needs
+slice-aggregate-agree : tie.Need-slice-aggregate-agree
+slice-aggregate-agree c = search needs
 
 -- src/lib.rt:130:5
-equal-requires-2 : tie.Need-equal-requires-2
-equal-requires-2 c κs = search needs
+agree-requires : tie.Need-agree-requires
+agree-requires c κs = search needs
 
 -- src/lib.rt:119:1
 returns-2 : tie.Need-returns-2
@@ -76,7 +76,7 @@ returns-2 c = let a = c .before .before .before .before .before .before .before 
     let given = c .before .before .before .before .before .before .before .before .before .before .before .before .pre in
     let write-label = c .before .before .before .before .write-label in
     label-alike (a .s .now) (a .front .now) (labelOf (a .l) (a .score .now)) 96 _ _ (length-label (a .l) (a .score .now) (given .1)) (given .0) (equal .ensures) (not-false _ (if1 .left))
-    ((c .equal2 .ensures) ∙ ap (same (take (length (a .front .now) + 96 - length (a .front .now)) (drop (length (a .front .now)) (a .s .now))))
+    ((c .agree .ensures) ∙ ap (same (take (length (a .front .now) + 96 - length (a .front .now)) (drop (length (a .front .now)) (a .s .now))))
     ((write-label .ensures) ∙ put-whole _ (labelOf (a .l) (a .score .now)) (length-label (a .l) (a .score .now) (given .1))))
 
 pub has-label-spec : {M : Type 1} → statement M
@@ -89,9 +89,9 @@ has-label-spec =
     slice-aggregate-write-label
     write-label-requires
     add-end
-    sub-equal
-    part-equal-start
-    part-equal-end
-    slice-aggregate-equal-2
-    equal-requires-2
+    sub-agree
+    part-agree-start
+    part-agree-end
+    slice-aggregate-agree
+    agree-requires
     returns-2)
