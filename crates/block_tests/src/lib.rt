@@ -59,10 +59,13 @@ pub fn checks_fit<'a>(
     requires { ⌜ (end .0 ≤ sectors (length (now log))) × (first .0 + count ≤ end .0 + sectors (length (now waiting))) ⌝ }
     ensures { λ r. ⌜ r ≡ checked (joined (end .0) (now (log .entry)) (now (waiting .entry))) count (first .0) ⌝ }
 {
+    let low = crc32_tables::digits::low();
+    let high = crc32_tables::digits::high();
     let mut n = first.0;
     let last = n + count;
     while n < last {
-        if !sector_lines::has_check(two_runs::sector_at(log, end, waiting, SectorNumber(n))) {
+        let s = two_runs::sector_at(log, end, waiting, SectorNumber(n));
+        if !sector_lines::has_check(&low, &high, s) {
             return false;
         }
         n += 1;

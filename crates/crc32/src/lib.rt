@@ -1,4 +1,4 @@
-// CRC-32 of IEEE 802.3, sixteen bytes at once, and what is left eight at once and one by one.
+// CRC-32 of IEEE 802.3: sixteen bytes at once, what is left eight at once and one by one; a short string one by one, by the table of bytes.
 ghost use mathlib.Core.Path.{_≡_};
 ghost use Prim.Native.Nat.{_%_};
 ghost use lib.ListN.{length};
@@ -33,6 +33,20 @@ fn eights(high: &[u32; 256], c: u32, s: &[u8]) -> u32
     r
 }
 
+// The register after the bytes s, from the register c, one by one, by their digits.
+fn singles(high: &[u32; 256], c: u32, s: &[u8]) -> u32
+    requires { ⌜ now high ≡ rows 0 16 ⌝ }
+    ensures { λ r. ⌜ r ≡ feed c (now (s .entry)) ⌝ }
+{
+    let mut r = c;
+    let mut i = 0;
+    while i < s.len() {
+        r = crc32_steps::next_by_digits(high, r, s[i]);
+        i += 1;
+    }
+    r
+}
+
 // The register after the bytes s, from the register c: whole eights, and what is left one by one.
 fn rest(high: &[u32; 256], c: u32, s: &[u8]) -> u32
     requires { ⌜ now high ≡ rows 0 16 ⌝ }
@@ -40,35 +54,45 @@ fn rest(high: &[u32; 256], c: u32, s: &[u8]) -> u32
 {
     let whole = s.len() / 8 * 8;
     let r = eights(high, c, &s[..whole]);
-    update(r, &s[whole..])
+    singles(high, r, &s[whole..])
 }
 
 // The register after the bytes s, from the register c, sixteen at a time.
-fn sixteens(high: &[u32; 256], c: u32, s: &[u8]) -> u32
-    requires { ⌜ (now high ≡ rows 0 16) × (length (now s) % 16 ≡ 0) ⌝ }
+fn sixteens(low: &[u32; 256], high: &[u32; 256], c: u32, s: &[u8]) -> u32
+    requires { ⌜ (now low ≡ rows 64 16) × (now high ≡ rows 0 16) × (length (now s) % 16 ≡ 0) ⌝ }
     ensures { λ r. ⌜ r ≡ feed c (now (s .entry)) ⌝ }
 {
-    let low = crc32_tables::digits::low();
     let mut r = c;
     let mut i = 0;
     while i < s.len() {
         let first = crc32_steps::number(s, i);
         let last = crc32_steps::number(s, i + 8);
-        r = crc32_steps::sixteen(&low, high, r, first, last);
+        r = crc32_steps::sixteen(low, high, r, first, last);
         i += 16;
     }
     r
 }
 
-// The CRC-32 of s. Below 128 bytes a second table of digits costs more than it gains.
+// The CRC-32 of s by the tables of digits, which are lent: whoever has many strings makes them once.
+pub fn by_digits(low: &[u32; 256], high: &[u32; 256], s: &[u8]) -> u32
+    requires { ⌜ (now low ≡ rows 64 16) × (now high ≡ rows 0 16) ⌝ }
+    ensures { λ r. ⌜ r ≡ crc32Of (now (s .entry)) ⌝ }
+{
+    let whole = s.len() / 16 * 16;
+    let r = sixteens(low, high, 0xffff_ffff, &s[..whole]);
+    rest(high, r, &s[whole..]) ^ 0xffff_ffff
+}
+
+// The CRC-32 of s. Below 128 bytes two tables of digits cost more than they gain.
 pub fn crc32(s: &[u8]) -> u32
     ensures { λ r. ⌜ r ≡ crc32Of (now (s .entry)) ⌝ }
 {
-    let high = crc32_tables::digits::high();
     if s.len() < 128 {
-        return rest(&high, 0xffff_ffff, s) ^ 0xffff_ffff;
+        return update(0xffff_ffff, s) ^ 0xffff_ffff;
     }
-    let whole = s.len() / 16 * 16;
-    let r = sixteens(&high, 0xffff_ffff, &s[..whole]);
-    rest(&high, r, &s[whole..]) ^ 0xffff_ffff
+    by_digits(
+        &crc32_tables::digits::low(),
+        &crc32_tables::digits::high(),
+        s,
+    )
 }

@@ -10,7 +10,7 @@ use lib.Pow.{split, shr-shr}
 use lib.Dec.{lit<}
 use lib.ListN.{length, getD, take, drop}
 use lib.Seq.{drop-cons}
-use Rattle.crc32_rule.specs.Crc32.{bits}
+use Rattle.crc32_rule.specs.Crc32.{bits, byte}
 use Rattle.crc32_rule.specs.Burst.{pack}
 use Rattle.crc32_tables.specs.Digits.{rows}
 use Rattle.crc32_rule.proofs.Xor.{xor-assoc}
@@ -55,6 +55,21 @@ digit-beside t b v i c r a e h u q p =
     (ap₂ (λ (w : List ℕ) (k : ℕ). getD w k 0) e q
     ∙ rows-at b 16 j d (omega arith) (mod-lt (v / 2 ^ (4 * j)) (lit< tt))
     ∙ ap (λ (k : ℕ). bits k d) n))
+
+-- a byte by its two digits: what stands above them is only shifted
+pub by-digits : (t : List ℕ) (c b : ℕ) → t ≡ rows 0 16
+    → bitXor (bitXor c b / 256) (bitXor (getD t (240 + bitXor c b / 16 % 16) 0) (getD t (224 + bitXor c b % 16) 0)) ≡ byte c b
+unfolding byte bits
+by-digits t c b e =
+    let x = bitXor c b in
+    let high : getD t (240 + x / 16 % 16) 0 ≡ bits 4 (x / 16 % 16) =
+    ap (λ (w : List ℕ). getD w (240 + x / 16 % 16) 0) e ∙ rows-at 0 16 15 (x / 16 % 16) (lit< tt) (mod-lt (x / 16) (lit< tt)) in
+    let low : getD t (224 + x % 16) 0 ≡ bits 8 (x % 16) = ap (λ (w : List ℕ). getD w (224 + x % 16) 0) e ∙ rows-at 0 16 14 (x % 16) (lit< tt) (mod-lt x (lit< tt)) in
+    let above : x / 256 ≡ x / 16 / 16 = omega arith in
+    ap₂ bitXor above (ap₂ bitXor high low)
+    ∙ sym (xor-assoc (x / 16 / 16) (bits 4 (x / 16 % 16)) (bits 8 (x % 16)))
+    ∙ ap (λ (y : ℕ). bitXor y (bits 8 (x % 16))) (sym (digit 0 (x / 16)))
+    ∙ sym (digit 4 x)
 
 -- before the first digit there is nothing beside it
 pub none-beside : (n v c : ℕ) → v < 2 ^ 64 → c ≡ bitXor c (bits n (v / 2 ^ 64))

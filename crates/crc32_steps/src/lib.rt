@@ -17,6 +17,15 @@ pub fn next(t: &[u32; 256], c: u32, b: u8) -> u32
     (x >> 8) ^ t[(x & 255) as usize]
 }
 
+// The same by the two rows of `high` that are of the last byte's digits.
+pub fn next_by_digits(high: &[u32; 256], c: u32, b: u8) -> u32
+    requires { ⌜ now high ≡ rows 0 16 ⌝ }
+    ensures { λ r. ⌜ r ≡ byte c b ⌝ }
+{
+    let x = c ^ (b as u32);
+    (x >> 8) ^ (high[240 + ((x >> 4) % 16) as usize] ^ high[224 + (x % 16) as usize])
+}
+
 // The number of the four bytes from i on, the first one the lowest.
 fn half(s: &[u8], i: usize) -> u32
     requires { ⌜ i + 4 ≤ length (now s) ⌝ }

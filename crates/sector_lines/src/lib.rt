@@ -8,6 +8,7 @@ ghost use Prim.Native.Nat.{_+_, _≤_};
 ghost use lib.ListN.{length, take, drop};
 ghost use Rattle.buffer.specs.Bytes.{same, put};
 ghost use Rattle.word.specs.Hex.{hex, hexBytes};
+ghost use Rattle.crc32_tables.specs.Digits.{rows};
 ghost use Rattle.sector.specs.Sector.{line, dateName, scoreName, labelOf, fits, encode, sectorLength, bodyLength, linesLength, frontLength};
 
 // Writes the line of a date.
@@ -73,12 +74,12 @@ pub fn has_label(s: &[u8], front: &[u8], l: Label, score: &[u8]) -> bool
     buffer::agree(&s[from..end], &expected)
 }
 
-// Whether the last 13 bytes of a sector are exactly the line of its check.
-pub fn has_check(s: &[u8]) -> bool
-    requires { ⌜ length (now s) ≡ sectorLength ⌝ }
+// Whether the last 13 bytes of a sector are exactly the line of its check, by the check's tables, which are lent.
+pub fn has_check(low: &[u32; 256], high: &[u32; 256], s: &[u8]) -> bool
+    requires { ⌜ (now low ≡ rows 64 16) × (now high ≡ rows 0 16) × (length (now s) ≡ sectorLength) ⌝ }
     ensures { λ r. ⌜ r ≡ fits (now (s .entry)) ⌝ }
 {
-    let crc = crc32::crc32(&s[..BODY]);
+    let crc = crc32::by_digits(low, high, &s[..BODY]);
     let mut expected = [0u8; 13];
     write_line(&mut expected, 0, b"crc=", 8, crc as usize);
     buffer::equal(&s[BODY..], &expected)

@@ -16,22 +16,22 @@ slice-aggregate-eights c = simp length-take (omega arith)
 eights-requires : tie.Need-eights-requires
 eights-requires c κs = (search needs, simp length-take (omega arith))
 
-sub-update : tie.Need-sub-update
-sub-update c = search needs
+sub-singles : tie.Need-sub-singles
+sub-singles c = search needs
 
-part-update-start : tie.Need-part-update-start
-part-update-start c = search needs
+part-singles-start : tie.Need-part-singles-start
+part-singles-start c = search needs
 
-part-update-end : tie.Need-part-update-end
-part-update-end c = search needs
+part-singles-end : tie.Need-part-singles-end
+part-singles-end c = search needs
 
-update-requires : tie.Need-update-requires
-update-requires c κs = search needs
+singles-requires : tie.Need-singles-requires
+singles-requires c κs = search needs
 
 returns : tie.Need-returns
 returns c =
     let s = c .before .before .before .before .before .args .s .now in
-    in-two s (length s / 8 * 8) _ _ _ (omega arith) (c .before .before .eights .ensures) (c .update .ensures)
+    in-two s (length s / 8 * 8) _ _ _ (omega arith) (c .before .before .eights .ensures) (c .singles .ensures)
 
 pub rest-spec : {M : Type 1} → statement M
 rest-spec =
@@ -40,8 +40,8 @@ rest-spec =
     mul-whole
     slice-aggregate-eights
     eights-requires
-    sub-update
-    part-update-start
-    part-update-end
-    update-requires
+    sub-singles
+    part-singles-start
+    part-singles-end
+    singles-requires
     returns)

@@ -11,13 +11,10 @@ use Rattle.crc32.proofs.sixteens.Statement.{statement}
 use Rattle.crc32.proofs.sixteens.Tie as tie
 
 abbrev Inv-loop : tie.InvT-loop
-Inv-loop high c s low r₀ i₀ r i = (i ≤ length s) × ((length s - i) % 16 ≡ 0) × (feed r (drop i s) ≡ feed c s)
+Inv-loop low high c s r₀ i₀ r i = (i ≤ length s) × ((length s - i) % 16 ≡ 0) × (feed r (drop i s) ≡ feed c s)
 
 abbrev μ-loop : tie.MeasureT-loop
-μ-loop high c s low r₀ i₀ r i = length s - i
-
-low-requires : tie.Need-low-requires Inv-loop μ-loop
-low-requires c κs = search needs
+μ-loop low high c s r₀ i₀ r i = length s - i
 
 loop-holds : tie.Need-loop-holds Inv-loop μ-loop
 loop-holds c = (omega arith, omega arith, refl)
@@ -42,12 +39,12 @@ loop-less c = search needs
 
 loop-again : tie.Need-loop-again Inv-loop μ-loop
 loop-again c =
-    let l = c .before .before .before .before .before .loop in
-    let a = c .before .before .before .before .before .before .before .before .args in
-    let known = c .before .before .before .before .before .before .before .shared-slice-known .given in (
+    let l = c .before .before .before .before .loop in
+    let a = c .before .before .before .before .before .before .args in
+    let known = c .before .before .before .before .before .shared-slice-known .given in (
       omega arith,
       omega arith,
-      sixteen-more (a .s .now) (l .i) (l .r) _ _ _ _ (λ k. known k .fits) (omega arith) (c .before .before .before .number .ensures) (c .before .before .number2 .ensures)
+      sixteen-more (a .s .now) (l .i) (l .r) _ _ _ _ (λ k. known k .fits) (omega arith) (c .before .before .number .ensures) (c .before .number2 .ensures)
           (c .sixteen .ensures) (l .inv .2),
     )
 
@@ -62,7 +59,6 @@ sixteens-spec =
     (tie.spec
     Inv-loop
     μ-loop
-    low-requires
     loop-holds
     number-requires
     add-number

@@ -17,14 +17,13 @@ use Rattle.sector_lines.proofs.has_check.Tie as tie
 use Rattle.sector_lines.proofs.has_check.Reads as reads
 use Rattle.sector_lines.proofs.has_check.Lts as lts
 use Rattle.buffer.proofs.equal.Reads as equal-reads
-use Rattle.crc32.proofs.crc32.Reads as crc32-reads
 use Rattle.sector_lines.proofs.write_line.Reads as write-line-reads
 
-slice-aggregate-crc32 : tie.Need-slice-aggregate-crc32
-slice-aggregate-crc32 c = sym (length-take-le 499 ((c .before .before .args .s .now)) (omega arith))
+slice-aggregate-by-digits : tie.Need-slice-aggregate-by-digits
+slice-aggregate-by-digits c = sym (length-take-le 499 ((c .before .before .args .s .now)) (omega arith))
 
-crc32-requires : tie.Need-crc32-requires
-crc32-requires c κs = search needs
+by-digits-requires : tie.Need-by-digits-requires
+by-digits-requires c κs = search needs
 
 slice-aggregate-write-line : tie.Need-slice-aggregate-write-line
 slice-aggregate-write-line c = search needs
@@ -56,18 +55,18 @@ equal-requires c κs = search needs
 returns : tie.Need-returns
 unfolding fits check hex
 returns c = let a = c .before .before .before .before .before .before .before .before .before .before .args in
-    let crc32 = c .before .before .before .before .before .before .before .crc32 in
+    let crc = c .before .before .before .before .before .before .before .by-digits in
     let write-line = c .before .before .before .before .write-line in
     let s = (a .s .now) in
     let tail : take (length s - 499) (drop 499 s) ≡ drop 499 s = take-all (length s - 499) (drop 499 s) (omega (arith, length-drop 499 s)) in
-    (c .equal .ensures) ∙ ap₂ same tail ((write-line .ensures) ∙ put-whole (replicate 13 0) (line crcName (hex 8 (crc32 .result))) refl ∙ ap (λ (k : ℕ). line crcName (hex 8 k)) (crc32 .ensures))
+    (c .equal .ensures) ∙ ap₂ same tail ((write-line .ensures) ∙ put-whole (replicate 13 0) (line crcName (hex 8 (crc .result))) refl ∙ ap (λ (k : ℕ). line crcName (hex 8 k)) (crc .ensures))
 
 pub has-check-spec : {M : Type 1} → statement M
 has-check-spec =
     tie.close
     (tie.spec
-    slice-aggregate-crc32
-    crc32-requires
+    slice-aggregate-by-digits
+    by-digits-requires
     slice-aggregate-write-line
     slice-aggregate-write-line-2
     cast-write-line
