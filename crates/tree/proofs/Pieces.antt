@@ -85,6 +85,12 @@ module _ (log : Bytes) (b : Block) (short : b .label < 499) (p : ℕ) (e : p ≡
 abbrev pub Left : Bytes → ℕ → Bytes → Bytes → ℕ → Type 0
 Left b from d₀ d done = put d done (filled (length d₀ - done) (drop (from + done) b)) ≡ filled (length d₀) (drop from b)
 
+-- a piece p for place `done` of the buffer d: some bytes, which fit, and behind them is left what was
+pub record Piece (b : Bytes) (from : ℕ) (d₀ d p : Bytes) (done : ℕ) : Type 0 where
+  pub is-some : done < done + length p
+  pub fits : done + length p ≤ length d
+  pub behind : (d′ : Bytes) → d′ ≡ put d done p → Left b from d₀ d done → Left b from d₀ d′ (done + length p)
+
 module _ (b : Bytes) (from : ℕ) (d₀ : Bytes) where
   pub left-all : Left b from d₀ d₀ 0
   left-all =
@@ -147,12 +153,10 @@ module _ (b : Bytes) (from : ℕ) (d₀ : Bytes) where
     unfolding m
     long = length-piece d p done m (omega (arith, some-room .2)) e (omega (arith, some-room .1)) q
 
-    pub piece-some : done < done + length p
-    piece-some = omega (arith, long, some-room .0)
-
-    pub piece-fits : done + length p ≤ length d
-    piece-fits = omega (arith, long, some-room .2)
-
-    pub piece-left : (d′ : Bytes) → d′ ≡ put d done p → Left b from d₀ d done → Left b from d₀ d′ (done + length p)
+    pub piece : Piece b from d₀ d p done
     unfolding m
-    piece-left = left-piece d p done m (omega (arith, some-room .2)) e (omega (arith, some-room .1)) q
+    piece = record {
+      is-some = omega (arith, long, some-room .0);
+      fits = omega (arith, long, some-room .2);
+      behind = left-piece d p done m (omega (arith, some-room .2)) e (omega (arith, some-room .1)) q;
+    }

@@ -7,7 +7,7 @@ use Rattle.buffer.proofs.Put.{length-put}
 use Rattle.sector.specs.Sector.{payloadOf}
 use Rattle.block.specs.Log.{joined, bytesOf}
 use Rattle.reader.proofs.Pieces.{length-bytes}
-use Rattle.tree.proofs.Pieces.{Left, left-all, left-none, left-zeros, piece-some, piece-fits, piece-left}
+use Rattle.tree.proofs.Pieces.{Left, left-all, left-none, left-zeros, Piece, piece}
 use borrow.Author.Needs.{needs}
 use Rattle.tree.proofs.read_part.Statement.{statement}
 use Rattle.tree.proofs.read_part.Tie as tie
@@ -59,90 +59,44 @@ sub-piece-from c = search needs
 piece-from-requires : tie.Need-piece-from-requires Inv-loop μ-loop
 piece-from-requires c κs = search needs
 
-copy-at-requires : tie.Need-copy-at-requires Inv-loop μ-loop
-copy-at-requires c κs =
-    let a = c .before .before .before .before .before .before .before .before .before .args in
-    let l = c .before .before .before .before .before .loop in
-    let loop-test = c .before .before .before .before .loop-test in
-    let if1 = c .before .before .if1 in
-    let piece-from = c .before .piece-from in
-    let q = c .before .before .before .before .before .before .before .before .before .pre in
+-- the piece that was found, of the block's bytes
+found : (c : tie.After-piece-from Inv-loop μ-loop) → let a = c .before .before .before .before .before .before .before .before .args in
+    let l = c .before .before .before .before .loop in
+    Piece (bytesOf (joined (a .end .0) (a .log .now) (a .waiting .now)) (a .b)) (a .from) (a .d .now) (l .d) (c .piece-from .result .now) (l .done)
+found c =
+    let s = c .before .before .before .before .before .before .before .before in
+    let a = s .args in
+    let l = c .before .before .before .before .loop in
     let log = joined (a .end .0) (a .log .now) (a .waiting .now) in
     let b = bytesOf log (a .b) in
     let w = payloadOf (a .b .label) in
     let pos : 0 < w = omega arith in
     let k = a .from + l .done in
-    let p = (piece-from .result) .now in
-    let size = length-bytes log (a .b) (q .1 .1) in
-    let inside : k < length b = omega (arith, size, (if1 .left)) in
-    let here = (piece-from .ensures) ∙ ap (λ (n : ℕ). take (min (w - k % w) (min (n - k) (length (l .d) - l .done))) (drop k b)) (sym size) in
-    piece-fits b (a .from) (a .d .now) w pos (l .d) p (l .done) (loop-test .taken) (l .inv .1) inside here
+    let size = length-bytes log (a .b) (s .pre .1 .1) in
+    let inside : k < length b = omega (arith, size, (c .before .if1 .left)) in
+    let here = c .piece-from .ensures ∙ ap (λ (n : ℕ). take (min (w - k % w) (min (n - k) (length (l .d) - l .done))) (drop k b)) (sym size) in
+    piece b (a .from) (a .d .now) w pos (l .d) _ (l .done) (c .before .before .before .loop-test .taken) (l .inv .1) inside here
+
+copy-at-requires : tie.Need-copy-at-requires Inv-loop μ-loop
+copy-at-requires c κs = found (c .before) .fits
 
 add-done : tie.Need-add-done Inv-loop μ-loop
-add-done c =
-    let a = c .before .before .before .before .before .before .before .before .before .before .before .before .args in
-    let l = c .before .before .before .before .before .before .before .before .loop in
-    let loop-test = c .before .before .before .before .before .before .before .loop-test in
-    let if1 = c .before .before .before .before .before .if1 in
-    let piece-from = c .before .before .before .before .piece-from in
-    let q = c .before .before .before .before .before .before .before .before .before .before .before .before .pre in
-    let log = joined (a .end .0) (a .log .now) (a .waiting .now) in
-    let b = bytesOf log (a .b) in
-    let w = payloadOf (a .b .label) in
-    let pos : 0 < w = omega arith in
-    let k = a .from + l .done in
-    let p = (piece-from .result) .now in
-    let size = length-bytes log (a .b) (q .1 .1) in
-    let inside : k < length b = omega (arith, size, (if1 .left)) in
-    let here = (piece-from .ensures) ∙ ap (λ (n : ℕ). take (min (w - k % w) (min (n - k) (length (l .d) - l .done))) (drop k b)) (sym size) in
-    omega (arith, piece-fits b (a .from) (a .d .now) w pos (l .d) p (l .done) (loop-test .taken) (l .inv .1) inside here)
+add-done c = omega (arith, found (c .before .before .before .before) .fits)
 
 loop-less : tie.Need-loop-less Inv-loop μ-loop
 loop-less c =
-    let a = c .before .before .before .before .before .before .before .before .before .before .before .before .args in
-    let l = c .before .before .before .before .before .before .before .before .loop in
-    let loop-test = c .before .before .before .before .before .before .before .loop-test in
-    let if1 = c .before .before .before .before .before .if1 in
-    let piece-from = c .before .before .before .before .piece-from in
-    let q = c .before .before .before .before .before .before .before .before .before .before .before .before .pre in
-    let log = joined (a .end .0) (a .log .now) (a .waiting .now) in
-    let b = bytesOf log (a .b) in
-    let w = payloadOf (a .b .label) in
-    let pos : 0 < w = omega arith in
-    let k = a .from + l .done in
-    let p = (piece-from .result) .now in
-    let size = length-bytes log (a .b) (q .1 .1) in
-    let inside : k < length b = omega (arith, size, (if1 .left)) in
-    let here = (piece-from .ensures) ∙ ap (λ (n : ℕ). take (min (w - k % w) (min (n - k) (length (l .d) - l .done))) (drop k b)) (sym size) in
-    let t = (loop-test .taken) in
-    let same = l .inv .1 in
-    omega (arith, t, same, piece-some b (a .from) (a .d .now) w pos (l .d) p (l .done) t same inside here)
+    let p = c .before .before .before .before in
+    let l = p .before .before .before .before .loop in
+    omega (arith, p .before .before .before .loop-test .taken, l .inv .1, found p .is-some)
 
 loop-again : tie.Need-loop-again Inv-loop μ-loop
 loop-again c =
-    let a = c .before .before .before .before .before .before .before .before .before .before .before .before .args in
-    let l = c .before .before .before .before .before .before .before .before .loop in
-    let loop-test = c .before .before .before .before .before .before .before .loop-test in
-    let if1 = c .before .before .before .before .before .if1 in
-    let piece-from = c .before .before .before .before .piece-from in
+    let p = c .before .before .before .before in
+    let l = p .before .before .before .before .loop in
     let copy-at = c .before .before .copy-at in
-    let q = c .before .before .before .before .before .before .before .before .before .before .before .before .pre in
-    let log = joined (a .end .0) (a .log .now) (a .waiting .now) in
-    let b = bytesOf log (a .b) in
-    let w = payloadOf (a .b .label) in
-    let pos : 0 < w = omega arith in
-    let k = a .from + l .done in
-    let p = (piece-from .result) .now in
-    let size = length-bytes log (a .b) (q .1 .1) in
-    let inside : k < length b = omega (arith, size, (if1 .left)) in
-    let here = (piece-from .ensures) ∙ ap (λ (n : ℕ). take (min (w - k % w) (min (n - k) (length (l .d) - l .done))) (drop k b)) (sym size) in
-    let t = (loop-test .taken) in
-    let fits = piece-fits b (a .from) (a .d .now) w pos (l .d) p (l .done) t (l .inv .1) inside here in
-    let same = ap length (copy-at .ensures) ∙ length-put (l .d) (l .done) p fits in (
-      omega (arith, fits, same),
-      same ∙ l .inv .1,
-      piece-left b (a .from) (a .d .now) w pos (l .d) p (l .done) t (l .inv .1) inside here _ (copy-at .ensures) (l .inv .2),
-    )
+    let F = found p in
+    let same = ap length (copy-at .ensures) ∙ length-put (l .d) (l .done) (p .piece-from .result .now) (F .fits) in
+    (omega (arith, F .fits, same), same ∙ l .inv .1, F .behind _ (copy-at .ensures) (l .inv .2))
 
 same-length-2 : tie.Need-same-length-2 Inv-loop μ-loop
 same-length-2 c = search needs
