@@ -70,7 +70,9 @@ module _ (log : Bytes) (e : Entry) (level nest : ℕ) (s t : Bytes) (left : ℕ)
 
         module _ {x : Block} (O : OpenedAt log e level s x) where
           pub second-not-read : (w : Refusal) → placeAt log e level t ≡ look.Refused w → OfBlocks log e level nest s t left (oneUnit (refused w))
-          second-not-read w d = spends (refused w) (λ g h. refused-at log e level t w d refused _ ∙ goes-on O refused (λ b. opened log e level t refused (λ c. compareBelow g log e level nest b c (left - 1))))
+          second-not-read w d =
+              spends (refused w)
+              (λ g h. refused-at log e level t w d refused _ ∙ goes-on O refused (λ b. opened log e level t refused (λ c. compareBelow g log e level nest b c (left - 1))))
 
           pub both-read : {y : Block} → OpenedAt log e level t y → (v : Compared)
               → ((g : ℕ) → left - 1 < g → v ≡ compareBelow g log e level nest (bytesOf log x) (bytesOf log y) (left - 1))

@@ -170,16 +170,20 @@ write-fails-by-the-ledger h t d m date buffer W = go (write-fails-only-so t d m 
     go (inl z) = inl z
     go (inr (inl p)) =
         let L = logOf h in
-        let e = room-same (L .log) (L .waiting) (stores.partsFor (steps.dateOf date) d) in
-        inr (inl (p .0, ap₂ (λ (a b : ℕ). roomFrom (extentOf L) a b (stores.partsFor (steps.dateOf date) d)) (sym (waiting-none h .starts)) (sym (mirrored L (ledgerOf h) (reflected h) .ends)) ∙ sym e ∙ p .1))
+        let k = stores.partsFor (steps.dateOf date) d in
+        let e = room-same (L .log) (L .waiting) k in
+        inr (inl (p .0, ap₂ (λ (a b : ℕ). roomFrom (extentOf L) a b k) (sym (waiting-none h .starts)) (sym (mirrored L (ledgerOf h) (reflected h) .ends)) ∙ sym e ∙ p .1))
     go (inr (inr p)) = inr (inr (p .0, owner (p .1 .0) (p .1 .1) (p .1 .2) (same (sha1Of d) zeroScore) refl))
 
 pub intact-reads-as-before : claims.IntactReadsAsBefore
 intact-reads-as-before h t count s m date buffer r Q e n =
-    let was : step Greeted m date (cleanLog h) buffer ≡ given (cleanLog h) m buffer count (some r) = read-step m date buffer (cleanLog h) t count s Q ∙ ap (given (cleanLog h) m buffer count) e in
-    let is : step Greeted m date (logOf h) buffer ≡ given (logOf h) m buffer count (some r) =
-    read-step m date buffer (logOf h) t count s (reads-with (cleanLog h) (logOf h) m date buffer t count s (length-later h) Q) ∙ ap (given (logOf h) m buffer count) (held-later h t s r (Q .lawful-type) e n) in
-    rw was (is ∙ given-same (cleanLog h) (logOf h) m buffer count r)
+    let clean = cleanLog h in
+    let log = logOf h in
+    let was : step Greeted m date clean buffer ≡ given clean m buffer count (some r) = read-step m date buffer clean t count s Q ∙ ap (given clean m buffer count) e in
+    let Q′ = reads-with clean log m date buffer t count s (length-later h) Q in
+    let is : step Greeted m date log buffer ≡ given log m buffer count (some r) =
+    read-step m date buffer log t count s Q′ ∙ ap (given log m buffer count) (held-later h t s r (Q .lawful-type) e n) in
+    rw was (is ∙ given-same clean log m buffer count r)
 
 pub intact-is-duplicate : claims.IntactIsDuplicate
 intact-is-duplicate h t d m date buffer r e b n W = date-is-no-identity t d m date (logOf h) buffer r (held-later h t (sha1Of d) r (W .lawful-type) e n) b W

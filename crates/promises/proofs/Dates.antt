@@ -58,7 +58,8 @@ module _ (t : ℕ) (d m : Bytes) (date : Option Bytes) (L : Lent) (buffer : Byte
   added-valid : roomFor L (stores.partsFor (dateOf date) d) ≡ true → valid added ≡ true
   added-valid q =
       row-valid (dateOf date) t d (used (oneLog L)) (length (L .log)) (date-or-none date (W .asks .date-allowed)) (log-allowed-of (L .log) (L .waiting) (W .asks .lent-allowed))
-      (W .lawful-type) (W .not-long) (some-bytes (oneLog L) t d (W .lawful-type) e) (ap small (sym (W .content)) ∙ small-drop 8 m sm) (room-one (L .log) (L .waiting) (stores.partsFor (dateOf date) d) q .1)
+      (W .lawful-type) (W .not-long) (some-bytes (oneLog L) t d (W .lawful-type) e) (ap small (sym (W .content)) ∙ small-drop 8 m sm)
+      (room-one (L .log) (L .waiting) (stores.partsFor (dateOf date) d) q .1)
 
   found-new : step Greeted m date L buffer .number ≡ 0 → look.held (oneLog (step Greeted m date L buffer .lent)) t (sha1Of d) ≡ some added
   found-new n = go (roomFor L (stores.partsFor (dateOf date) d)) refl

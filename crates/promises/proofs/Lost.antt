@@ -40,7 +40,9 @@ module _ (t : ℕ) (s : Bytes) where
   lost-next : (L : Ledger archive) (size : Extent) (u : Session) (q : Asked) → small (q .message) ≡ true
       → (requestOf (q .message) ≡ Write t → sha1Of (dataOf (q .message)) ≡ s → ruling L size u q .answer .number ≢ 0)
       → NoneIntact t s L → NoneIntact t s (next archive size L (ruling L size u q))
-  lost-next L size u q sm n l = go (ruling L size u q .effect) (λ r e. tell-fits L size u q r sm e) (λ r e. added-answered u (q .message) (q .buffer) (decision (intact archive L) (end archive L) (L .start) size u q) r e)
+  lost-next L size u q sm n l =
+      go (ruling L size u q .effect) (λ r e. tell-fits L size u q r sm e)
+      (λ r e. added-answered u (q .message) (q .buffer) (decision (intact archive L) (end archive L) (L .start) size u q) r e)
     where
       last : (r x : Row) → Fits (intact archive L) (end archive L) (L .start) size (dateOf (q .date)) (requestOf (q .message)) (q .message) r
           → ruling L size u q .answer .number ≡ 0

@@ -68,7 +68,9 @@ read-found t count s m date log buffer Q n = go (look.held (oneLog log) t s) ref
     short r e false q z = (r, e, ltb-false count (length (r .bytes)) q, read-step m date buffer log t count s Q ∙ ap (given log m buffer count) e ∙ rw q)
 
     go : (o : Option Row) → look.held (oneLog log) t s ≡ o → given log m buffer count o .number ≡ 0 → Found
-    go none e z = absurd (cond-ind (λ w. numberOf w ≡ 0 → ⊥) (eqb (look.doubtful (oneLog log)) 0) NotHeld (NotKnown (record { 0 = look.firstDoubtful (oneLog log) })) (λ _ x. omega arith) (λ _ x. omega arith) z)
+    go none e z =
+        let k = look.firstDoubtful (oneLog log) in
+        absurd (cond-ind (λ w. numberOf w ≡ 0 → ⊥) (eqb (look.doubtful (oneLog log)) 0) NotHeld (NotKnown (record { 0 = k })) (λ _ x. omega arith) (λ _ x. omega arith) z)
     go (some r) e z = short r e (ltb count (length (r .bytes))) refl z
 
 -- 11 is answered only where no sector is doubtful

@@ -24,6 +24,7 @@ use Rattle.block.specs.Block.{Row}
 use Rattle.block.specs.Log.{used}
 use Rattle.log.specs.LookUp as look
 use Rattle.log.specs.Store as stores
+use Rattle.log.specs.declared.Stored.{Stored}
 use Rattle.log.specs.declared.Stored.the-variants.{Duplicate, Refused}
 use Rattle.log.specs.Parts.{Lent, oneLog, roomFor, canSettle}
 use Rattle.log.proofs.Allowed.{row-valid}
@@ -70,7 +71,10 @@ module _ (L : Lent) (m : Bytes) (date : Option Bytes) (buffer : Bytes) where
   held-ways : (t : ℕ) (d : Bytes) (r : Row) → AtMostOne L (kept m buffer (storedAs L (steps.dateOf date) t d (some r)))
   held-ways t d r = go (same (r .bytes) d)
     where
-      go : (b : Bool) → AtMostOne L (kept m buffer (cond b (stores.afterStore (stores.receipt (sha1Of d) (Duplicate (record { 0 = r .first }))) L) (stores.afterStore (stores.receipt (sha1Of d) (Refused Clash)) L)))
+      unchanged : Stored → stores.AfterStore
+      unchanged s = stores.afterStore (stores.receipt (sha1Of d) s) L
+
+      go : (b : Bool) → AtMostOne L (kept m buffer (cond b (unchanged (Duplicate (record { 0 = r .first }))) (unchanged (Refused Clash))))
       go true = plain refl (λ e. omega arith)
       go false = plain refl (λ e. omega arith)
 

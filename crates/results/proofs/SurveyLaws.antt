@@ -43,7 +43,9 @@ text-short log q =
     let c = line-short recordsName (s .records) (h .3) in
     let d = line-short doubtfulName (s .doubtful) (h .4) in
     let e = verdict-length (s .doubtful) in
-    omega (arith, five-length (line sectorsName (decimal (length log / 512))) (line usedName (decimal (used log))) (line recordsName (decimal (s .records))) (line doubtfulName (decimal (s .doubtful))) (line verdictName (verdict (s .doubtful))))
+    let all = five-length (line sectorsName (decimal (length log / 512))) (line usedName (decimal (used log))) (line recordsName (decimal (s .records)))
+    (line doubtfulName (decimal (s .doubtful))) (line verdictName (verdict (s .doubtful))) in
+    omega (arith, all)
 
 told-short : (log b : Bytes) → textLength (reportOf log b .answer) ≤ 128
 unfolding reportOf

@@ -128,5 +128,9 @@ writing-is-asking log w date slice dsize psize entry scores buffer past depth sm
     let xs = fileBlocks slice dsize psize depth in
     let S = writes-are-stores log w date buffer past xs al da ro (writable-file slice dsize psize depth (lies .dsize-to) (lies .psize-from) (lies .psize-to) few sm) in
     let p = tests-passed log w date slice dsize psize entry scores en sc true (sym al) refl true (sym da) refl sh depth de in
-    let n = suc (length (asked (beside log w) date xs)) in
-    (S .0, S .1 ∙ ap (λ (o : WriteOutcome). record { log = o .lent; past = past ++ replicate n Greeted }) p, S .2, sym (ap (λ (o : WriteOutcome). endNumber (o .end)) p) ∙ ends-as-last (beside log w) date xs)
+    let n = suc (length (asked (beside log w) date xs)) in (
+      S .0,
+      S .1 ∙ ap (λ (o : WriteOutcome). record { log = o .lent; past = past ++ replicate n Greeted }) p,
+      S .2,
+      sym (ap (λ (o : WriteOutcome). endNumber (o .end)) p) ∙ ends-as-last (beside log w) date xs,
+    )

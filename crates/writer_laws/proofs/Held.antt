@@ -93,20 +93,23 @@ module _ (log w date : Bytes) (x : Typed) (allowed : lentAllowed (length log) (l
   abbrev L : Lent
   L = beside log w
 
+  refused-keeps : (y : Refusal) → Kept log w x (afterStore (receipt (sha1Of d) (NotStored y)) L)
+  refused-keeps y = record {
+    part = w;
+    lent = refl;
+    long = refl;
+    keeps = λ t s y e. e;
+    holds = λ e. let z : _≡_ {A = ℕ} 0 1 = cc in absurd (omega arith);
+    stays = λ _ _. refl;
+  }
+
   unchanged : (r : Row) → held (tape log w) (x .kind) (sha1Of d) ≡ some r → Kept log w x (compared L (r .bytes) (r .first) d)
   unchanged r h = go (same (r .bytes) d) refl
     where
       go : (b : Bool) → same (r .bytes) d ≡ b
           → Kept log w x (cond b (afterStore (receipt (sha1Of d) (Duplicate (record { 0 = r .first }))) L) (afterStore (receipt (sha1Of d) (NotStored Clash)) L))
       go true q = record { part = w; lent = refl; long = refl; keeps = λ t s y e. e; holds = λ _. (r, h, same-true (r .bytes) d q); stays = λ _ _. refl }
-      go false q = record {
-        part = w;
-        lent = refl;
-        long = refl;
-        keeps = λ t s y e. e;
-        holds = λ e. let z : _≡_ {A = ℕ} 0 1 = cc in absurd (omega arith);
-        stays = λ _ _. refl;
-      }
+      go false q = refused-keeps Clash
 
   new : (length d ≡ 0 → ⊥) → held (tape log w) (x .kind) (sha1Of d) ≡ none → Kept log w x (appended L date (x .kind) d)
   unfolding appendRow
@@ -134,14 +137,7 @@ module _ (log w date : Bytes) (x : Typed) (allowed : lentAllowed (length log) (l
             holds = λ _. (r, ap (λ (b : Bytes). held b (x .kind) (sha1Of d)) one ∙ held-appended (tape log w) r v refl (room .0) h, refl);
             stays = λ y e. let z : _≡_ {A = ℕ} 0 1 = cc in absurd (omega arith);
           }
-      go false q = record {
-        part = w;
-        lent = refl;
-        long = refl;
-        keeps = λ t s y e. e;
-        holds = λ e. let z : _≡_ {A = ℕ} 0 1 = cc in absurd (omega arith);
-        stays = λ _ _. refl;
-      }
+      go false q = refused-keeps NoRoom
 
   pub one-kept : Kept log w x (store L date (x .kind) d)
   unfolding store

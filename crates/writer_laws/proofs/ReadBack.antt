@@ -176,7 +176,16 @@ module _ (slice : Bytes) (dsize psize depth : ℕ) (d-from : 1 ≤ dsize) (d-to 
       fill-past h = rw (allowed, readable, le-ltb o ((entryOf made) .size) (omega (arith, size-is))) refl
 
     pub reads-made : Reads log w page made slice
-    reads-made = record { allowed = allowed; readable = readable; size = size-is; answers = answer; bytes = λ o h. read-byte o h (tape log w) 0 H; runs = laid-is; filled = fill-is; past-end = fill-past }
+    reads-made = record {
+      allowed = allowed;
+      readable = readable;
+      size = size-is;
+      answers = answer;
+      bytes = λ o h. read-byte o h (tape log w) 0 H;
+      runs = laid-is;
+      filled = fill-is;
+      past-end = fill-past;
+    }
 
 -- ---- the call
 

@@ -15,7 +15,8 @@ module _ (t : ℕ) where
       let i = c .before .before in
       let s = i .before .before .before .before .before in
       let a = s .args in
-      below-leaf (joined (a .end .0) (a .log .now) (a .waiting .now)) (a .date .now) (a .e) (a .level) (a .nest) (a .left) (a .b) (s .pre .1 .1 .1) (a .second .now) (i .if1 .taken) (not-true _ (c .if2 .taken))
+      let log = joined (a .end .0) (a .log .now) (a .waiting .now) in
+      below-leaf log (a .date .now) (a .e) (a .level) (a .nest) (a .left) (a .b) (s .pre .1 .1 .1) (a .second .now) (i .if1 .taken) (not-true _ (c .if2 .taken))
 
   directory : lts.Need-returns-2 (below-calls t) (below-at t) Post
   directory c =
@@ -23,14 +24,17 @@ module _ (t : ℕ) where
       let i = c .before .before .before .before .before .before in
       let s = i .before .before .before .before .before in
       let a = s .args in
-      below-directory (joined (a .end .0) (a .log .now) (a .waiting .now)) (a .date .now) (a .e) (a .level) (a .nest) (a .left) (a .b) (s .pre .1 .1 .1) (a .second .now) (i .if1 .taken) (not-false _ (c .before .before .before .before .if2 .left)) _ _ (d .copy-directory .ensures)
+      let log = joined (a .end .0) (a .log .now) (a .waiting .now) in
+      below-directory log (a .date .now) (a .e) (a .level) (a .nest) (a .left) (a .b) (s .pre .1 .1 .1) (a .second .now) (i .if1 .taken)
+      (not-false _ (c .before .before .before .before .if2 .left)) _ _ (d .copy-directory .ensures)
 
   ragged : lts.Need-returns-3 (below-calls t) (below-at t) Post
   ragged c =
       let i = c .before .before in
       let s = i .before .before .before .before .before in
       let a = s .args in
-      below-ragged (joined (a .end .0) (a .log .now) (a .waiting .now)) (a .date .now) (a .e) (a .level) (a .nest) (a .left) (a .b) (s .pre .1 .1 .1) (a .second .now) (i .if1 .left) (c .if3 .taken)
+      let log = joined (a .end .0) (a .log .now) (a .waiting .now) in
+      below-ragged log (a .date .now) (a .e) (a .level) (a .nest) (a .left) (a .b) (s .pre .1 .1 .1) (a .second .now) (i .if1 .left) (c .if3 .taken)
 
   scores : lts.Need-returns-4 (below-calls t) (below-at t) Post
   scores c =
@@ -38,7 +42,9 @@ module _ (t : ℕ) where
       let i = c .before .before .before .before .before .before in
       let s = i .before .before .before .before .before in
       let a = s .args in
-      below-scores (joined (a .end .0) (a .log .now) (a .waiting .now)) (a .date .now) (a .e) (a .level) (a .nest) (a .left) (a .b) (s .pre .1 .1 .1) (a .second .now) (i .if1 .left) (c .before .before .before .before .if3 .left) _ _ (d .copy-scores .ensures)
+      let log = joined (a .end .0) (a .log .now) (a .waiting .now) in
+      below-scores log (a .date .now) (a .e) (a .level) (a .nest) (a .left) (a .b) (s .pre .1 .1 .1) (a .second .now) (i .if1 .left)
+      (c .before .before .before .before .if3 .left) _ _ (d .copy-scores .ensures)
 
 pub below-meets : {M : Type 1} (t : ℕ) → lts.Closed (below-calls t) (below-at t) Post M
 below-meets t =

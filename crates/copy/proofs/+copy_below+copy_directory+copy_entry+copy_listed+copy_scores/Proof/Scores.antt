@@ -41,9 +41,11 @@ module _ (t : ℕ) where
       let h = s .before .loop-test .taken in
       let l = s .before .before in
       let g = start l in
-      scores-one-by-one (joined (g .args .end .0) (g .args .log .now) (g .args .waiting .now)) (g .args .date .now) (g .args .b) (g .pre .1 .1 .1) _ _ _ _ _ _ _
+      let a = g .args in
+      let log = joined (a .end .0) (a .log .now) (a .waiting .now) in
+      scores-one-by-one log (a .date .now) (a .b) (g .pre .1 .1 .1) _ _ _ _ _ _ _
       (refused-stops (l .loop .inv .1) h _ _ (w .copy-entry .ensures .0)
-      (score-copied (joined (g .args .end .0) (g .args .log .now) (g .args .waiting .now)) (g .args .date .now) (g .args .b) (g .pre .1 .1 .1) _ _ _ _ _ _ h (s .score-at .ensures) (w .copy-entry .ensures .1)) _ (c .enum-told2 .given .1))
+      (score-copied log (a .date .now) (a .b) (g .pre .1 .1 .1) _ _ _ _ _ _ h (s .score-at .ensures) (w .copy-entry .ensures .1)) _ (c .enum-told2 .given .1))
 
   loop-again : lts.Need-loop-again (scores-calls t) (scores-at t) Post Inv μ
   loop-again c =
@@ -51,16 +53,20 @@ module _ (t : ℕ) where
       let s = w .before .before .before in
       let h = s .before .loop-test .taken in
       let l = s .before .before in
-      let g = start l in (
+      let g = start l in
+      let a = g .args in
+      let log = joined (a .end .0) (a .log .now) (a .waiting .now) in (
         search (needs, l .loop .inv .0, c .before .before .before .before .second, c .before .before .before .slice-known2),
         rest-goes-on (l .loop .inv .1) h _ _ (w .copy-entry .ensures .0)
-            (score-copied (joined (g .args .end .0) (g .args .log .now) (g .args .waiting .now)) (g .args .date .now) (g .args .b) (g .pre .1 .1 .1) _ _ _ _ _ _ h (s .score-at .ensures) (w .copy-entry .ensures .1)) (c .enum-told .given .1),
+            (score-copied log (a .date .now) (a .b) (g .pre .1 .1 .1) _ _ _ _ _ _ h (s .score-at .ensures) (w .copy-entry .ensures .1)) (c .enum-told .given .1),
       )
 
   ended : lts.Need-returns-2 (scores-calls t) (scores-at t) Post Inv μ
   ended c =
       let g = start (c .before) in
-      scores-one-by-one (joined (g .args .end .0) (g .args .log .now) (g .args .waiting .now)) (g .args .date .now) (g .args .b) (g .pre .1 .1 .1) _ _ _ _ _ _ _ (all-done (c .before .loop .inv .1) (c .loop-test .left))
+      let a = g .args in
+      let log = joined (a .end .0) (a .log .now) (a .waiting .now) in
+      scores-one-by-one log (a .date .now) (a .b) (g .pre .1 .1 .1) _ _ _ _ _ _ _ (all-done (c .before .loop .inv .1) (c .loop-test .left))
 
 pub scores-meets : {M : Type 1} (t : ℕ) → lts.Closed (scores-calls t) (scores-at t) Post M
 scores-meets t =

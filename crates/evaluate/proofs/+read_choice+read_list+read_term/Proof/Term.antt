@@ -33,7 +33,9 @@ module _ (t : ℕ) where
       none-may-open (a .card .now) (a .text .now) (a .at) (a .room) (sym (c .before .before .next-is2 .ensures) ∙ c .before .if2 .taken) (c .if3 .taken)
 
   add-fits-2 : lts.Need-add-read-list (term-calls t) (term-at t) Post
-  add-fits-2 c = let a = c .before .before .before .before .before .before .before .before .before .args in omega (arith, next-known (a .text .now) (a .at) openWord (sym (c .before .before .next-is2 .ensures) ∙ c .before .if2 .taken) .inside)
+  add-fits-2 c =
+      let a = c .before .before .before .before .before .before .before .before .before .args in
+      omega (arith, next-known (a .text .now) (a .at) openWord (sym (c .before .before .next-is2 .ensures) ∙ c .before .if2 .taken) .inside)
 
   read-list-requires : lts.Need-read-list-requires (term-calls t) (term-at t) Post
   read-list-requires c κs =
@@ -45,12 +47,14 @@ module _ (t : ℕ) where
   in-brackets c =
       let k = c .before .before in
       let a = k .before .before .before .before .before .before .before .before .before .args in
-      brackets-read (a .card .now) (a .text .now) (a .at) (a .room) (sym (k .before .before .next-is2 .ensures) ∙ k .before .if2 .taken) (k .if3 .left) (c .before .read-list .ensures) (c .closed .ensures)
+      brackets-read (a .card .now) (a .text .now) (a .at) (a .room) (sym (k .before .before .next-is2 .ensures) ∙ k .before .if2 .taken) (k .if3 .left)
+      (c .before .read-list .ensures) (c .closed .ensures)
 
   name : lts.Need-returns-4 (term-calls t) (term-at t) Post
   name c =
-      let a = c .before .before .before .before .before .before .before .before .before .args in
-      name-read (a .card .now) (a .text .now) (a .at) (a .room) (sym (c .before .before .before .before .before .next-is .ensures) ∙ c .before .before .before .before .if1 .left) (sym (c .before .before .next-is2 .ensures) ∙ c .before .if2 .left)
+      let n = c .before .before .before .before in
+      let a = n .before .before .before .before .before .args in
+      name-read (a .card .now) (a .text .now) (a .at) (a .room) (sym (n .before .next-is .ensures) ∙ n .if1 .left) (sym (c .before .before .next-is2 .ensures) ∙ c .before .if2 .left)
       (c .read-name .ensures)
 
 pub term-meets : {M : Type 1} (t : ℕ) → lts.Closed (term-calls t) (term-at t) Post M
