@@ -81,7 +81,8 @@ at-middle a b c f k n la lb h g = at-piece (a ++ (b ++ c)) n (simp length-append
 
 pub at-aside : (a b c d : Bytes) (f k n : ℕ) → length a ≡ 512 * f → length b ≡ 512 * k → length c ≡ 512 * k → (n < f) ⊎ (f + k ≤ n) → at (a ++ (b ++ d)) n ≡ at (a ++ (c ++ d)) n
 at-aside a b c d f k n la lb lc (inl h) =
-    at-piece (a ++ (b ++ d)) n (simp length-append (omega arith)) ∙ piece-front a (b ++ d) f n la h ∙ sym (piece-front a (c ++ d) f n la h) ∙ sym (at-piece (a ++ (c ++ d)) n (simp length-append (omega arith)))
+    at-piece (a ++ (b ++ d)) n (simp length-append (omega arith)) ∙ piece-front a (b ++ d) f n la h
+    ∙ sym (at-piece (a ++ (c ++ d)) n (simp length-append (omega arith)) ∙ piece-front a (c ++ d) f n la h)
 at-aside a b c d f k n la lb lc (inr h) = go (ltb n (sectors (length (a ++ (b ++ d))))) refl
   where
     size : length (a ++ (b ++ d)) ≡ length (a ++ (c ++ d))

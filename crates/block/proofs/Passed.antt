@@ -43,23 +43,28 @@ pub record Passed (log : Bytes) (n kind : ℕ) (score date : Bytes) (size : ℕ)
   pub scored : sha1Of (take size (payloadsBy log n date size)) ≡ score
 
 module _ (log : Bytes) (n kind : ℕ) (score date : Bytes) (size : ℕ) where
-  -- whether sector n + k has the label of part k
-  has-label : ℕ → Bool
-  has-label k = same (take (labelLength date) (at log (n + k))) (datedLabel date (labelAt (partsBy date size) n k kind size) score)
+  -- what sector n + k begins with, and the label of part k
+  abbrev front : ℕ → Bytes
+  front k = take (labelLength date) (at log (n + k))
 
-  labelled-facts : (j : ℕ) → labelled log date (partsBy date size) n kind size score j 0 ≡ true → (k : ℕ) → k < j → take (labelLength date) (at log (n + k)) ≡ datedLabel date (labelAt (partsBy date size) n k kind size) score
+  abbrev label : ℕ → Bytes
+  label k = datedLabel date (labelAt (partsBy date size) n k kind size) score
+
+  has-label : ℕ → Bool
+  has-label k = same (front k) (label k)
+
+  labelled-facts : (j : ℕ) → labelled log date (partsBy date size) n kind size score j 0 ≡ true → (k : ℕ) → k < j → front k ≡ label k
   unfolding labelled has-label
   labelled-facts j e k h =
       let z : k ≡ 0 + k = omega arith in
-      same-true (take (labelLength date) (at log (n + k))) (datedLabel date (labelAt (partsBy date size) n k kind size) score)
-      (ap has-label z ∙ range-facts has-label (λ i m. labelled log date (partsBy date size) n kind size score i m) (λ i m. refl) j 0 k e h)
+      same-true (front k) (label k) (ap has-label z ∙ range-facts has-label (λ i m. labelled log date (partsBy date size) n kind size score i m) (λ i m. refl) j 0 k e h)
 
-  facts-labelled : (j : ℕ) → ((k : ℕ) → k < j → take (labelLength date) (at log (n + k)) ≡ datedLabel date (labelAt (partsBy date size) n k kind size) score) → labelled log date (partsBy date size) n kind size score j 0 ≡ true
+  facts-labelled : (j : ℕ) → ((k : ℕ) → k < j → front k ≡ label k) → labelled log date (partsBy date size) n kind size score j 0 ≡ true
   unfolding labelled has-label
   facts-labelled j f =
       facts-range has-label (λ i m. labelled log date (partsBy date size) n kind size score i m) (λ i m. refl) (λ i. refl) j 0
       (λ k h. let z : 0 + k ≡ k = omega arith in
-      ap has-label z ∙ ap (λ (x : Bytes). same x (datedLabel date (labelAt (partsBy date size) n k kind size) score)) (f k h) ∙ same-refl (datedLabel date (labelAt (partsBy date size) n k kind size) score))
+      ap has-label z ∙ ap (λ (x : Bytes). same x (label k)) (f k h) ∙ same-refl (label k))
 
 module _ (log : Bytes) (n : ℕ) where
   checked-facts : (j : ℕ) → checked log j n ≡ true → (k : ℕ) → k < j → fits (at log (n + k)) ≡ true

@@ -27,7 +27,8 @@ use Rattle.request.specs.declared.Session.the-variants.{Greeted}
 use Rattle.request.specs.Step.{replyRoom, read, write, greeted, inSession, step}
 use Rattle.examples.specs.Messages.{Messages}
 
-synced : (date : Option Bytes) (log waiting buffer : Bytes) → steps.dateAllowed date ≡ true → steps.allowed (beside log waiting) ≡ true → replyRoom ≤ length buffer → used log + used waiting ≤ sectors (length log)
+synced : (date : Option Bytes) (log waiting buffer : Bytes) → steps.dateAllowed date ≡ true → steps.allowed (beside log waiting) ≡ true → replyRoom ≤ length buffer
+    → used log + used waiting ≤ sectors (length log)
     → step Greeted (0x00 ∷ 0x02 ∷ 0x10 ∷ 0x02 ∷ []) date (beside log waiting) buffer
     ≡ steps.granted (0x00 ∷ 0x02 ∷ 0x11 ∷ 0x02 ∷ []) Greeted (beside (moved log waiting) (replicate (length waiting) 0)) buffer
 unfolding digits valueFrom framed exactly requestOf reply steps.sync greeted inSession step settled

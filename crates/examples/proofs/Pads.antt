@@ -58,7 +58,10 @@ six m q Greeted date log buffer n f h a d = rw (f, le-ltb (length buffer) replyR
 padded : (e : Entry) → e .clean ≡ false → wellFormed e ≡ false
 unfolding wellFormed
 padded e c =
-    rw (c, and-false (e .plain), and-false (not (e .directory) || eqb (e .dsize % 40) 0), and-false (leb 1 (e .dsize) && leb (e .dsize) longest), and-false (leb 40 (e .psize) && leb (e .psize) longest))
+    let entries = and-false (not (e .directory) || eqb (e .dsize % 40) 0) in
+    let dsize = and-false (leb 1 (e .dsize) && leb (e .dsize) longest) in
+    let psize = and-false (leb 40 (e .psize) && leb (e .psize) longest) in
+    rw (c, and-false (e .plain), entries, dsize, psize)
 
 entry-ill : (x : Bytes) (k : ℕ) → k < 5 → (getD x (9 + k) 0 ≡ 0 → ⊥) → entryAllowed x ≡ false
 unfolding entryOf

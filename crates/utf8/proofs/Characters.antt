@@ -83,7 +83,9 @@ module _ (c : ℕ) (bs : Bytes) where
     where
       go : (x : Bool) → ltb c 0x1000 ≡ x → (y : Bool) → ltb c 0xD000 ≡ y → (z : Bool) → ltb c 0xD800 ≡ z
           → follows [] ((0xE0 + c / 4096) ∷ six 64 c ∷ six 1 c ∷ bs) ≡ follows [] bs
-      go true p y q z r = let u = ltb-true c 0x1000 p in row-is-character 2 refl refl refl (0xE0 + c / 4096) (six 64 c ∷ six 1 c ∷ []) bs (omega arith, omega arith, (omega arith, omega arith, (omega arith, omega arith, tt)))
+      go true p y q z r =
+          let u = ltb-true c 0x1000 p in
+          row-is-character 2 refl refl refl (0xE0 + c / 4096) (six 64 c ∷ six 1 c ∷ []) bs (omega arith, omega arith, (omega arith, omega arith, (omega arith, omega arith, tt)))
       go false p true q z r =
           let l = ltb-false c 0x1000 p in
           let u = ltb-true c 0xD000 q in
@@ -101,12 +103,19 @@ module _ (c : ℕ) (bs : Bytes) where
     where
       go : (x : Bool) → ltb c 0x40000 ≡ x → (y : Bool) → ltb c 0x100000 ≡ y
           → follows [] ((0xF0 + c / 262144) ∷ six 4096 c ∷ six 64 c ∷ six 1 c ∷ bs) ≡ follows [] bs
-      go true p y q = let u = ltb-true c 0x40000 p in row-is-character 6 refl refl refl (0xF0 + c / 262144) (six 4096 c ∷ six 64 c ∷ six 1 c ∷ []) bs (omega arith, omega arith, (omega arith, omega arith, (omega arith, omega arith, (omega arith, omega arith, tt))))
+      go true p y q =
+          let u = ltb-true c 0x40000 p in
+          row-is-character 6 refl refl refl (0xF0 + c / 262144) (six 4096 c ∷ six 64 c ∷ six 1 c ∷ []) bs
+          (omega arith, omega arith, (omega arith, omega arith, (omega arith, omega arith, (omega arith, omega arith, tt))))
       go false p true q =
           let l = ltb-false c 0x40000 p in
           let u = ltb-true c 0x100000 q in
-          row-is-character 7 refl refl refl (0xF0 + c / 262144) (six 4096 c ∷ six 64 c ∷ six 1 c ∷ []) bs (omega arith, omega arith, (omega arith, omega arith, (omega arith, omega arith, (omega arith, omega arith, tt))))
-      go false p false q = let l = ltb-false c 0x100000 q in row-is-character 8 refl refl refl (0xF0 + c / 262144) (six 4096 c ∷ six 64 c ∷ six 1 c ∷ []) bs (omega arith, omega arith, (omega arith, omega arith, (omega arith, omega arith, (omega arith, omega arith, tt))))
+          row-is-character 7 refl refl refl (0xF0 + c / 262144) (six 4096 c ∷ six 64 c ∷ six 1 c ∷ []) bs
+          (omega arith, omega arith, (omega arith, omega arith, (omega arith, omega arith, (omega arith, omega arith, tt))))
+      go false p false q =
+          let l = ltb-false c 0x100000 q in
+          row-is-character 8 refl refl refl (0xF0 + c / 262144) (six 4096 c ∷ six 64 c ∷ six 1 c ∷ []) bs
+          (omega arith, omega arith, (omega arith, omega arith, (omega arith, omega arith, (omega arith, omega arith, tt))))
 
   decode-1 : c ≤ 0x7F → decodeFrom 0 0 (character c ++ bs) ≡ c ∷ decodeFrom 0 0 bs
   unfolding decodeFrom
