@@ -1,7 +1,9 @@
 -- `difference::read` meets its contract: the part that `locate` names.
 use mathlib.Core.Path.{refl, sym, _∙_}
+use Prim.Native.Nat.{_+_, _≤_}
 use native.Mathlib.Nat.{add-sub-cancel-left, zero-add}
 use native.Mathlib.Omega.{arith}
+use lib.ListN.{length}
 use borrow.Author.Needs.{needs}
 use Rattle.difference.proofs.First.{first-within, second-within}
 use Rattle.difference.proofs.read.Statement.{statement}
@@ -11,34 +13,22 @@ use Rattle.difference.proofs.read.Tie as tie
 abbrev start : tie.After-locate → tie.Start
 start c = c .before .before .before
 
-first-ends : tie.Need-add-end
-first-ends c =
-    let l = c .before .before .before in
+first-inside : (c : tie.After-found) → c .found .given .0 .0 + 40 ≤ length (start (c .before .before) .args .a .now)
+first-inside c =
+    let l = c .before .before in
     let a = start l .args in
-    omega (arith, first-within (a .a .now) (a .b .now) _ (sym (l .locate .ensures) ∙ c .before .found .given .1))
-
-first-whole : tie.Need-part-result-end
-first-whole c =
-    let l = c .before .before .before in
-    let a = start l .args in
-    omega (arith, first-within (a .a .now) (a .b .now) _ (sym (l .locate .ensures) ∙ c .before .found .given .1))
+    first-within (a .a .now) (a .b .now) _ (sym (l .locate .ensures) ∙ c .found .given .1)
 
 first : tie.Need-returns
 first c =
     let f = c .before .before in
     rw (← (f .before .before .locate .ensures), (f .found .given .1)) (record { bytes = rw (add-sub-cancel-left _ _); block = refl; place = refl })
 
-second-ends : tie.Need-add-end-2
-second-ends c =
-    let l = c .before .before .before in
+second-inside : (c : tie.After-found2) → c .found2 .given .0 .0 + 40 ≤ length (start (c .before .before) .args .b .now)
+second-inside c =
+    let l = c .before .before in
     let a = start l .args in
-    omega (arith, second-within (a .a .now) (a .b .now) _ (sym (l .locate .ensures) ∙ c .before .found2 .given .1))
-
-second-whole : tie.Need-part-result-end-2
-second-whole c =
-    let l = c .before .before .before in
-    let a = start l .args in
-    omega (arith, second-within (a .a .now) (a .b .now) _ (sym (l .locate .ensures) ∙ c .before .found2 .given .1))
+    second-within (a .a .now) (a .b .now) _ (sym (l .locate .ensures) ∙ c .found2 .given .1)
 
 second : tie.Need-returns-2
 second c =
@@ -61,16 +51,16 @@ read-spec =
     (tie.spec
     (λ c κs. search needs)  -- locate-requires
     (λ c. search needs)  -- enum-known-found
-    first-ends
+    (λ c. omega (arith, first-inside (c .before)))  -- add-end
     (λ c. search needs)  -- sub-result
     (λ c. search needs)  -- part-result-start
-    first-whole
+    (λ c. omega (arith, first-inside (c .before)))  -- part-result-end
     first
     (λ c. search needs)  -- enum-known-found-2
-    second-ends
+    (λ c. omega (arith, second-inside (c .before)))  -- add-end-2
     (λ c. search needs)  -- sub-result-2
     (λ c. search needs)  -- part-result-start-2
-    second-whole
+    (λ c. omega (arith, second-inside (c .before)))  -- part-result-end-2
     second
     (λ c. search needs)  -- enum-told
     (λ c. search needs)  -- slice-aggregate-result

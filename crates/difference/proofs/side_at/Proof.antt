@@ -9,7 +9,7 @@ use borrow.Author.Needs.{needs}
 use borrow.Author.Tests.{not-true, not-false}
 use Rattle.buffer.specs.Bytes.{Bytes, same}
 use Rattle.difference.specs.declared.Side.the-variants.{First, Neither}
-use Rattle.difference.specs.Difference.{entryAt}
+use Rattle.difference.specs.Difference.{entryAt, sideOf}
 use Rattle.difference.proofs.Positions.{only-second, no-active, only-first, both-active, active-within}
 use Rattle.difference.proofs.side_at.Statement.{statement}
 use Rattle.difference.proofs.side_at.Tie as tie
@@ -55,25 +55,21 @@ second-whole c =
     let f = start (t .before) in
     omega (arith, active-within (f .args .b .now) (f .args .i) (f .pre .1) (sym (t .before .is-active .ensures) ∙ not-false _ (i .if3 .left)))
 
-equal : tie.Need-returns-4
-equal c =
-    let e = c .before in
+-- both active: by whether they are equal
+both : (e : tie.After-equal) → let a = start (e .before .before .before .before .before .before) .args in
+    cond (e .equal .result) Neither First ≡ sideOf (entryAt (a .a .now) (a .i)) (entryAt (a .b .now) (a .i))
+both e =
     let i = e .before .before .before in
     let t = i .before .before in
     let a = start (t .before) .args in
-    ap (λ (s : Bool). cond s Neither First) (sym (c .if4 .taken))
-    ∙ both-active (entryAt (a .a .now) (a .i)) (entryAt (a .b .now) (a .i)) (t .is-active2 .ensures) (t .before .is-active .ensures)
+    both-active (entryAt (a .a .now) (a .i)) (entryAt (a .b .now) (a .i)) (t .is-active2 .ensures) (t .before .is-active .ensures)
     (not-false _ (i .before .if1 .left)) (not-false _ (i .if3 .left)) _ (e .equal .ensures ∙ forty (drop (40 * a .i) (a .a .now)) (drop (40 * a .i) (a .b .now)) (40 * a .i))
 
+equal : tie.Need-returns-4
+equal c = ap (λ (s : Bool). cond s Neither First) (sym (c .if4 .taken)) ∙ both (c .before)
+
 unequal : tie.Need-returns-5
-unequal c =
-    let e = c .before in
-    let i = e .before .before .before in
-    let t = i .before .before in
-    let a = start (t .before) .args in
-    ap (λ (s : Bool). cond s Neither First) (sym (c .if4 .left))
-    ∙ both-active (entryAt (a .a .now) (a .i)) (entryAt (a .b .now) (a .i)) (t .is-active2 .ensures) (t .before .is-active .ensures)
-    (not-false _ (i .before .if1 .left)) (not-false _ (i .if3 .left)) _ (e .equal .ensures ∙ forty (drop (40 * a .i) (a .a .now)) (drop (40 * a .i) (a .b .now)) (40 * a .i))
+unequal c = ap (λ (s : Bool). cond s Neither First) (sym (c .if4 .left)) ∙ both (c .before)
 
 pub side-at-spec : {M : Type 1} → statement M
 side-at-spec =
