@@ -4,7 +4,7 @@ use mathlib.Core.Bool.{Bool, true, false}
 use Prim.Native.Nat.{ℕ}
 use native.Mathlib.Omega.{arith}
 use Rattle.buffer.specs.Bytes.{Bytes}
-use Rattle.word.specs.declared.hex.Hex.the-variants.{Value, Bad}
+use Rattle.hexadecimal.specs.declared.Hex.the-variants.{Value, Bad}
 use Rattle.word.specs.Hex.{isHex, hexValue, readFrom, readHex}
 use Rattle.block_tests.specs.Number.{numberOf}
 

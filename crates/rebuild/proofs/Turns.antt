@@ -13,7 +13,7 @@ use Rattle.ground.specs.Places.{foundFrom}
 use Rattle.buffer.specs.Bytes.{Bytes, same}
 use Rattle.buffer.proofs.Bytes.{same-true}
 use Rattle.word.specs.Hex.{isHex, hexValue, hexBytes, readHex, readFrom, readBytes, Reading, reading, readHexBytes}
-use Rattle.word.specs.declared.hex.Hex.the-variants.{Value, Bad}
+use Rattle.hexadecimal.specs.declared.Hex.the-variants.{Value, Bad}
 use Rattle.word.proofs.HexLaws.{isHex-hex, isHex-hexBytes, hexValue-lt}
 use Rattle.sector.specs.Sector.{frontOf, dateField, behind, kindField, scoreDigits, scoreField}
 use Rattle.sector.proofs.Dates.{front-most}

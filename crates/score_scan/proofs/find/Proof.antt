@@ -20,7 +20,6 @@ use Rattle.score_scan.proofs.find.Reads as reads
 use Rattle.score_scan.proofs.find.Lts as lts
 use Rattle.score_scan.proofs.may_hold.Reads as may-hold-reads
 use Rattle.reader.proofs.sound_as.Reads as sound-as-reads
-use Rattle.word.proofs.hex.put_hex_bytes.Reads as put-hex-bytes-reads
 
 abbrev Inv-loop : tie.InvT-loop
 Inv-loop log end waiting kind score digits count n₀ n =

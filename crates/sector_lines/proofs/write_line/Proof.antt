@@ -14,7 +14,6 @@ use Rattle.sector_lines.proofs.write_line.Tie as tie
 use Rattle.sector_lines.proofs.write_line.Reads as reads
 use Rattle.sector_lines.proofs.write_line.Lts as lts
 use Rattle.buffer.proofs.copy_at.Reads as copy-at-reads
-use Rattle.word.proofs.hex.put_hex.Reads as put-hex-reads
 
 copy-at-requires : tie.Need-copy-at-requires
 copy-at-requires c κs = search needs

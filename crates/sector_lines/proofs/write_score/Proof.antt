@@ -9,7 +9,6 @@ use Rattle.sector_lines.proofs.write_score.Tie as tie
 use Rattle.sector_lines.proofs.write_score.Reads as reads
 use Rattle.sector_lines.proofs.write_score.Lts as lts
 use Rattle.buffer.proofs.copy_at.Reads as copy-at-reads
-use Rattle.word.proofs.hex.put_hex_bytes.Reads as put-hex-bytes-reads
 
 slice-aggregate-copy-at : tie.Need-slice-aggregate-copy-at
 slice-aggregate-copy-at c = search needs

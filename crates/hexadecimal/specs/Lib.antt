@@ -1,0 +1,3 @@
+-- What the clauses of `hexadecimal` cite, and what is promised.
+pub mod Hex
+pub mod Promises
