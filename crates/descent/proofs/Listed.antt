@@ -1,6 +1,6 @@
 -- An entry of a directory block: skipped, refused or visited.
 use mathlib.Core.Path.{_≡_, sym, ap, ap₂, _∙_}
-use mathlib.Core.Bool.{Bool, true, false, cond}
+use mathlib.Core.Bool.{Bool, true, false}
 use Prim.Native.Nat.{ℕ, zero, suc, _+_, _-_, _*_, _≤_, _<_}
 use native.Mathlib.Omega.{arith}
 use lib.ListN.{length, take, drop, length-take, length-drop}
@@ -49,9 +49,20 @@ pub entry-read : (log : Bytes) (b : Block) → b .label < 499 → (i : ℕ) {x :
     → x ≡ filled 40 (drop (40 * i) (bytesOf log b)) → e ≡ entryOf (take 40 (drop 0 x)) → EntryRead (bytesOf log b) i x e
 entry-read log b short i h x e = record { within = omega (arith, length-bytes log b short); bytes = x; read = e }
 
-judged-by : (x : Bytes) (w : Walked) (a f : Bool) → entryOf x .active ≡ a → entryAllowed x ≡ f → judged x w ≡ cond a (cond f w (walked 0 (Stopped IllFormed))) (walked 0 Done)
-unfolding judged
-judged-by x w a f p q = ap₂ (λ (s t : Bool). cond s (cond t w (walked 0 (Stopped IllFormed))) (walked 0 Done)) p q
+-- what an entry's bytes say: not active, ill-formed, or to be visited
+module _ (x : Bytes) (w : Walked) where
+  not-active : entryOf x .active ≡ false → judged x w ≡ walked 0 Done
+  unfolding judged
+  not-active p = rw p
+
+  module _ (p : entryOf x .active ≡ true) where
+    ill-formed : entryAllowed x ≡ false → judged x w ≡ walked 0 (Stopped IllFormed)
+    unfolding judged
+    ill-formed q = rw (q, p)
+
+    well-formed : entryAllowed x ≡ true → judged x w ≡ w
+    unfolding judged
+    well-formed q = rw (q, p)
 
 module _ {b : Bytes} {i : ℕ} {x : Bytes} {e : Entry} (R : EntryRead b i x e) where
   pub bytes-are-piece : x ≡ entryIn b i
@@ -77,17 +88,16 @@ module _ {b : Bytes} {i : ℕ} {x : Bytes} {e : Entry} (R : EntryRead b i x e) w
   score-of-20 = simp (length-take, length-drop) (omega (arith, length-40))
 
   pub inactive-is-skipped : e .active ≡ false → (f : ℕ) (log : Bytes) (nest left : ℕ) → walked 0 Done ≡ visitListed f log nest (entryIn b i) left
-  unfolding judged
-  inactive-is-skipped a f log nest left = let q = active-of-piece false a in rw q
+  inactive-is-skipped a f log nest left = sym (not-active (entryIn b i) _ (active-of-piece false a))
 
   module _ (a : e .active ≡ true) where
     pub ill-formed-is-refused : wellFormed e ≡ false → (f : ℕ) (log : Bytes) (nest left : ℕ)
         → walked 0 (Stopped IllFormed) ≡ visitListed f log nest (entryIn b i) left
-    ill-formed-is-refused w f log nest left = sym (judged-by (entryIn b i) _ true false (active-of-piece true a) (allowed-of-piece false w))
+    ill-formed-is-refused w f log nest left = sym (ill-formed (entryIn b i) _ (active-of-piece true a) (allowed-of-piece false w))
 
     pub well-formed-is-visited : wellFormed e ≡ true → (log : Bytes) (nest left : ℕ) {deep : ℕ} → deep ≡ nestOf e nest → (f : ℕ) {r : Walked}
         → r ≡ visitEntry f log e (e .depth) deep (take (40 - 20) (drop 20 x)) left → r ≡ visitListed f log nest (entryIn b i) left
     well-formed-is-visited w log nest left d f v =
         v ∙ ap (λ (y : ℕ). visitEntry f log e (e .depth) y (scoreOf x) left) d
         ∙ ap₂ (λ (y : Entry) (u : Bytes). visitEntry f log y (y .depth) (nestOf y nest) u left) entry-of-piece (ap scoreOf bytes-are-piece)
-        ∙ sym (judged-by (entryIn b i) _ true true (active-of-piece true a) (allowed-of-piece true w))
+        ∙ sym (well-formed (entryIn b i) _ (active-of-piece true a) (allowed-of-piece true w))

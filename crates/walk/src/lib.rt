@@ -42,7 +42,7 @@ fn walk_top<'a>(
     let Look::Found(b) = look else {
         return visit::answer(m);
     };
-    visit::one_more(descent::visit_directory(log, end, waiting, b, 1, left - 1))
+    visit::one_more(descend::visit_directory(log, end, waiting, b, 1, left - 1))
 }
 
 // Visits a root, and what is below it. The score of the root before it isn't followed.

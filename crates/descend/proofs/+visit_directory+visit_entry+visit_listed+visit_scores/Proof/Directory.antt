@@ -1,13 +1,13 @@
--- `descent::visit_directory` meets its contract: the entries of the block in order.
+-- `descend::visit_directory` meets its contract: the entries of the block in order.
 use Prim.Native.Nat.{ℕ, _-_}
 use borrow.Author.Needs.{needs}
 use Rattle.block.specs.Log.{joined, bytesOf}
 use Rattle.descent.specs.Parts.{visitListed}
 use Rattle.descent.proofs.InOrder.{Rest, rest-at-first, all-done, rest-goes-on, refused-stops}
 use Rattle.descent.proofs.Listed.{wholes, entries-are-directory}
-use Rattle.descent.proofs.visit_directory.Reads.{Post}
-use Rattle.descent.proofs.+visit_directory+visit_entry+visit_listed+visit_scores.Lts-visit_directory as lts
-use Rattle.descent.proofs.+visit_directory+visit_entry+visit_listed+visit_scores.Proof.Calls.{directory-at, directory-calls}
+use Rattle.descend.proofs.visit_directory.Reads.{Post}
+use Rattle.descend.proofs.+visit_directory+visit_entry+visit_listed+visit_scores.Lts-visit_directory as lts
+use Rattle.descend.proofs.+visit_directory+visit_entry+visit_listed+visit_scores.Proof.Calls.{directory-at, directory-calls}
 
 abbrev Inv : lts.InvT-loop
 Inv log end waiting b nest left count visits₀ i₀ visits i =

@@ -1,14 +1,14 @@
--- `descent::visit_entry` meets its contract: by what was met, the level and the length.
+-- `descend::visit_entry` meets its contract: by what was met, the level and the length.
 use Prim.Native.Nat.{ℕ}
 use native.Mathlib.Omega.{arith}
 use borrow.Author.Needs.{needs}
 use borrow.Author.Tests.{not-true, not-false}
 use Rattle.block.specs.Log.{joined}
 use Rattle.visit.proofs.Visits.{in-both}
 use Rattle.descent.proofs.EntryBlocks.{EntryMet, block-known, refused-ends, leaf-ends, directory-below, ragged-is-refused, scores-below}
-use Rattle.descent.proofs.visit_entry.Reads.{Post}
-use Rattle.descent.proofs.+visit_directory+visit_entry+visit_listed+visit_scores.Lts-visit_entry as lts
-use Rattle.descent.proofs.+visit_directory+visit_entry+visit_listed+visit_scores.Proof.Calls.{entry-at-measure, entry-calls}
+use Rattle.descend.proofs.visit_entry.Reads.{Post}
+use Rattle.descend.proofs.+visit_directory+visit_entry+visit_listed+visit_scores.Lts-visit_entry as lts
+use Rattle.descend.proofs.+visit_directory+visit_entry+visit_listed+visit_scores.Proof.Calls.{entry-at-measure, entry-calls}
 
 module _ (t : ℕ) where
   -- where the function began: one `.before` for each lent slice

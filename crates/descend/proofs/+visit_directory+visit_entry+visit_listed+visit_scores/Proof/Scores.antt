@@ -1,14 +1,14 @@
--- `descent::visit_scores` meets its contract: the scores of the block in order.
+-- `descend::visit_scores` meets its contract: the scores of the block in order.
 use Prim.Native.Nat.{ℕ, _-_}
 use native.Mathlib.Omega.{arith}
 use borrow.Author.Needs.{needs}
 use Rattle.block.specs.Log.{joined, bytesOf}
 use Rattle.descent.specs.Descent.{visitEntry}
 use Rattle.descent.proofs.InOrder.{Rest, rest-at-first, all-done, rest-goes-on, refused-stops}
 use Rattle.descent.proofs.EntryBlocks.{scores-one-by-one, score-of-20, score-visited}
-use Rattle.descent.proofs.visit_scores.Reads.{Post}
-use Rattle.descent.proofs.+visit_directory+visit_entry+visit_listed+visit_scores.Lts-visit_scores as lts
-use Rattle.descent.proofs.+visit_directory+visit_entry+visit_listed+visit_scores.Proof.Calls.{scores-at, scores-calls}
+use Rattle.descend.proofs.visit_scores.Reads.{Post}
+use Rattle.descend.proofs.+visit_directory+visit_entry+visit_listed+visit_scores.Lts-visit_scores as lts
+use Rattle.descend.proofs.+visit_directory+visit_entry+visit_listed+visit_scores.Proof.Calls.{scores-at, scores-calls}
 
 abbrev Inv : lts.InvT-loop
 Inv log end waiting e b level nest left count visits₀ i₀ visits i =

@@ -1,14 +1,14 @@
--- `descent::visit_listed` meets its contract: by what the entry says.
+-- `descend::visit_listed` meets its contract: by what the entry says.
 use Prim.Native.Nat.{ℕ}
 use mathlib.Core.Path.{sym, _∙_}
 use native.Mathlib.Omega.{arith}
 use borrow.Author.Needs.{needs}
 use borrow.Author.Tests.{not-true, not-false}
 use Rattle.block.specs.Log.{joined, bytesOf}
 use Rattle.descent.proofs.Listed.{EntryRead, entry-read, depth-at-most-7, score-of-20, inactive-is-skipped, ill-formed-is-refused, well-formed-is-visited}
-use Rattle.descent.proofs.visit_listed.Reads.{Post}
-use Rattle.descent.proofs.+visit_directory+visit_entry+visit_listed+visit_scores.Lts-visit_listed as lts
-use Rattle.descent.proofs.+visit_directory+visit_entry+visit_listed+visit_scores.Proof.Calls.{listed-at, listed-calls}
+use Rattle.descend.proofs.visit_listed.Reads.{Post}
+use Rattle.descend.proofs.+visit_directory+visit_entry+visit_listed+visit_scores.Lts-visit_listed as lts
+use Rattle.descend.proofs.+visit_directory+visit_entry+visit_listed+visit_scores.Proof.Calls.{listed-at, listed-calls}
 
 module _ (t : ℕ) where
   -- where the function began: one `.before` for each lent slice

@@ -2,23 +2,23 @@
 use Prim.Native.Nat.{ℕ, _+_, _*_, _<_}
 use borrow.Fn.Kinds.{In}
 use borrow.Fn.PlainCycle.{Measures, is, falls, and}
-use Rattle.descent.proofs.visit_directory.Reads as directory
-use Rattle.descent.proofs.visit_directory.Kinds as directory-kinds
-use Rattle.descent.proofs.+visit_directory+visit_entry+visit_listed+visit_scores.Lts-visit_directory as directory-lts
-use Rattle.descent.proofs.visit_entry.Reads as entry
-use Rattle.descent.proofs.visit_entry.Kinds as entry-kinds
-use Rattle.descent.proofs.+visit_directory+visit_entry+visit_listed+visit_scores.Lts-visit_entry as entry-lts
-use Rattle.descent.proofs.visit_listed.Reads as listed
-use Rattle.descent.proofs.visit_listed.Kinds as listed-kinds
-use Rattle.descent.proofs.+visit_directory+visit_entry+visit_listed+visit_scores.Lts-visit_listed as listed-lts
-use Rattle.descent.proofs.visit_scores.Reads as scores
-use Rattle.descent.proofs.visit_scores.Kinds as scores-kinds
-use Rattle.descent.proofs.+visit_directory+visit_entry+visit_listed+visit_scores.Lts-visit_scores as scores-lts
+use Rattle.descend.proofs.visit_directory.Reads as directory
+use Rattle.descend.proofs.visit_directory.Kinds as directory-kinds
+use Rattle.descend.proofs.+visit_directory+visit_entry+visit_listed+visit_scores.Lts-visit_directory as directory-lts
+use Rattle.descend.proofs.visit_entry.Reads as entry
+use Rattle.descend.proofs.visit_entry.Kinds as entry-kinds
+use Rattle.descend.proofs.+visit_directory+visit_entry+visit_listed+visit_scores.Lts-visit_entry as entry-lts
+use Rattle.descend.proofs.visit_listed.Reads as listed
+use Rattle.descend.proofs.visit_listed.Kinds as listed-kinds
+use Rattle.descend.proofs.+visit_directory+visit_entry+visit_listed+visit_scores.Lts-visit_listed as listed-lts
+use Rattle.descend.proofs.visit_scores.Reads as scores
+use Rattle.descend.proofs.visit_scores.Kinds as scores-kinds
+use Rattle.descend.proofs.+visit_directory+visit_entry+visit_listed+visit_scores.Lts-visit_scores as scores-lts
 use Rattle.entry.proofs.entry_at.Reads as entry-at
 use Rattle.entry.proofs.is_well_formed.Reads as is-well-formed
 use Rattle.visit.proofs.answer.Reads as answer
 use Rattle.visit.proofs.entry_bytes.Reads as entry-bytes
 use Rattle.descent.proofs.nest_of.Reads as nest-of
 use Rattle.visit.proofs.one_more.Reads as one-more
 use Rattle.tree.proofs.score_at.Reads as score-at
 use Rattle.visit.proofs.visit_level.Reads as visit-level
