@@ -38,6 +38,16 @@ whole-within b i h = simp (length-take, length-drop) (omega arith)
 
 -- ---- what each side says
 
+-- no two of them are the same
+first-or-neither : First ≡ Neither → ⊥
+first-or-neither e = let z : _≡_ {A = ℕ} 0 1 = cc in omega arith
+
+second-or-neither : Second ≡ Neither → ⊥
+second-or-neither e = let z : _≡_ {A = ℕ} 0 1 = cc in omega arith
+
+first-or-second : First ≡ Second → ⊥
+first-or-second e = let z : _≡_ {A = ℕ} 0 1 = cc in omega arith
+
 abbrev sideBy : Bool → Bool → Bool → Side
 sideBy p q s = cond p (cond (q && s) Neither First) (cond q Second Neither)
 
@@ -54,9 +64,9 @@ module _ (a b : Bytes) (i : ℕ) where
     where
       go : (p q s : Bool) → active x ≡ p → active y ≡ q → same x y ≡ s → sideBy p q s ≡ Neither → Agree a b i
       go true true true p q s d = record { alike = p ∙ sym q; equal = λ h. same-true x y s }
-      go true true false p q s d = let z : _≡_ {A = ℕ} 0 1 = cc in absurd (omega arith)
-      go true false s′ p q s d = let z : _≡_ {A = ℕ} 0 1 = cc in absurd (omega arith)
-      go false true s′ p q s d = let z : _≡_ {A = ℕ} 0 1 = cc in absurd (omega arith)
+      go true true false p q s d = absurd (first-or-neither d)
+      go true false s′ p q s d = absurd (first-or-neither d)
+      go false true s′ p q s d = absurd (second-or-neither d)
       go false false s′ p q s d = record { alike = p ∙ sym q; equal = λ h. absurd (false≢true (sym p ∙ h)) }
 
   pub agrees-side : Agree a b i → sideOf x y ≡ Neither
@@ -75,19 +85,19 @@ module _ (a b : Bytes) (i : ℕ) where
     where
       go : (p q : Bool) → active x ≡ p → sideBy p q (same x y) ≡ First → active x ≡ true
       go true q p d = p
-      go false true p d = let z : _≡_ {A = ℕ} 0 1 = cc in absurd (omega arith)
-      go false false p d = let z : _≡_ {A = ℕ} 0 1 = cc in absurd (omega arith)
+      go false true p d = absurd (first-or-second (sym d))
+      go false false p d = absurd (first-or-neither (sym d))
 
   pub second-active : sideOf x y ≡ Second → (active x ≡ false) × (active y ≡ true)
   unfolding sideOf
   second-active e = go (active x) (active y) (same x y) refl refl e
     where
       go : (p q s : Bool) → active x ≡ p → active y ≡ q → sideBy p q s ≡ Second → (active x ≡ false) × (active y ≡ true)
-      go true true true p q d = let z : _≡_ {A = ℕ} 0 1 = cc in absurd (omega arith)
-      go true true false p q d = let z : _≡_ {A = ℕ} 0 1 = cc in absurd (omega arith)
-      go true false s p q d = let z : _≡_ {A = ℕ} 0 1 = cc in absurd (omega arith)
+      go true true true p q d = absurd (second-or-neither (sym d))
+      go true true false p q d = absurd (first-or-second d)
+      go true false s p q d = absurd (first-or-second d)
       go false true s p q d = (p, q)
-      go false false s p q d = let z : _≡_ {A = ℕ} 0 1 = cc in absurd (omega arith)
+      go false false s p q d = absurd (second-or-neither (sym d))
 
 -- ---- which of two entries is handed back
 
