@@ -26,7 +26,7 @@ use Rattle.descent.proofs.Padded.{root-padded}
 use Rattle.walk.specs.Walk.{mostAllowance}
 use Rattle.copying.specs.Copy.{Copied, copied, stopped, kept, copyDirectory, copyTop, copyRoot, copyIn, copyAllowed}
 use Rattle.copying.specs.Parts.{copyBelowRoot}
-use Rattle.copy.proofs.EntryBlocks.{refused-visit, found-visit}
+use Rattle.copy_below.proofs.EntryBlocks.{refused-visit, found-visit}
 
 -- ---- the directory block of a root
 

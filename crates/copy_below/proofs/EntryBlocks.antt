@@ -24,7 +24,7 @@ use Rattle.visit.specs.Met.{metOf, endOf, answerOf}
 use Rattle.visit.proofs.Visits.{any-refused, any-found, Known, found-known, spent-within}
 use Rattle.copying.specs.Copy.{Copied, copied, stopped, kept, copyVisit, copyInOrder, copyDirectory, copyEntry}
 use Rattle.copying.specs.Parts.{copyScores, copyBelow}
-use Rattle.copy.proofs.InOrder.{OfAll}
+use Rattle.copy_below.proofs.InOrder.{OfAll}
 
 -- ---- a visit
 

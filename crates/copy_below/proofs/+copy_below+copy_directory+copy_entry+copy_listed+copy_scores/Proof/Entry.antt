@@ -1,4 +1,4 @@
--- `copy::copy_entry` meets its contract: by what was met.
+-- `copy_below::copy_entry` meets its contract: by what was met.
 use Prim.Native.Nat.{ℕ, _+_, _<_, _^_}
 use native.Mathlib.Omega.{arith}
 use borrow.Author.Needs.{needs}
@@ -9,10 +9,10 @@ use Rattle.visit.proofs.Visits.{Known, in-both}
 use Rattle.tree.specs.Tree.{typeAt, countAt}
 use Rattle.buffer.specs.Bytes.{Bytes}
 use mathlib.Core.Path.{_≡_}
-use Rattle.copy.proofs.EntryBlocks.{block-known, refused-ends, kept-behind}
-use Rattle.copy.proofs.copy_entry.Reads.{Post}
-use Rattle.copy.proofs.+copy_below+copy_directory+copy_entry+copy_listed+copy_scores.Lts-copy_entry as lts
-use Rattle.copy.proofs.+copy_below+copy_directory+copy_entry+copy_listed+copy_scores.Proof.Calls.{entry-at, entry-calls}
+use Rattle.copy_below.proofs.EntryBlocks.{block-known, refused-ends, kept-behind}
+use Rattle.copy_below.proofs.copy_entry.Reads.{Post}
+use Rattle.copy_below.proofs.+copy_below+copy_directory+copy_entry+copy_listed+copy_scores.Lts-copy_entry as lts
+use Rattle.copy_below.proofs.+copy_below+copy_directory+copy_entry+copy_listed+copy_scores.Proof.Calls.{entry-at, entry-calls}
 
 module _ (t : ℕ) where
   -- where the function began: one `.before` for each lent slice

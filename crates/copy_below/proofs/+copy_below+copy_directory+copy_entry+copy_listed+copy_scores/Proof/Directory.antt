@@ -1,4 +1,4 @@
--- `copy::copy_directory` meets its contract: the entries of the block in order.
+-- `copy_below::copy_directory` meets its contract: the entries of the block in order.
 use mathlib.Core.Path.{_≡_, refl}
 use Prim.Native.Nat.{ℕ, _-_}
 use lib.ListN.{length}
@@ -6,11 +6,11 @@ use borrow.Author.Needs.{needs}
 use Rattle.block.specs.Log.{joined, bytesOf}
 use Rattle.descent.proofs.Listed.{wholes}
 use Rattle.copying.specs.Parts.{copyListed}
-use Rattle.copy.proofs.InOrder.{Rest, rest-at-first, all-done, rest-goes-on, refused-stops}
-use Rattle.copy.proofs.Listed.{entries-are-directory}
-use Rattle.copy.proofs.copy_directory.Reads.{Post}
-use Rattle.copy.proofs.+copy_below+copy_directory+copy_entry+copy_listed+copy_scores.Lts-copy_directory as lts
-use Rattle.copy.proofs.+copy_below+copy_directory+copy_entry+copy_listed+copy_scores.Proof.Calls.{directory-at, directory-calls}
+use Rattle.copy_below.proofs.InOrder.{Rest, rest-at-first, all-done, rest-goes-on, refused-stops}
+use Rattle.copy_below.proofs.Listed.{entries-are-directory}
+use Rattle.copy_below.proofs.copy_directory.Reads.{Post}
+use Rattle.copy_below.proofs.+copy_below+copy_directory+copy_entry+copy_listed+copy_scores.Lts-copy_directory as lts
+use Rattle.copy_below.proofs.+copy_below+copy_directory+copy_entry+copy_listed+copy_scores.Proof.Calls.{directory-at, directory-calls}
 
 abbrev Inv : lts.InvT-loop
 Inv log end waiting second₀ date b nest left count visits₀ i₀ second visits i =

@@ -1,4 +1,4 @@
--- `copy::store_block` meets its contract: what is copied out and stored are the block's bytes.
+-- `keep::store_block` meets its contract: what is copied out and stored are the block's bytes.
 use mathlib.Core.Path.{_≡_, sym, ap, _∙_}
 use native.Mathlib.Omega.{arith}
 use lib.ListN.{length}
@@ -6,9 +6,9 @@ use borrow.Author.Needs.{needs}
 use Rattle.buffer.specs.Bytes.{Bytes}
 use Rattle.block.specs.Log.{joined, bytesOf}
 use Rattle.reader.proofs.Pieces.{length-bytes}
-use Rattle.copy.proofs.Kept.{front-of-page, block-stored}
-use Rattle.copy.proofs.store_block.Statement.{statement}
-use Rattle.copy.proofs.store_block.Tie as tie
+use Rattle.keep.proofs.Kept.{front-of-page, block-stored}
+use Rattle.keep.proofs.store_block.Statement.{statement}
+use Rattle.keep.proofs.store_block.Tie as tie
 
 -- where the function began: one `.before` for each lent slice and for the page
 abbrev start : tie.After-copy-out → tie.Start

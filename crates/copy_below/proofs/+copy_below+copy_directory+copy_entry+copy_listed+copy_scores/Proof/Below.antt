@@ -1,13 +1,13 @@
--- `copy::copy_below` meets its contract: by the level and the length.
+-- `copy_below::copy_below` meets its contract: by the level and the length.
 use Prim.Native.Nat.{ℕ}
 use native.Mathlib.Omega.{arith}
 use borrow.Author.Needs.{needs}
 use borrow.Author.Tests.{not-true, not-false}
 use Rattle.block.specs.Log.{joined}
-use Rattle.copy.proofs.EntryBlocks.{below-leaf, below-directory, below-ragged, below-scores}
-use Rattle.copy.proofs.copy_below.Reads.{Post}
-use Rattle.copy.proofs.+copy_below+copy_directory+copy_entry+copy_listed+copy_scores.Lts-copy_below as lts
-use Rattle.copy.proofs.+copy_below+copy_directory+copy_entry+copy_listed+copy_scores.Proof.Calls.{below-at, below-calls}
+use Rattle.copy_below.proofs.EntryBlocks.{below-leaf, below-directory, below-ragged, below-scores}
+use Rattle.copy_below.proofs.copy_below.Reads.{Post}
+use Rattle.copy_below.proofs.+copy_below+copy_directory+copy_entry+copy_listed+copy_scores.Lts-copy_below as lts
+use Rattle.copy_below.proofs.+copy_below+copy_directory+copy_entry+copy_listed+copy_scores.Proof.Calls.{below-at, below-calls}
 
 module _ (t : ℕ) where
   leaf : lts.Need-returns (below-calls t) (below-at t) Post

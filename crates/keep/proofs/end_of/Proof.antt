@@ -1,7 +1,7 @@
--- `copy::end_of` meets its contract: by what the store did.
+-- `keep::end_of` meets its contract: by what the store did.
 use borrow.Author.Needs.{needs}
-use Rattle.copy.proofs.end_of.Statement.{statement}
-use Rattle.copy.proofs.end_of.Tie as tie
+use Rattle.keep.proofs.end_of.Statement.{statement}
+use Rattle.keep.proofs.end_of.Tie as tie
 
 refused : tie.Need-returns-3
 refused c = rw (c .before .stored .given .1)

@@ -18,7 +18,7 @@ use Rattle.descent.specs.Parts.{entryIn}
 use Rattle.descent.proofs.Listed.{wholes, EntryRead, bytes-are-piece, entry-of-piece, active-of-piece, allowed-of-piece}
 use Rattle.copying.specs.Copy.{Copied, copied, stopped, copyInOrder, judgedCopy, copyDirectory, copyEntry}
 use Rattle.copying.specs.Parts.{copyListed}
-use Rattle.copy.proofs.InOrder.{OfAll}
+use Rattle.copy_below.proofs.InOrder.{OfAll}
 
 -- the entries of a block at its place in the log, one after the other, are its directory
 pub entries-are-directory : (log date : Bytes) (nest : ℕ) (b : Block) → b .label < 499 → (left : ℕ) (s₀ : Bytes) (v : Walked) (s : Bytes)

@@ -1,4 +1,4 @@
--- `copy::copy_scores` meets its contract: the scores of the block in order.
+-- `copy_below::copy_scores` meets its contract: the scores of the block in order.
 use mathlib.Core.Path.{_≡_, refl}
 use Prim.Native.Nat.{ℕ, _-_}
 use native.Mathlib.Omega.{arith}
@@ -7,11 +7,11 @@ use borrow.Author.Needs.{needs}
 use Rattle.block.specs.Log.{joined, bytesOf}
 use Rattle.descent.proofs.EntryBlocks.{score-of-20}
 use Rattle.copying.specs.Copy.{copyEntry}
-use Rattle.copy.proofs.InOrder.{Rest, rest-at-first, all-done, rest-goes-on, refused-stops}
-use Rattle.copy.proofs.EntryBlocks.{scores-one-by-one, score-copied}
-use Rattle.copy.proofs.copy_scores.Reads.{Post}
-use Rattle.copy.proofs.+copy_below+copy_directory+copy_entry+copy_listed+copy_scores.Lts-copy_scores as lts
-use Rattle.copy.proofs.+copy_below+copy_directory+copy_entry+copy_listed+copy_scores.Proof.Calls.{scores-at, scores-calls}
+use Rattle.copy_below.proofs.InOrder.{Rest, rest-at-first, all-done, rest-goes-on, refused-stops}
+use Rattle.copy_below.proofs.EntryBlocks.{scores-one-by-one, score-copied}
+use Rattle.copy_below.proofs.copy_scores.Reads.{Post}
+use Rattle.copy_below.proofs.+copy_below+copy_directory+copy_entry+copy_listed+copy_scores.Lts-copy_scores as lts
+use Rattle.copy_below.proofs.+copy_below+copy_directory+copy_entry+copy_listed+copy_scores.Proof.Calls.{scores-at, scores-calls}
 
 abbrev Inv : lts.InvT-loop
 Inv log end waiting second₀ date e b level nest left count visits₀ i₀ second visits i =

@@ -1,4 +1,4 @@
--- `copy::copy_listed` meets its contract: by what the entry says.
+-- `copy_below::copy_listed` meets its contract: by what the entry says.
 use Prim.Native.Nat.{ℕ}
 use mathlib.Core.Path.{sym, _∙_}
 use native.Mathlib.Omega.{arith}
@@ -6,10 +6,10 @@ use borrow.Author.Needs.{needs}
 use borrow.Author.Tests.{not-true, not-false}
 use Rattle.block.specs.Log.{joined, bytesOf}
 use Rattle.descent.proofs.Listed.{EntryRead, entry-read, depth-at-most-7, score-of-20}
-use Rattle.copy.proofs.Listed.{inactive-is-skipped, ill-formed-is-refused, well-formed-is-copied}
-use Rattle.copy.proofs.copy_listed.Reads.{Post}
-use Rattle.copy.proofs.+copy_below+copy_directory+copy_entry+copy_listed+copy_scores.Lts-copy_listed as lts
-use Rattle.copy.proofs.+copy_below+copy_directory+copy_entry+copy_listed+copy_scores.Proof.Calls.{listed-at, listed-calls}
+use Rattle.copy_below.proofs.Listed.{inactive-is-skipped, ill-formed-is-refused, well-formed-is-copied}
+use Rattle.copy_below.proofs.copy_listed.Reads.{Post}
+use Rattle.copy_below.proofs.+copy_below+copy_directory+copy_entry+copy_listed+copy_scores.Lts-copy_listed as lts
+use Rattle.copy_below.proofs.+copy_below+copy_directory+copy_entry+copy_listed+copy_scores.Proof.Calls.{listed-at, listed-calls}
 
 module _ (t : ℕ) where
   -- where the function began: one `.before` for each lent slice

@@ -1,9 +1,9 @@
--- `copy::keep` meets its contract: by how all below the block ended.
+-- `keep::keep` meets its contract: by how all below the block ended.
 use mathlib.Core.Path.{refl}
 use borrow.Author.Needs.{needs}
-use Rattle.copy.proofs.Kept.{below-refused, below-done}
-use Rattle.copy.proofs.keep.Statement.{statement}
-use Rattle.copy.proofs.keep.Tie as tie
+use Rattle.keep.proofs.Kept.{below-refused, below-done}
+use Rattle.keep.proofs.keep.Statement.{statement}
+use Rattle.keep.proofs.keep.Tie as tie
 
 refused : tie.Need-returns
 refused c =
