@@ -1,1 +1,1 @@
-pub mod FromRoot
+pub mod Tests

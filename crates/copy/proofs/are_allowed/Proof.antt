@@ -2,7 +2,7 @@
 use borrow.Author.Needs.{needs}
 use borrow.Author.Tests.{not-true, not-false}
 use mathlib.Core.Path.{sym, _∙_}
-use Rattle.copy.proofs.FromRoot.{parts-refused, parts-allowed}
+use Rattle.copy.proofs.Tests.{parts-refused, parts-allowed}
 use Rattle.copy.proofs.are_allowed.Statement.{statement}
 use Rattle.copy.proofs.are_allowed.Tie as tie
 

@@ -6,7 +6,7 @@ use Rattle.block.specs.Log.{joined}
 use Rattle.log.specs.Parts.{tape}
 use Rattle.sector.proofs.Dates.{date-length}
 use Rattle.copying.proofs.SameSectors.{root-alike}
-use Rattle.copy.proofs.FromRoot.{log-not-allowed, not-a-date, allowance-too-large, tests-passed}
+use Rattle.copy.proofs.Tests.{log-not-allowed, not-a-date, allowance-too-large, tests-passed}
 use Rattle.copy.proofs.copy.Statement.{statement}
 use Rattle.copy.proofs.copy.Tie as tie
 

@@ -1,21 +1,19 @@
--- A copy from its root: the tests, the root, and its directory block.
+-- A copy from its root: the root, and its directory block.
 use mathlib.Core.Path.{_≡_, sym, ap, _∙_}
-use mathlib.Core.Bool.{Bool, true, false, cond, _&&_}
+use mathlib.Core.Bool.{Bool, true, false}
 use Prim.Native.Nat.{ℕ, _+_, _-_, _≤_, _<_}
 use native.Mathlib.Omega.{arith}
-use borrow.Author.Tests.{lt-ltb, le-ltb}
 use lib.ListN.{length, take, drop}
 use Rattle.buffer.specs.Bytes.{Bytes}
 use Rattle.refusal.specs.declared.Refusal.{Refusal}
-use Rattle.refusal.specs.declared.Refusal.the-variants.{LogLength, Entry as IllFormed, Allowance, Date}
+use Rattle.refusal.specs.declared.Refusal.the-variants.{Entry as IllFormed}
 use Rattle.kind.specs.Kind.{longest}
-use Rattle.sector.specs.Sector.{isDate, filled}
+use Rattle.sector.specs.Sector.{filled}
 use Rattle.block.specs.declared.Block.{Block}
 use Rattle.block.specs.Log.{bytesOf}
 use Rattle.reader.proofs.Pieces.{length-bytes}
 use Rattle.log.specs.declared.Look.the-variants.{Found, Refused}
-use Rattle.log.specs.LookUp.{logAllowed, lentAllowed}
-use Rattle.entry.specs.Root.{rootWellFormed, rootScore}
+use Rattle.entry.specs.Root.{rootWellFormed}
 use Rattle.visit.specs.declared.Walked.{Walked}
 use Rattle.visit.specs.declared.Met.{Met}
 use Rattle.visit.specs.declared.End.the-variants.{Refused as Stopped}
@@ -23,8 +21,7 @@ use Rattle.visit.specs.Met.{metOf, answerOf}
 use Rattle.visit.proofs.Visits.{Known, found-known, spent-within}
 use Rattle.descent.specs.Descent.{paddedTo}
 use Rattle.descent.proofs.Padded.{root-padded}
-use Rattle.walk.specs.Walk.{mostAllowance}
-use Rattle.copying.specs.Copy.{Copied, copied, stopped, kept, copyDirectory, copyTop, copyRoot, copyIn, copyAllowed}
+use Rattle.copying.specs.Copy.{Copied, copied, stopped, kept, copyDirectory, copyTop, copyRoot}
 use Rattle.copying.specs.Parts.{copyBelowRoot}
 use Rattle.copy_below.proofs.EntryBlocks.{refused-visit, found-visit}
 
@@ -76,31 +73,3 @@ module _ (log date score : Bytes) (left : ℕ) (s₀ : Bytes) (m : Met) (em : m 
       ex ∙ sym (root-padded (bytesOf log b) (omega (arith, length-bytes log b (K .in-log .1), K .counted-in))) in
       q ∙ ap (kept date 1 (bytesOf log b)) (B ∙ ap (λ (u : Bytes). copyBelowRoot log date (left - 1) u s₀) y)
       ∙ found-visit log date 0 left 1 300 score m em (λ b′ s′. copyBelowRoot log date (left - 1) (paddedTo 300 b′) s′) s₀ b d
-
--- ---- the tests of a copy
-
-pub parts-refused : (m w k : ℕ) → lentAllowed m w ≡ false → false ≡ copyAllowed m w k
-unfolding copyAllowed
-parts-refused m w k e = rw e
-
-pub parts-allowed : (m w k : ℕ) (r : Bool) → lentAllowed m w ≡ true → r ≡ logAllowed k → r ≡ copyAllowed m w k
-unfolding copyAllowed
-parts-allowed m w k r e h = rw e h
-
-module _ (lent : Bool) (log date score : Bytes) (allowance : ℕ) (s₀ : Bytes) (a : Bool) (e : a ≡ lent) where
-  pub log-not-allowed : a ≡ false → stopped 0 (Stopped LogLength) s₀ ≡ copyIn lent log date score allowance s₀
-  unfolding copyIn
-  log-not-allowed q = rw (sym e ∙ q)
-
-  module _ (q : a ≡ true) (d : Bool) (ed : d ≡ isDate date) where
-    pub not-a-date : d ≡ false → stopped 0 (Stopped Date) s₀ ≡ copyIn lent log date score allowance s₀
-    unfolding copyIn
-    not-a-date z = rw (sym e ∙ q, sym ed ∙ z)
-
-    pub allowance-too-large : d ≡ true → mostAllowance < allowance → stopped 0 (Stopped Allowance) s₀ ≡ copyIn lent log date score allowance s₀
-    unfolding copyIn
-    allowance-too-large z h = rw (sym e ∙ q, sym ed ∙ z, lt-ltb mostAllowance allowance h)
-
-    pub tests-passed : d ≡ true → allowance ≤ mostAllowance → (c : Copied) → c ≡ copyRoot log date score allowance s₀ → c ≡ copyIn lent log date score allowance s₀
-    unfolding copyIn
-    tests-passed z h c k = rw (sym e ∙ q, sym ed ∙ z, le-ltb mostAllowance allowance h) k

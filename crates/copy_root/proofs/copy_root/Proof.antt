@@ -1,12 +1,12 @@
--- `copy::copy_root` meets its contract: refused, or kept behind all that it reaches.
+-- `copy_root::copy_root` meets its contract: refused, or kept behind all that it reaches.
 use Prim.Native.Nat.{_+_, _<_, _^_}
 use native.Mathlib.Omega.{arith}
 use borrow.Author.Needs.{needs}
 use Rattle.block.specs.Log.{joined}
 use Rattle.visit.proofs.Visits.{Known, found-known, in-both}
-use Rattle.copy.proofs.FromRoot.{root-refused, root-kept}
-use Rattle.copy.proofs.copy_root.Statement.{statement}
-use Rattle.copy.proofs.copy_root.Tie as tie
+use Rattle.copy_root.proofs.FromRoot.{root-refused, root-kept}
+use Rattle.copy_root.proofs.copy_root.Statement.{statement}
+use Rattle.copy_root.proofs.copy_root.Tie as tie
 
 -- where the function began: one `.before` for each lent slice
 abbrev start : tie.After-visit → tie.Start

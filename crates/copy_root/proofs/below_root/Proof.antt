@@ -1,11 +1,11 @@
--- `copy::below_root` meets its contract: ill-formed, or the directory block.
+-- `copy_root::below_root` meets its contract: ill-formed, or the directory block.
 use native.Mathlib.Omega.{arith}
 use borrow.Author.Needs.{needs}
 use borrow.Author.Tests.{not-true, not-false}
 use Rattle.block.specs.Log.{joined}
-use Rattle.copy.proofs.FromRoot.{ill-formed-root, well-formed-root}
-use Rattle.copy.proofs.below_root.Statement.{statement}
-use Rattle.copy.proofs.below_root.Tie as tie
+use Rattle.copy_root.proofs.FromRoot.{ill-formed-root, well-formed-root}
+use Rattle.copy_root.proofs.below_root.Statement.{statement}
+use Rattle.copy_root.proofs.below_root.Tie as tie
 
 -- where the function began: one `.before` for each lent slice
 abbrev start : tie.After-is-root → tie.Start

@@ -1,13 +1,13 @@
--- `copy::copy_top` meets its contract: refused, or kept behind the directory's entries.
+-- `copy_root::copy_top` meets its contract: refused, or kept behind the directory's entries.
 use Prim.Native.Nat.{_+_, _<_, _^_}
 use native.Mathlib.Omega.{arith}
 use borrow.Author.Needs.{needs}
 use Rattle.kind.specs.Kind.{longest}
 use Rattle.block.specs.Log.{joined}
 use Rattle.visit.proofs.Visits.{Known, found-known, in-both}
-use Rattle.copy.proofs.FromRoot.{top-refused, top-kept}
-use Rattle.copy.proofs.copy_top.Statement.{statement}
-use Rattle.copy.proofs.copy_top.Tie as tie
+use Rattle.copy_root.proofs.FromRoot.{top-refused, top-kept}
+use Rattle.copy_root.proofs.copy_top.Statement.{statement}
+use Rattle.copy_root.proofs.copy_top.Tie as tie
 
 -- where the function began: one `.before` for each lent slice
 abbrev start : tie.After-visit → tie.Start
