@@ -6,6 +6,7 @@ pub use block_bytes::same_bytes;
 use kind::LONGEST;
 use sector::KIND;
 use sector::LABEL;
+use sector::Label;
 use sector::SCORE;
 use sector::SECTOR;
 use sector::SIZE;
@@ -65,10 +66,22 @@ fn sound_behind<'a>(
         return Place::Nowhere;
     }
     let b = Block { first, size, label };
-    if !block_tests::labels_agree(log, end, waiting, front, b, kind, score) {
+    // The first label tells most other blocks apart. The checks go through all bytes in order, and the other labels come after them.
+    let l = Label {
+        first,
+        part: 0,
+        of,
+        kind,
+        size,
+    };
+    let s = two_runs::sector_at(log, end, waiting, first);
+    if !sector_lines::has_label(s, front, l, score) {
         return Place::Nowhere;
     }
     if !block_tests::checks_fit(log, end, waiting, first, of) {
+        return Place::Nowhere;
+    }
+    if !block_tests::labels_agree(log, end, waiting, front, b, kind, score) {
         return Place::Nowhere;
     }
     if !block_tests::rest_is_zero(log, end, waiting, b) {
