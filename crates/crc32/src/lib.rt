@@ -83,16 +83,16 @@ pub fn by_digits(low: &[u32; 256], high: &[u32; 256], s: &[u8]) -> u32
     rest(high, r, &s[whole..]) ^ 0xffff_ffff
 }
 
-// The CRC-32 of s. Below 128 bytes two tables of digits cost more than they gain.
+// The CRC-32 of s. A short string goes by the table of bytes, and one below 128 bytes by one table of digits: a second costs more than it gains.
 pub fn crc32(s: &[u8]) -> u32
     ensures { λ r. ⌜ r ≡ crc32Of (now (s .entry)) ⌝ }
 {
-    if s.len() < 128 {
+    if s.len() < 16 {
         return update(0xffff_ffff, s) ^ 0xffff_ffff;
     }
-    by_digits(
-        &crc32_tables::digits::low(),
-        &crc32_tables::digits::high(),
-        s,
-    )
+    let high = crc32_tables::digits::high();
+    if s.len() < 128 {
+        return rest(&high, 0xffff_ffff, s) ^ 0xffff_ffff;
+    }
+    by_digits(&crc32_tables::digits::low(), &high, s)
 }
