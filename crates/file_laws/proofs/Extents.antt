@@ -16,7 +16,6 @@ use Rattle.log.specs.Parts.{tape}
 use Rattle.leaf.specs.declared.Extent.{Extent}
 use Rattle.leaf.specs.declared.Extent.the-variants.{Stored, Zeros, Refused}
 use Rattle.file.specs.declared.Located.{Located}
-use Rattle.file.specs.declared.Located.the-variants as part
 use Rattle.file.specs.File.{extentAt, split, located}
 use Rattle.file.proofs.Inside.{Inside, extent-in, one-part}
 use Rattle.file_laws.specs.Path.{Answers}

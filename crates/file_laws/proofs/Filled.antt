@@ -22,7 +22,6 @@ use Rattle.entry.specs.declared.Entry.{Entry}
 use Rattle.entry.specs.Entry.{entryOf}
 use Rattle.leaf.specs.declared.Extent.{Extent}
 use Rattle.leaf.specs.declared.Extent.the-variants as run
-use Rattle.file.specs.declared.Located.the-variants as part
 use Rattle.file.specs.File.{pageAllowed, entryReadable, extentAt, split, located}
 use Rattle.file.proofs.Tests.{stops-log, stops-entry, stops-offset}
 use Rattle.fill.specs.declared.Stop.the-variants.{Refused}

@@ -5,9 +5,6 @@ use Rattle.answer.proofs.Returns.{outcome, head-block}
 use borrow.Author.Needs.{needs}
 use Rattle.answer.proofs.answer_read.Statement.{statement}
 use Rattle.answer.proofs.answer_read.Tie as tie
-use Rattle.answer.proofs.answer_read.Reads as reads
-use Rattle.answer.proofs.answer_read.Lts as lts
-use Rattle.reply.proofs.write_head.Reads as write-head-reads
 
 -- src/lib.rt:123:5
 write-head-requires : tie.Need-write-head-requires

@@ -5,10 +5,6 @@ use Rattle.append.proofs.Images.{front-short, room-behind, dated-writte
 use borrow.Author.Needs.{needs}
 use Rattle.append.proofs.append_block.Statement.{statement}
 use Rattle.append.proofs.append_block.Tie as tie
-use Rattle.append.proofs.append_block.Reads as reads
-use Rattle.append.proofs.append_block.Lts as lts
-use Rattle.append.proofs.write_parts.Reads as write-parts-reads
-use Rattle.sector_lines.proofs.write_front.Reads as write-front-reads
 
 -- src/lib.rt:92:25
 slice-aggregate-write-front : tie.Need-slice-aggregate-write-front

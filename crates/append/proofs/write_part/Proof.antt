@@ -8,12 +8,6 @@ use Rattle.append.proofs.Images.{start-behind, sector-made}
 use borrow.Author.Needs.{needs}
 use Rattle.append.proofs.write_part.Statement.{statement}
 use Rattle.append.proofs.write_part.Tie as tie
-use Rattle.append.proofs.write_part.Reads as reads
-use Rattle.append.proofs.write_part.Lts as lts
-use Rattle.append.proofs.smaller.Reads as smaller-reads
-use Rattle.block.proofs.parts_of.Reads as parts-of-reads
-use Rattle.block.proofs.payload_of.Reads as payload-of-reads
-use Rattle.sector_lines.proofs.write_sector.Reads as write-sector-reads
 
 -- src/lib.rt:39:17
 add-label : tie.Need-add-label

@@ -11,10 +11,6 @@ use Rattle.append.proofs.Images.{sectors-more}
 use borrow.Author.Needs.{needs}
 use Rattle.append.proofs.write_parts.Statement.{statement}
 use Rattle.append.proofs.write_parts.Tie as tie
-use Rattle.append.proofs.write_parts.Reads as reads
-use Rattle.append.proofs.write_parts.Lts as lts
-use Rattle.append.proofs.write_part.Reads as write-part-reads
-use Rattle.block.proofs.parts_of.Reads as parts-of-reads
 
 abbrev Inv-loop : tie.InvT-loop
 Inv-loop part₀ front first kind score «data» count k₀ part k =

@@ -5,9 +5,6 @@ use Rattle.block.specs.Block.{partsOf}
 use borrow.Author.Needs.{needs}
 use Rattle.block.proofs.parts_of.Statement.{statement}
 use Rattle.block.proofs.parts_of.Tie as tie
-use Rattle.block.proofs.parts_of.Reads as reads
-use Rattle.block.proofs.parts_of.Lts as lts
-use Rattle.block.proofs.payload_of.Reads as payload-of-reads
 
 -- src/lib.rt:30:9
 payload-of-requires : tie.Need-payload-of-requires

@@ -13,8 +13,6 @@ use Rattle.buffer.proofs.Steps.{same-step, same-differ, same-lengths, s
 use borrow.Author.Needs.{needs}
 use Rattle.buffer.proofs.clear.Statement.{statement}
 use Rattle.buffer.proofs.clear.Tie as tie
-use Rattle.buffer.proofs.clear.Reads as reads
-use Rattle.buffer.proofs.clear.Lts as lts
 
 abbrev Inv-loop : tie.InvT-loop
 Inv-loop d₀ i₀ d i = (i ≤ length d₀) × (length d ≡ length d₀) × (d ≡ replicate i 0 ++ drop i d₀)

@@ -13,8 +13,6 @@ use Rattle.buffer.proofs.Steps.{same-step, same-differ, same-lengths, s
 use borrow.Author.Needs.{needs}
 use Rattle.buffer.proofs.copy_at.Statement.{statement}
 use Rattle.buffer.proofs.copy_at.Tie as tie
-use Rattle.buffer.proofs.copy_at.Reads as reads
-use Rattle.buffer.proofs.copy_at.Lts as lts
 
 abbrev Inv-loop : tie.InvT-loop
 Inv-loop d₀ at s i₀ d i = (i ≤ length s) × (length d ≡ length d₀) × (d ≡ paste d₀ at s i)

@@ -12,8 +12,6 @@ use Rattle.buffer.proofs.Steps.{same-step, same-differ, same-lengths, s
 use borrow.Author.Needs.{needs}
 use Rattle.buffer.proofs.equal.Statement.{statement}
 use Rattle.buffer.proofs.equal.Tie as tie
-use Rattle.buffer.proofs.equal.Reads as reads
-use Rattle.buffer.proofs.equal.Lts as lts
 
 abbrev Inv-loop : tie.InvT-loop
 Inv-loop a b i₀ i = (i ≤ length a) × (length a ≡ length b) × (same (drop i a) (drop i b) ≡ same a b)

@@ -12,8 +12,6 @@ use Rattle.buffer.proofs.Steps.{same-step, same-differ, same-lengths, s
 use borrow.Author.Needs.{needs}
 use Rattle.buffer.proofs.is_zero.Statement.{statement}
 use Rattle.buffer.proofs.is_zero.Tie as tie
-use Rattle.buffer.proofs.is_zero.Reads as reads
-use Rattle.buffer.proofs.is_zero.Lts as lts
 
 abbrev Inv-loop : tie.InvT-loop
 Inv-loop s seen₀ i₀ seen i = (i ≤ length s) × ((eqb seen 0 && zeros (drop i s)) ≡ zeros s)

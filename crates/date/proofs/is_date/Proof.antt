@@ -7,8 +7,6 @@ use Rattle.date.proofs.Digits.{decimal, too-low, too-high, of-eight, no
 use borrow.Author.Needs.{needs}
 use Rattle.date.proofs.is_date.Statement.{statement}
 use Rattle.date.proofs.is_date.Tie as tie
-use Rattle.date.proofs.is_date.Reads as reads
-use Rattle.date.proofs.is_date.Lts as lts
 
 abbrev Inv-loop : tie.InvT-loop
 Inv-loop d i₀ i = (i ≤ length d) × (length d ≡ 8) × (decimals (drop i d) ≡ decimals d)

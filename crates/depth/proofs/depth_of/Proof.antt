@@ -3,9 +3,6 @@ use Rattle.writer.proofs.Depth.{dsize-under, dsize-over, psize-under, psize-ove
 use borrow.Author.Needs.{needs}
 use Rattle.depth.proofs.depth_of.Statement.{statement}
 use Rattle.depth.proofs.depth_of.Tie as tie
-use Rattle.depth.proofs.depth_of.Reads as reads
-use Rattle.depth.proofs.depth_of.Lts as lts
-use Rattle.depth.proofs.least_depth.Reads as least-depth-reads
 
 -- src/lib.rt:218:9
 returns : tie.Need-returns

@@ -4,8 +4,6 @@ use Rattle.writer.proofs.Depth.{Seeking, seeking-start, seeking-found, seeking-
 use borrow.Author.Needs.{needs}
 use Rattle.depth.proofs.least_depth.Statement.{statement}
 use Rattle.depth.proofs.least_depth.Tie as tie
-use Rattle.depth.proofs.least_depth.Reads as reads
-use Rattle.depth.proofs.least_depth.Lts as lts
 
 abbrev Inv-loop : tie.InvT-loop
 Inv-loop n dsize p room₀ d₀ room d = Seeking n dsize p room d

@@ -13,10 +13,6 @@ use Rattle.doubt.proofs.Walk.{Passed, walk-stops, walk-on, walk-ends}
 use borrow.Author.Needs.{needs}
 use Rattle.doubt.proofs.first_doubtful.Statement.{statement}
 use Rattle.doubt.proofs.first_doubtful.Tie as tie
-use Rattle.doubt.proofs.first_doubtful.Reads as reads
-use Rattle.doubt.proofs.first_doubtful.Lts as lts
-use Rattle.block.proofs.parts_of.Reads as parts-of-reads
-use Rattle.reader.proofs.sound_at.Reads as sound-at-reads
 
 abbrev Inv-loop : tie.InvT-loop
 Inv-loop log end waiting last n₀ n =

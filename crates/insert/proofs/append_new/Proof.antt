@@ -12,10 +12,6 @@ use Rattle.insert.proofs.Inserted.{no-room, room, parts-dated}
 use borrow.Author.Needs.{needs}
 use Rattle.insert.proofs.append_new.Statement.{statement}
 use Rattle.insert.proofs.append_new.Tie as tie
-use Rattle.insert.proofs.append_new.Reads as reads
-use Rattle.insert.proofs.append_new.Lts as lts
-use Rattle.append.proofs.append_block.Reads as append-block-reads
-use Rattle.block.proofs.parts_of.Reads as parts-of-reads
 
 -- src/lib.rt:40:9
 used-part-requires : tie.Need-used-part-requires

@@ -4,9 +4,6 @@ use Rattle.lookup.proofs.Outcomes.{count-refused, count-over, count-fou
 use borrow.Author.Needs.{needs}
 use Rattle.lookup.proofs.fetch.Statement.{statement}
 use Rattle.lookup.proofs.fetch.Tie as tie
-use Rattle.lookup.proofs.fetch.Reads as reads
-use Rattle.lookup.proofs.fetch.Lts as lts
-use Rattle.lookup.proofs.look_up.Reads as look-up-reads
 
 -- src/lib.rt:195:9
 look-up-requires : tie.Need-look-up-requires

@@ -5,10 +5,6 @@ use Rattle.lookup.proofs.Outcomes.{look-none, look-some}
 use borrow.Author.Needs.{needs}
 use Rattle.lookup.proofs.look_up.Statement.{statement}
 use Rattle.lookup.proofs.look_up.Tie as tie
-use Rattle.lookup.proofs.look_up.Reads as reads
-use Rattle.lookup.proofs.look_up.Lts as lts
-use Rattle.score_scan.proofs.find_held.Reads as find-held-reads
-use Rattle.doubt.proofs.why_absent.Reads as why-absent-reads
 
 -- src/lib.rt:176:9
 find-held-requires : tie.Need-find-held-requires

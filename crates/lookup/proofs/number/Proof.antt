@@ -4,9 +4,6 @@ use Rattle.log.specs.LookUp.{lookNumber}
 use borrow.Author.Needs.{needs}
 use Rattle.lookup.proofs.number.Statement.{statement}
 use Rattle.lookup.proofs.number.Tie as tie
-use Rattle.lookup.proofs.number.Reads as reads
-use Rattle.lookup.proofs.number.Lts as lts
-use Rattle.refusal.proofs.number.Reads as number-reads
 
 -- src/lib.rt:29:27
 enum-told : tie.Need-enum-told

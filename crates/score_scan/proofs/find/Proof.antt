@@ -16,10 +16,6 @@ use Rattle.score_scan.proofs.Scan.{other-digits, find-more, find-found,
 use borrow.Author.Needs.{needs}
 use Rattle.score_scan.proofs.find.Statement.{statement}
 use Rattle.score_scan.proofs.find.Tie as tie
-use Rattle.score_scan.proofs.find.Reads as reads
-use Rattle.score_scan.proofs.find.Lts as lts
-use Rattle.score_scan.proofs.may_hold.Reads as may-hold-reads
-use Rattle.reader.proofs.sound_as.Reads as sound-as-reads
 
 abbrev Inv-loop : tie.InvT-loop
 Inv-loop log end waiting kind score digits count n₀ n =

@@ -8,9 +8,6 @@ use Rattle.score_scan.proofs.Scan.{holds-dated, holds-plain}
 use borrow.Author.Needs.{needs}
 use Rattle.score_scan.proofs.may_hold.Statement.{statement}
 use Rattle.score_scan.proofs.may_hold.Tie as tie
-use Rattle.score_scan.proofs.may_hold.Reads as reads
-use Rattle.score_scan.proofs.may_hold.Lts as lts
-use Rattle.buffer.proofs.equal.Reads as equal-reads
 
 -- src/lib.rt:75:22
 sub-equal : tie.Need-sub-equal

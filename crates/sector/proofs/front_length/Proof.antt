@@ -11,10 +11,6 @@ use Rattle.sector.proofs.Dates.{unequal, denied, dated-end, dated-name,
 use borrow.Author.Needs.{needs}
 use Rattle.sector.proofs.front_length.Statement.{statement}
 use Rattle.sector.proofs.front_length.Tie as tie
-use Rattle.sector.proofs.front_length.Reads as reads
-use Rattle.sector.proofs.front_length.Lts as lts
-use Rattle.buffer.proofs.equal.Reads as equal-reads
-use Rattle.sector.proofs.is_date.Reads as is-date-reads
 
 -- src/lib.rt:58:8
 shared-slice-read-if1 : tie.Need-shared-slice-read-if1

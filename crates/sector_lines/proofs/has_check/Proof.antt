@@ -14,10 +14,6 @@ use Rattle.sector_lines.proofs.Written.{length-three, sector-written}
 use borrow.Author.Needs.{needs}
 use Rattle.sector_lines.proofs.has_check.Statement.{statement}
 use Rattle.sector_lines.proofs.has_check.Tie as tie
-use Rattle.sector_lines.proofs.has_check.Reads as reads
-use Rattle.sector_lines.proofs.has_check.Lts as lts
-use Rattle.buffer.proofs.equal.Reads as equal-reads
-use Rattle.sector_lines.proofs.write_line.Reads as write-line-reads
 
 slice-aggregate-by-digits : tie.Need-slice-aggregate-by-digits
 slice-aggregate-by-digits c = sym (length-take-le 499 ((c .before .before .args .s .now)) (omega arith))

@@ -14,10 +14,6 @@ use Rattle.sector_lines.proofs.Written.{label-unlike, label-alike}
 use borrow.Author.Needs.{needs}
 use Rattle.sector_lines.proofs.has_label.Statement.{statement}
 use Rattle.sector_lines.proofs.has_label.Tie as tie
-use Rattle.sector_lines.proofs.has_label.Reads as reads
-use Rattle.sector_lines.proofs.has_label.Lts as lts
-use Rattle.buffer.proofs.equal.Reads as equal-reads
-use Rattle.sector_lines.proofs.write_label.Reads as write-label-reads
 
 -- src/lib.rt:124:23
 slice-aggregate-equal : tie.Need-slice-aggregate-equal

@@ -7,9 +7,6 @@ use Rattle.sector.proofs.Dates.{length-date}
 use borrow.Author.Needs.{needs}
 use Rattle.sector_lines.proofs.write_front.Statement.{statement}
 use Rattle.sector_lines.proofs.write_front.Tie as tie
-use Rattle.sector_lines.proofs.write_front.Reads as reads
-use Rattle.sector_lines.proofs.write_front.Lts as lts
-use Rattle.buffer.proofs.copy_at.Reads as copy-at-reads
 
 -- src/lib.rt:75:27
 slice-aggregate-copy-at : tie.Need-slice-aggregate-copy-at

@@ -6,10 +6,6 @@ use Rattle.sector_lines.proofs.Written.{label-written}
 use borrow.Author.Needs.{needs}
 use Rattle.sector_lines.proofs.write_label.Statement.{statement}
 use Rattle.sector_lines.proofs.write_label.Tie as tie
-use Rattle.sector_lines.proofs.write_label.Reads as reads
-use Rattle.sector_lines.proofs.write_label.Lts as lts
-use Rattle.sector_lines.proofs.write_line.Reads as write-line-reads
-use Rattle.sector_lines.proofs.write_score.Reads as write-score-reads
 
 slice-aggregate-write-line : tie.Need-slice-aggregate-write-line
 slice-aggregate-write-line c = search needs

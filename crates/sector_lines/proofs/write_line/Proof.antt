@@ -11,9 +11,6 @@ use Rattle.sector_lines.proofs.Written.{digits-part, line-written, line
 use borrow.Author.Needs.{needs}
 use Rattle.sector_lines.proofs.write_line.Statement.{statement}
 use Rattle.sector_lines.proofs.write_line.Tie as tie
-use Rattle.sector_lines.proofs.write_line.Reads as reads
-use Rattle.sector_lines.proofs.write_line.Lts as lts
-use Rattle.buffer.proofs.copy_at.Reads as copy-at-reads
 
 copy-at-requires : tie.Need-copy-at-requires
 copy-at-requires c κs = search needs

@@ -6,9 +6,6 @@ use Rattle.sector_lines.proofs.Written.{line-written, line-length}
 use borrow.Author.Needs.{needs}
 use Rattle.sector_lines.proofs.write_score.Statement.{statement}
 use Rattle.sector_lines.proofs.write_score.Tie as tie
-use Rattle.sector_lines.proofs.write_score.Reads as reads
-use Rattle.sector_lines.proofs.write_score.Lts as lts
-use Rattle.buffer.proofs.copy_at.Reads as copy-at-reads
 
 slice-aggregate-copy-at : tie.Need-slice-aggregate-copy-at
 slice-aggregate-copy-at c = search needs

@@ -13,13 +13,6 @@ use Rattle.sector_lines.proofs.Written.{three-front, sector-written}
 use borrow.Author.Needs.{needs}
 use Rattle.sector_lines.proofs.write_sector.Statement.{statement}
 use Rattle.sector_lines.proofs.write_sector.Tie as tie
-use Rattle.sector_lines.proofs.write_sector.Reads as reads
-use Rattle.sector_lines.proofs.write_sector.Lts as lts
-use Rattle.buffer.proofs.clear.Reads as clear-reads
-use Rattle.buffer.proofs.copy_at.Reads as copy-at-reads
-use Rattle.crc32.proofs.crc32.Reads as crc32-reads
-use Rattle.sector_lines.proofs.write_label.Reads as write-label-reads
-use Rattle.sector_lines.proofs.write_line.Reads as write-line-reads
 
 -- src/lib.rt:149:5
 copy-at-requires : tie.Need-copy-at-requires

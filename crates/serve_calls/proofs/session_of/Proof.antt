@@ -8,8 +8,6 @@ use Rattle.results.proofs.ServeLaws.{is-fresh, is-greeted, is-closed, session-m
 use borrow.Author.Needs.{needs}
 use Rattle.serve_calls.proofs.session_of.Statement.{statement}
 use Rattle.serve_calls.proofs.session_of.Tie as tie
-use Rattle.serve_calls.proofs.session_of.Reads as reads
-use Rattle.serve_calls.proofs.session_of.Lts as lts
 
 returns : tie.Need-returns
 returns c = is-fresh ((c .before .args .n)) ((c .if1 .taken))

@@ -3,8 +3,6 @@ use Rattle.store.proofs.Outcomes.{other-length, same-block, other-block
 use borrow.Author.Needs.{needs}
 use Rattle.store.proofs.compare.Statement.{statement}
 use Rattle.store.proofs.compare.Tie as tie
-use Rattle.store.proofs.compare.Reads as reads
-use Rattle.store.proofs.compare.Lts as lts
 
 -- src/lib.rt:65:9
 returns : tie.Need-returns

@@ -10,10 +10,6 @@ use Rattle.survey.proofs.Counted.{Counted, counted-zero, counted-none, 
 use borrow.Author.Needs.{needs}
 use Rattle.survey.proofs.scan.Statement.{statement}
 use Rattle.survey.proofs.scan.Tie as tie
-use Rattle.survey.proofs.scan.Reads as reads
-use Rattle.survey.proofs.scan.Lts as lts
-use Rattle.block.proofs.parts_of.Reads as parts-of-reads
-use Rattle.reader.proofs.sound_at.Reads as sound-at-reads
 
 abbrev Inv-loop : tie.InvT-loop
 Inv-loop log end none whole records₀ doubtful₀ n₀ records doubtful n =

@@ -8,10 +8,6 @@ use Rattle.results.proofs.SurveyLaws.{sound-barred, sound-past, sound-sized, so
 use borrow.Author.Needs.{needs}
 use Rattle.survey_calls.proofs.sound_at.Statement.{statement}
 use Rattle.survey_calls.proofs.sound_at.Tie as tie
-use Rattle.survey_calls.proofs.sound_at.Reads as reads
-use Rattle.survey_calls.proofs.sound_at.Lts as lts
-use Rattle.reader.proofs.sound_at.Reads as sound-at-reads
-use Rattle.refusal.proofs.number.Reads as number-reads
 
 -- src/survey.rt:36:9
 is-allowed-requires : tie.Need-is-allowed-requires

@@ -2,9 +2,6 @@ use Rattle.writer.proofs.Cutting.{cut-is, cut-never-refused}
 use borrow.Author.Needs.{needs}
 use Rattle.write.proofs.cut_length.Statement.{statement}
 use Rattle.write.proofs.cut_length.Tie as tie
-use Rattle.write.proofs.cut_length.Reads as reads
-use Rattle.write.proofs.cut_length.Lts as lts
-use Rattle.cut.proofs.cut.Reads as cut-reads
 
 -- src/lib.rt:59:9
 cut-requires : tie.Need-cut-requires

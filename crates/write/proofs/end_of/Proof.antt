@@ -1,8 +1,6 @@
 use borrow.Author.Needs.{needs}
 use Rattle.write.proofs.end_of.Statement.{statement}
 use Rattle.write.proofs.end_of.Tie as tie
-use Rattle.write.proofs.end_of.Reads as reads
-use Rattle.write.proofs.end_of.Lts as lts
 
 -- src/lib.rt:80:27
 enum-told : tie.Need-enum-told

@@ -10,10 +10,6 @@ use Rattle.write.proofs.EntryBytes.{entry-bytes, top-none, top-some}
 use borrow.Author.Needs.{needs}
 use Rattle.write.proofs.make_entry.Statement.{statement}
 use Rattle.write.proofs.make_entry.Tie as tie
-use Rattle.write.proofs.make_entry.Reads as reads
-use Rattle.write.proofs.make_entry.Lts as lts
-use Rattle.buffer.proofs.copy_at.Reads as copy-at-reads
-use Rattle.kind.proofs.zero_score.Reads as zero-score-reads
 
 -- src/lib.rt:238:12
 cast-e : tie.Need-cast-e

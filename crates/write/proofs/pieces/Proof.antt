@@ -2,8 +2,6 @@ use Rattle.block.specs.Block.{partsOf}
 use borrow.Author.Needs.{needs}
 use Rattle.write.proofs.pieces.Statement.{statement}
 use Rattle.write.proofs.pieces.Tie as tie
-use Rattle.write.proofs.pieces.Reads as reads
-use Rattle.write.proofs.pieces.Lts as lts
 
 -- src/lib.rt:51:14
 sub-result : tie.Need-sub-result

@@ -8,10 +8,6 @@ use Rattle.writer.proofs.Cutting.{cut-bytes, cut-fits}
 use borrow.Author.Needs.{needs}
 use Rattle.write.proofs.store_cut.Statement.{statement}
 use Rattle.write.proofs.store_cut.Tie as tie
-use Rattle.write.proofs.store_cut.Reads as reads
-use Rattle.write.proofs.store_cut.Lts as lts
-use Rattle.store.proofs.store.Reads as store-reads
-use Rattle.write.proofs.cut_length.Reads as cut-length-reads
 
 -- src/lib.rt:71:9
 cut-length-requires : tie.Need-cut-length-requires

@@ -9,10 +9,6 @@ use Rattle.cut.proofs.Multiples.{times-mod}
 use borrow.Author.Needs.{needs}
 use Rattle.write.proofs.write_blocks.Statement.{statement}
 use Rattle.write.proofs.write_blocks.Tie as tie
-use Rattle.write.proofs.write_blocks.Reads as reads
-use Rattle.write.proofs.write_blocks.Lts as lts
-use Rattle.write.proofs.write_leaves.Reads as write-leaves-reads
-use Rattle.write.proofs.write_levels.Reads as write-levels-reads
 
 -- src/lib.rt:188:9
 write-leaves-requires : tie.Need-write-leaves-requires

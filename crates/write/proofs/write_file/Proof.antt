@@ -9,10 +9,6 @@ use Rattle.writer.proofs.Tested.{entry-short, scores-short, log-refused, date-r
 use borrow.Author.Needs.{needs}
 use Rattle.write.proofs.write_file.Statement.{statement}
 use Rattle.write.proofs.write_file.Tie as tie
-use Rattle.write.proofs.write_file.Reads as reads
-use Rattle.write.proofs.write_file.Lts as lts
-use Rattle.depth.proofs.depth_of.Reads as depth-of-reads
-use Rattle.write.proofs.write_tested.Reads as write-tested-reads
 
 -- src/lib.rt:294:9
 returns : tie.Need-returns

@@ -16,13 +16,6 @@ use Rattle.write.proofs.Level.{Going, going-start, going-end, going-sto
 use borrow.Author.Needs.{needs}
 use Rattle.write.proofs.write_leaves.Statement.{statement}
 use Rattle.write.proofs.write_leaves.Tie as tie
-use Rattle.write.proofs.write_leaves.Reads as reads
-use Rattle.write.proofs.write_leaves.Lts as lts
-use Rattle.buffer.proofs.copy_at.Reads as copy-at-reads
-use Rattle.write.proofs.end_of.Reads as end-of-reads
-use Rattle.write.proofs.pieces.Reads as pieces-reads
-use Rattle.write.proofs.smaller.Reads as smaller-reads
-use Rattle.write.proofs.store_cut.Reads as store-cut-reads
 
 abbrev Inv-loop : tie.InvT-loop
 Inv-loop log waiting₀ date slice dsize scores₀ count i₀ waiting scores i = Going 13 dsize slice date (beside log waiting₀) (partsOf dsize (length slice)) (beside log waiting) scores i

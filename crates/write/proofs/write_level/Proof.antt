@@ -17,14 +17,7 @@ use Rattle.write.proofs.Level.{Going, going-start, going-end, going-sto
 use borrow.Author.Needs.{needs}
 use Rattle.write.proofs.write_level.Statement.{statement}
 use Rattle.write.proofs.write_level.Tie as tie
-use Rattle.write.proofs.write_level.Reads as reads
-use Rattle.write.proofs.write_level.Lts as lts
-use Rattle.buffer.proofs.copy_at.Reads as copy-at-reads
 use Rattle.buffer.proofs.Parts.{part-length}
-use Rattle.write.proofs.end_of.Reads as end-of-reads
-use Rattle.write.proofs.pieces.Reads as pieces-reads
-use Rattle.write.proofs.smaller.Reads as smaller-reads
-use Rattle.write.proofs.store_cut.Reads as store-cut-reads
 
 abbrev Inv-loop : tie.InvT-loop
 Inv-loop log waiting₀ date kind width scores₀ count i₀ waiting scores i = Going kind width scores₀ date (beside log waiting₀) (partsOf width (length scores₀)) (beside log waiting) scores i

@@ -11,10 +11,6 @@ use Rattle.writer.proofs.Levels.{pointer-type, fewer-scores, Climbing, climbing
 use borrow.Author.Needs.{needs}
 use Rattle.write.proofs.write_levels.Statement.{statement}
 use Rattle.write.proofs.write_levels.Tie as tie
-use Rattle.write.proofs.write_levels.Reads as reads
-use Rattle.write.proofs.write_levels.Lts as lts
-use Rattle.write.proofs.pieces.Reads as pieces-reads
-use Rattle.write.proofs.write_level.Reads as write-level-reads
 
 abbrev Inv-loop : tie.InvT-loop
 Inv-loop log waiting₀ date width depth scores₀ n₀ k₀ waiting scores n k = Climbing width scores₀ date (beside log waiting₀) (beside log waiting) scores n k × (k ≤ depth)

@@ -12,13 +12,6 @@ use Rattle.writer.proofs.Tested.{tested-refused, tested-done}
 use borrow.Author.Needs.{needs}
 use Rattle.write.proofs.write_tested.Statement.{statement}
 use Rattle.write.proofs.write_tested.Tie as tie
-use Rattle.write.proofs.write_tested.Reads as reads
-use Rattle.write.proofs.write_tested.Lts as lts
-use Rattle.buffer.proofs.clear.Reads as clear-reads
-use Rattle.buffer.proofs.copy_at.Reads as copy-at-reads
-use Rattle.write.proofs.make_entry.Reads as make-entry-reads
-use Rattle.write.proofs.pieces.Reads as pieces-reads
-use Rattle.write.proofs.write_blocks.Reads as write-blocks-reads
 
 -- src/lib.rt:269:18
 pieces-requires : tie.Need-pieces-requires

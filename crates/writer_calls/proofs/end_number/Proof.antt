@@ -3,9 +3,6 @@ use Rattle.writer.specs.WriteFile.{endNumber}
 use borrow.Author.Needs.{needs}
 use Rattle.writer_calls.proofs.end_number.Statement.{statement}
 use Rattle.writer_calls.proofs.end_number.Tie as tie
-use Rattle.writer_calls.proofs.end_number.Reads as reads
-use Rattle.writer_calls.proofs.end_number.Lts as lts
-use Rattle.refusal.proofs.number.Reads as number-reads
 
 -- src/lib.rt:13:22
 enum-told : tie.Need-enum-told

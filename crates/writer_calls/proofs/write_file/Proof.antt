@@ -2,10 +2,6 @@ use Rattle.writer_calls.proofs.Outcomes.{wrote-so}
 use borrow.Author.Needs.{needs}
 use Rattle.writer_calls.proofs.write_file.Statement.{statement}
 use Rattle.writer_calls.proofs.write_file.Tie as tie
-use Rattle.writer_calls.proofs.write_file.Reads as reads
-use Rattle.writer_calls.proofs.write_file.Lts as lts
-use Rattle.write.proofs.write_file.Reads as write-file-reads
-use Rattle.writer_calls.proofs.end_number.Reads as end-number-reads
 
 -- src/lib.rt:31:9
 write-file-requires : tie.Need-write-file-requires
