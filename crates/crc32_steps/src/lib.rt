@@ -1,4 +1,4 @@
-// The steps of CRC-32: one byte by the table of bytes, eight and sixteen bytes at once by the tables of their hexadecimal digits.
+// The steps of CRC-32: one byte by the table of bytes or by its digits, eight and sixteen bytes at once by the tables of their hexadecimal digits.
 // The tables are lent: whoever makes one puts all of it on its stack.
 ghost use mathlib.Core.Path.{_≡_};
 ghost use Prim.Native.Nat.{ℕ, _+_, _≤_};

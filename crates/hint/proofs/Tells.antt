@@ -16,6 +16,27 @@ use Rattle.index.specs.declared.Bucket.{Bucket}
 use Rattle.hint.specs.Hint.{soundWith, trueAt, firstFound, hint}
 use Rattle.hint.specs.Tells.{tellsFrom, tells}
 
+-- ---- the index leads there
+
+module _ (log index : Bytes) (t : ℕ) (s : Bytes) (n : ℕ) (r : Row) (there : soundWith log n t s ≡ some r) where
+  true-from : (k p : ℕ) → tellsFrom index t s n k p ≡ true → firstFound (trueAt log index t s) k p ≡ some r
+  unfolding tellsFrom firstFound trueAt
+  true-from zero p h = let z : _≡_ {A = ℕ} 0 1 = cc in absurd (omega arith)
+  true-from (suc k) p h = go (true-from k (suc p)) (same (take 21 (placeAt index p)) (named s t)) h
+    where
+      go : (tellsFrom index t s n k (suc p) ≡ true → firstFound (trueAt log index t s) k (suc p) ≡ some r)
+          → (b : Bool) → cond b (eqb (sectorAt index p) n) (tellsFrom index t s n k (suc p)) ≡ true
+          → on (cond b (soundWith log (sectorAt index p) t s) none) (firstFound (trueAt log index t s) k (suc p)) some ≡ some r
+      go rest true q =
+          let e : soundWith log (sectorAt index p) t s ≡ some r = ap (λ (m : ℕ). soundWith log m t s) (eqb-true (sectorAt index p) n q) ∙ there in
+          ap (λ (o : Option Row). on o (firstFound (trueAt log index t s) k (suc p)) some) e
+      go rest false q = rest q
+
+  -- the entry's block is the hint's
+  pub hint-told : tells index t s n ≡ true → hint log index t s ≡ some r
+  unfolding tells hint
+  hint-told h = true-from (bucketOf index s .to - bucketOf index s .from) (bucketOf index s .from) h
+
 -- ---- the turns
 
 module _ (index : Bytes) (t : ℕ) (s : Bytes) (n : ℕ) where
@@ -43,24 +64,3 @@ module _ (index : Bytes) (t : ℕ) (s : Bytes) (n : ℕ) where
   pub tell-ends : (p to : ℕ) → to ≤ p → tellsFrom index t s n (to - p) p ≡ tells index t s n → false ≡ tells index t s n
   unfolding tellsFrom
   tell-ends p to h e = let z : to - p ≡ 0 = omega arith in sym (ap (λ (k : ℕ). tellsFrom index t s n k p) z) ∙ e
-
--- ---- the index leads there
-
-module _ (log index : Bytes) (t : ℕ) (s : Bytes) (n : ℕ) (r : Row) (there : soundWith log n t s ≡ some r) where
-  true-from : (k p : ℕ) → tellsFrom index t s n k p ≡ true → firstFound (trueAt log index t s) k p ≡ some r
-  unfolding tellsFrom firstFound trueAt
-  true-from zero p h = let z : _≡_ {A = ℕ} 0 1 = cc in absurd (omega arith)
-  true-from (suc k) p h = go (true-from k (suc p)) (same (take 21 (placeAt index p)) (named s t)) h
-    where
-      go : (tellsFrom index t s n k (suc p) ≡ true → firstFound (trueAt log index t s) k (suc p) ≡ some r)
-          → (b : Bool) → cond b (eqb (sectorAt index p) n) (tellsFrom index t s n k (suc p)) ≡ true
-          → on (cond b (soundWith log (sectorAt index p) t s) none) (firstFound (trueAt log index t s) k (suc p)) some ≡ some r
-      go rest true q =
-          let e : soundWith log (sectorAt index p) t s ≡ some r = ap (λ (m : ℕ). soundWith log m t s) (eqb-true (sectorAt index p) n q) ∙ there in
-          ap (λ (o : Option Row). on o (firstFound (trueAt log index t s) k (suc p)) some) e
-      go rest false q = rest q
-
-  -- the entry's block is the hint's
-  pub hint-told : tells index t s n ≡ true → hint log index t s ≡ some r
-  unfolding tells hint
-  hint-told h = true-from (bucketOf index s .to - bucketOf index s .from) (bucketOf index s .from) h

@@ -66,7 +66,7 @@ fn sound_behind<'a>(
         return Place::Nowhere;
     }
     let b = Block { first, size, label };
-    // The first label tells most other blocks apart. The checks go through all bytes in order, and the other labels come after them.
+    // The first label tells most other blocks apart. Then the checks, which go through all bytes in order, and then all labels.
     let l = Label {
         first,
         part: 0,

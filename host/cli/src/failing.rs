@@ -14,6 +14,7 @@ use crate::command;
 use crate::faults::Lost;
 use crate::faults::{self, every_fault, on_failing_disk, on_good_disk, How, LOSSES, UNREADABLE};
 use crate::format::SECTOR;
+use crate::hex;
 use crate::mark::{self, Found, Mark};
 use crate::reader::{self, Reader};
 use crate::session::{Answers, Client};
@@ -320,6 +321,37 @@ fn an_unreadable_sector_that_passes() {
             UNREADABLE.set(None);
             assert_eq!(stored, Err(Refusal::NoRoom));
             assert_eq!(store_one(&mut *log, &blocks()[0]), Ok(()));
+        }
+    });
+}
+
+/// Where the index leads to a block, `get` needs that block's sectors alone; one of its own that cannot be read is
+/// "not known", and so is whatever is not found while any sector cannot be read.
+#[test]
+fn got_beside_an_unreadable_sector() {
+    let folder = Folder::with(0);
+    on_good_disk(|| {
+        let mut writer = quietly(|streams| Writer::open(&folder.log(), false, streams)).unwrap();
+        assert_eq!(store_one(&mut writer, &blocks()[1]), Ok(()));
+        writer.settle().unwrap();
+        drop(writer);
+        let got = |unreadable, block: &[u8]| {
+            UNREADABLE.set(unreadable);
+            let status = folder.run("get", &[&hex::encode(&sha1(block))]);
+            UNREADABLE.set(None);
+            status
+        };
+        // The first block is in the sectors 0 and 1, the second in 2 to 4.
+        let [first, second, absent, _] = blocks();
+        let cases = [
+            (None, [0, 0, 11]),
+            (Some(1), [12, 0, 12]),
+            (Some(3), [0, 12, 12]),
+            (Some(20), [0, 0, 12]),
+        ];
+        for (unreadable, statuses) in cases {
+            let found = [&first, &second, &absent].map(|block| got(unreadable, block));
+            assert_eq!(found, statuses, "{unreadable:?}");
         }
     });
 }

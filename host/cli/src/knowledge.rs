@@ -2,7 +2,7 @@
 //!
 //! With it a store, a read and a "not held" each cost what the block and one bucket of the index cost,
 //! whatever the log's size. To learn it, every block of the log is looked at: that costs two or three times
-//! as much as a "not held" without it, or as some dozens of writes.
+//! as much as a "not held" without it, or as one to five hundred writes, fewer in a longer log.
 
 use boundary::{serve, serve_known, Known, Refusal, Served, Session};
 
@@ -20,7 +20,7 @@ pub struct Lent<'a> {
 const SMALL: usize = 1024;
 /// What requests cost by scan before it is worth learning: a write is one, and a block that is not found as
 /// much as all.
-const WORTH: usize = 64;
+const WORTH: usize = 256;
 
 #[derive(Default)]
 pub struct Knowledge {

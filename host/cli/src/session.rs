@@ -168,6 +168,11 @@ pub fn whole_reply(buffer: &[u8]) -> &[u8] {
     &buffer[..2 + size]
 }
 
+/// Whether a message may change the log or what waits: a write or a sync.
+pub fn may_change(message: &[u8]) -> bool {
+    is_write(message) || message.get(2) == Some(&SYNC[2])
+}
+
 /// Whether a message asks to store a block.
 pub fn is_write(message: &[u8]) -> bool {
     message.get(2) == Some(&WRITE)

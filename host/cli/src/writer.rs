@@ -188,6 +188,9 @@ impl Writer {
             index: self.index.as_mut().map_or(&mut [][..], Index::lent),
         };
         let served = self.knowledge.serve(session, message, &date, lent, reply);
+        if !session::may_change(message) {
+            return Ok(served);
+        }
         self.waits = used(&self.waiting);
         self.keep_moved()?;
         if let (true, Some(index)) = (self.used + self.waits > end, &mut self.index) {

@@ -368,6 +368,7 @@ fn sound(log: Joined, first: usize, data: &mut Vec<u8>) -> Option<usize> {
     let mut label = Label::new(date, first, kind, size, &score);
     let count = label.sectors_for(size);
     data.clear();
+    data.reserve(count * label.payload());
     for part in 0..count {
         let sector = log.sector(first + part)?;
         let payload = sector[..CHECK].strip_prefix(label.of_part(part))?;
