@@ -1,4 +1,4 @@
-// The replies of a request: refusals, acknowledgements, a hello, and what a read and a write say.
+// The replies of a request: refusals, acknowledgements, a request in a fresh session, what a read and a write say; a stored block entered into the index.
 use block::Block;
 use log::Receipt;
 use log::Stored;

@@ -1,4 +1,4 @@
--- Laws of the log, of a row's image, and of a sound block. `Cases`: tests taken apart; `Facts`, `Payloads`, `Passed`: steps on the way.
+-- Laws of the log, of a row's image, and of a sound block. `Tests`: tests taken apart; `Facts`, `Payloads`, `Passed`: steps on the way.
 pub mod Tests
 pub mod At
 pub mod Used

@@ -1,5 +1,5 @@
 // A copy of all that a root reaches into a second log: the tests, then the root.
-// The first log and the sectors that wait behind it are two runs that are read as one, as in `reader`.
+// The first log and the sectors that wait behind it are two runs that are read as one, as in `two_runs`.
 use refusal::Refusal;
 use visit::End;
 use visit::Walked;

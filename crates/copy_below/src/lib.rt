@@ -1,5 +1,5 @@
 // What is below a block, copied into a second log: each block is stored there when all that is below it is.
-// The first log and the sectors that wait behind it are two runs that are read as one, as in `reader`.
+// The first log and the sectors that wait behind it are two runs that are read as one, as in `two_runs`.
 use block::Block;
 use entry::Entry;
 use log::Look;

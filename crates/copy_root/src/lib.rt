@@ -1,5 +1,5 @@
 // A root and its directory block copied into a second log, each behind all that is below it.
-// The first log and the sectors that wait behind it are two runs that are read as one, as in `reader`.
+// The first log and the sectors that wait behind it are two runs that are read as one, as in `two_runs`.
 use kind::LONGEST;
 use log::Look;
 use refusal::Refusal;

@@ -1,4 +1,4 @@
-// CRC-32 of IEEE 802.3: sixteen bytes at once, what is left eight at once and one by one; a short string one by one, by the table of bytes.
+// CRC-32 of IEEE 802.3: sixteen bytes at once, what is left eight at once and one by one; below 128 bytes eight at once, below 16 one by one, by the table of bytes.
 ghost use mathlib.Core.Path.{_≡_};
 ghost use Prim.Native.Nat.{_%_};
 ghost use lib.ListN.{length};

@@ -1,5 +1,5 @@
 // What is below a block: the entries of a directory, and the scores of a pointer block, are visited in order while the allowance lasts.
-// The blocks lie in two runs of sectors that are read as one, as in `reader`.
+// The blocks lie in two runs of sectors that are read as one, as in `two_runs`.
 use block::Block;
 use entry::Entry;
 use log::Look;

@@ -2,17 +2,16 @@
 -- end of its used part, so it is sound also where others wait behind that.
 use mathlib.Core.Path.{_≡_, sym, ap, ap₂, _∙_, subst}
 use mathlib.Core.Option.{some}
-use Prim.Native.Nat.{ℕ, _+_, _-_, _≤_, _<_}
+use Prim.Native.Nat.{ℕ, _+_, _≤_, _<_}
 use native.Mathlib.Omega.{arith}
 use lib.ListN.{length}
-use Rattle.buffer.specs.Bytes.{Bytes, zeros}
+use Rattle.buffer.specs.Bytes.{Bytes}
 use Rattle.block.specs.Block.{Row, parts}
 use Rattle.block.specs.Log.{sectors, at, used, sound}
-use Rattle.block.proofs.Facts.{parts-pos}
-use Rattle.block.proofs.Image.{image-used}
+use Rattle.block.proofs.Apart.{sound-used}
 use Rattle.block.proofs.Joined.{at-log, sectors-joined}
 use Rattle.block.proofs.Sound.{sound-reads, sound-finds}
-use Rattle.block.proofs.Used.{lt-used, used-le-sectors}
+use Rattle.block.proofs.Used.{used-le-sectors}
 use Rattle.log.specs.Parts.{tape}
 use Rattle.hint.specs.Hint.{soundWith}
 use Rattle.hint.proofs.Sound.{with-reads, with-finds}
@@ -30,14 +29,7 @@ module _ (log other : Bytes) (n : ℕ) (r : Row) (room : n + parts r ≤ sectors
       let w = with-reads other n t s r e in
       ap₂ (λ (k : ℕ) (x : Bytes). soundWith log n k x) (sym (w .1)) (sym (w .2)) ∙ with-finds log n r (sound-there (w .0))
 
--- its sectors are used ones
-pub sound-used : (log : Bytes) (n : ℕ) (r : Row) → sound log n ≡ some r → n + parts r ≤ used log
-sound-used log n r e =
-    let p = sound-reads log n r e in
-    let pos = parts-pos r (p .0) in
-    let last : parts r - 1 < parts r = omega arith in
-    omega (arith, pos, lt-used log (n + (parts r - 1)) (ap zeros (p .3 (parts r - 1) last) ∙ image-used r (parts r - 1)))
-
+-- of the log's own sectors they are used ones
 pub with-waiting : (log waiting : Bytes) (n t : ℕ) (s : Bytes) (r : Row) → soundWith log n t s ≡ some r → soundWith (tape log waiting) n t s ≡ some r
 with-waiting log waiting n t s r e =
     let h = used-le-sectors log in

@@ -1,5 +1,5 @@
 // A block of a copy, stored in the second log behind all that is below it.
-// The first log and the sectors that wait behind it are two runs that are read as one, as in `reader`.
+// The first log and the sectors that wait behind it are two runs that are read as one, as in `two_runs`.
 use block::Block;
 use kind::LONGEST;
 use log::Stored;

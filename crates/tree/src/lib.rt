@@ -1,5 +1,5 @@
 // What reading a file and walking share: parts of a block copied out, the scores of a pointer block, an entry's blocks by their level.
-// A block lies in two runs of sectors that are read as one, as in `reader`.
+// A block lies in two runs of sectors that are read as one, as in `two_runs`.
 use block::Block;
 use entry::Entry;
 use sector_number::SectorNumber;

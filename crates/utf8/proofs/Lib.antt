@@ -1,4 +1,4 @@
--- Laws of no one function. `Rows`, `Cases`: for the returns of the code; `Characters`, `Pinned`: the encoding; `Examples`: the table.
+-- Laws of no one function. `Rows`, `Returns`: for the returns of the code; `Characters`, `Pinned`: the encoding; `Examples`: the table.
 pub mod Rows
 pub mod Returns
 pub mod Characters

@@ -1,4 +1,4 @@
-// One visit of a walk: a block looked up, and what is read of it, in two runs of sectors that are read as one, as in `reader`.
+// One visit of a walk: a block looked up, and what is read of it, in two runs of sectors that are read as one, as in `two_runs`.
 use block::Block;
 use entry::Entry;
 use log::Look;

@@ -97,7 +97,7 @@ fn definitions(text: &str) -> usize {
         .map(str::trim)
         .filter(|l| !l.is_empty())
         .filter(|l| {
-            !["--", "use ", "pub use ", "mod ", "pub mod "]
+            !["--", "use ", "pub use ", "unfoldable pub use ", "mod ", "pub mod "]
                 .iter()
                 .any(|s| l.starts_with(s))
         })

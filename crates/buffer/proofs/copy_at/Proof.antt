@@ -1,15 +1,10 @@
-use Prim.Native.Nat.{ℕ, _≤_, _<_, _-_, _+_}
-use mathlib.Core.Path.{_≡_, refl, sym, ap, _∙_}
-use mathlib.Core.Bool.{true, false, _&&_}
-use mathlib.Core.List.{_++_, append-nil}
+use Prim.Native.Nat.{_≤_, _-_}
+use mathlib.Core.Path.{_≡_, refl, ap, _∙_}
 use native.Mathlib.Omega.{arith}
-use lib.ListN.{length, getD, take, drop, set, replicate, drop-of-length-le, length-set}
-use lib.Dec.{eqb}
+use lib.ListN.{length, length-set}
 use native.Mathlib.Numerals.{add-one}
-use lib.Seq.{drop-length, paste, paste-zero, paste-suc, length-paste}
-use borrow.Author.Fill.{fill-none, fill-more}
-use Rattle.buffer.specs.Bytes.{same, zeros, put}
-use Rattle.buffer.proofs.Steps.{same-step, same-differ, same-lengths, same-end, zeros-step, zeros-end, put-all}
+use lib.Seq.{paste, paste-zero, paste-suc}
+use Rattle.buffer.proofs.Steps.{put-all}
 use borrow.Author.Needs.{needs}
 use Rattle.buffer.proofs.copy_at.Statement.{statement}
 use Rattle.buffer.proofs.copy_at.Tie as tie

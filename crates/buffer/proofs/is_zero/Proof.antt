@@ -1,14 +1,11 @@
-use Prim.Native.Nat.{ℕ, _≤_, _<_, _-_, _+_}
-use mathlib.Core.Path.{_≡_, refl, sym, ap, _∙_}
-use mathlib.Core.Bool.{true, false, _&&_}
-use mathlib.Core.List.{_++_}
+use Prim.Native.Nat.{_≤_, _-_}
+use mathlib.Core.Path.{_≡_, sym, _∙_}
+use mathlib.Core.Bool.{_&&_}
 use native.Mathlib.Omega.{arith}
-use lib.ListN.{length, getD, take, drop, set, replicate, drop-of-length-le}
+use lib.ListN.{length, drop}
 use lib.Dec.{eqb}
-use lib.Seq.{paste, paste-zero, paste-suc, length-paste}
-use borrow.Author.Fill.{fill-none, fill-more}
-use Rattle.buffer.specs.Bytes.{same, zeros, put}
-use Rattle.buffer.proofs.Steps.{same-step, same-differ, same-lengths, same-end, zeros-step, zeros-end, put-all}
+use Rattle.buffer.specs.Bytes.{zeros}
+use Rattle.buffer.proofs.Steps.{zeros-step, zeros-end}
 use borrow.Author.Needs.{needs}
 use Rattle.buffer.proofs.is_zero.Statement.{statement}
 use Rattle.buffer.proofs.is_zero.Tie as tie

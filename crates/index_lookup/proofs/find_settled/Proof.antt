@@ -38,7 +38,9 @@ sector-at-requires : tie.Need-sector-at-requires Inv-loop μ-loop
 sector-at-requires c κs = search needs
 
 returns-2 : tie.Need-returns-2 Inv-loop μ-loop
-returns-2 c = let a = c .before .before .before .before .before .before .before .before .before .before .before .before .before .before .args in nowhere-settled (a .log .now) (a .index .now) (a .kind) (a .score .now)
+returns-2 c =
+    let u = c .before .before .before .before .before .before .before .before .before .before in
+    let a = u .before .before .before .before .args in nowhere-settled (a .log .now) (a .index .now) (a .kind) (a .score .now)
 
 slice-aggregate-sound-as : tie.Need-slice-aggregate-sound-as Inv-loop μ-loop
 slice-aggregate-sound-as c = search needs
@@ -48,14 +50,15 @@ sound-as-requires c κs = search needs
 
 returns-3 : tie.Need-returns-3 Inv-loop μ-loop
 returns-3 c =
-    let a = c .before .before .before .before .before .before .before .before .before .before .before .before .before .before .before .before .args in
+    let u = c .before .before .before .before .before .before .before .before .before .before in
+    let a = u .before .before .before .before .before .before .args in
     let l = c .before .before .before .before .before .before .before .before .before .loop in
     let b = c .before .before .before .before .before .before .before .before .before .before .bucket-of in
     let n = c .before .before .before .before .sector-at .result .0 in
     let more = c .before .before .before .before .before .before .before .if2 .taken in
     let told =
     tell-here (a .index .now) (a .kind) (a .score .now) n (l .p) (b .result .to) more (l .inv .1 n) _ (c .before .before .before .before .before .before .names .ensures) n (c .before .before .before .before .before .if3 .taken) (c .before .before .before .before .sector-at .ensures) in
-    told-settled (a .log .now) (a .index .now) (a .kind) (a .score .now) _ (c .before .before .before .before .before .before .before .before .before .before .before .before .is-zero-score .ensures) (c .before .before .before .before .before .before .before .before .before .before .before .if1 .left) n (sym told ∙ eq-eqb n n refl) _ (c .sound-as .ensures)
+    told-settled (a .log .now) (a .index .now) (a .kind) (a .score .now) _ (u .before .before .is-zero-score .ensures) (u .before .if1 .left) n (sym told ∙ eq-eqb n n refl) _ (c .sound-as .ensures)
 
 add-p : tie.Need-add-p Inv-loop μ-loop
 add-p c = search needs

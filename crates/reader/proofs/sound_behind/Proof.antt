@@ -152,37 +152,39 @@ has-label-requires c κs =
 
 returns-6 : tie.Need-returns-6
 returns-6 c =
-    let start = c .before .before .before .before .before .before .before .before .before .before .before .before .before .before .before .before .before in
+    let u = c .before .before .before .before .before .before .before .before .before .before in
+    let start = u .before .before .before .before .before .before .before in
     let a = start .args in
     let q = start .pre in
     let log = joined (a .end .0) (a .log .now) (a .waiting .now) in
     let s = at log (a .first .0) in
     let k = length (a .front .now) in
-    let number-at = c .before .before .before .before .before .before .before .before .before .before .before .before .number-at in
+    let number-at = u .before .before .number-at in
     let size = number-at .result in
     let label = ap (λ (x : Bytes). length x + 96) (q .2) in
-    let sized = number-value _ size (number-at .ensures ∙ ap numberOf (field-at s k 44 4 (ap length (q .2)))) (c .before .before .before .before .before .before .before .before .before .before .before .if1 .left) in
+    let sized = number-value _ size (number-at .ensures ∙ ap numberOf (field-at s k 44 4 (ap length (q .2)))) (u .before .if1 .left) in
     let of = c .before .before .before .before .before .before .before .parts-of in
     let tested =
     label-tested log (dateField s) (a .score .now) _ (a .front .now) (of .result) (a .first .0) (a .kind) size 0 _ (sym (q .2))
     (c .before .before .sector-at .ensures ∙ ap (at log) (sym (add-zero (a .first .0)))) (c .before .has-label .ensures) in
-    other-first log (a .first .0) (a .kind) (a .score .now) (k + 96) size (of .result) _ label sized (c .before .before .before .before .before .before .before .before .before .before .before .if1 .left) (of .ensures) tested (not-true _ (c .if6 .taken))
+    other-first log (a .first .0) (a .kind) (a .score .now) (k + 96) size (of .result) _ label sized (u .before .if1 .left) (of .ensures) tested (not-true _ (c .if6 .taken))
 
 checks-fit-requires : tie.Need-checks-fit-requires
 checks-fit-requires c κs = search needs
 
 returns-7 : tie.Need-returns-7
 returns-7 c =
-    let start = c .before .before .before .before .before .before .before .before .before .before .before .before .before .before .before .before .before .before .before in
+    let u = c .before .before .before .before .before .before .before .before .before .before in
+    let start = u .before .before .before .before .before .before .before .before .before in
     let a = start .args in
     let q = start .pre in
     let log = joined (a .end .0) (a .log .now) (a .waiting .now) in
     let s = at log (a .first .0) in
     let k = length (a .front .now) in
-    let number-at = c .before .before .before .before .before .before .before .before .before .before .before .before .before .before .number-at in
+    let number-at = u .before .before .before .before .number-at in
     let size = number-at .result in
     let label = ap (λ (x : Bytes). length x + 96) (q .2) in
-    let sized = number-value _ size (number-at .ensures ∙ ap numberOf (field-at s k 44 4 (ap length (q .2)))) (c .before .before .before .before .before .before .before .before .before .before .before .before .before .if1 .left) in
+    let sized = number-value _ size (number-at .ensures ∙ ap numberOf (field-at s k 44 4 (ap length (q .2)))) (u .before .before .before .if1 .left) in
     let parts-of = c .before .before .before .before .before .before .before .before .before .parts-of in
     unsound log (a .first .0) (a .kind) (a .score .now) (k + 96) size 6 label sized
     (ap (λ (m : ℕ). checked log m (a .first .0)) (sym (parts-of .ensures)) ∙ sym (c .before .checks-fit .ensures) ∙ not-true _ (c .if7 .taken))
@@ -198,16 +200,17 @@ labels-agree-requires c κs =
 
 returns-8 : tie.Need-returns-8
 returns-8 c =
-    let start = c .before .before .before .before .before .before .before .before .before .before .before .before .before .before .before .before .before .before .before .before .before in
+    let u = c .before .before .before .before .before .before .before .before .before .before in
+    let start = u .before .before .before .before .before .before .before .before .before .before .before in
     let a = start .args in
     let q = start .pre in
     let log = joined (a .end .0) (a .log .now) (a .waiting .now) in
     let s = at log (a .first .0) in
     let k = length (a .front .now) in
-    let number-at = c .before .before .before .before .before .before .before .before .before .before .before .before .before .before .before .before .number-at in
+    let number-at = u .before .before .before .before .before .before .number-at in
     let size = number-at .result in
     let label = ap (λ (x : Bytes). length x + 96) (q .2) in
-    let sized = number-value _ size (number-at .ensures ∙ ap numberOf (field-at s k 44 4 (ap length (q .2)))) (c .before .before .before .before .before .before .before .before .before .before .before .before .before .before .before .if1 .left) in
+    let sized = number-value _ size (number-at .ensures ∙ ap numberOf (field-at s k 44 4 (ap length (q .2)))) (u .before .before .before .before .before .if1 .left) in
     unsound log (a .first .0) (a .kind) (a .score .now) (k + 96) size 5 label sized
     (sym ((c .before .labels-agree .ensures) (dateField s) (sym (q .2))) ∙ not-true _ (c .if8 .taken))
 
@@ -222,27 +225,29 @@ rest-is-zero-requires c κs =
 
 returns-9 : tie.Need-returns-9
 returns-9 c =
-    let start = c .before .before .before .before .before .before .before .before .before .before .before .before .before .before .before .before .before .before .before .before .before .before .before in
+    let u = c .before .before .before .before .before .before .before .before .before .before in
+    let start = u .before .before .before .before .before .before .before .before .before .before .before .before .before in
     let a = start .args in
     let q = start .pre in
     let log = joined (a .end .0) (a .log .now) (a .waiting .now) in
     let s = at log (a .first .0) in
     let k = length (a .front .now) in
-    let number-at = c .before .before .before .before .before .before .before .before .before .before .before .before .before .before .before .before .before .before .number-at in
+    let number-at = u .before .before .before .before .before .before .before .before .number-at in
     let size = number-at .result in
     let label = ap (λ (x : Bytes). length x + 96) (q .2) in
-    let sized = number-value _ size (number-at .ensures ∙ ap numberOf (field-at s k 44 4 (ap length (q .2)))) (c .before .before .before .before .before .before .before .before .before .before .before .before .before .before .before .before .before .if1 .left) in
+    let sized = number-value _ size (number-at .ensures ∙ ap numberOf (field-at s k 44 4 (ap length (q .2)))) (u .before .before .before .before .before .before .before .if1 .left) in
     unsound log (a .first .0) (a .kind) (a .score .now) (k + 96) size 7 label sized
     (sym (c .before .rest-is-zero .ensures) ∙ not-true _ (c .if9 .taken))
 
 digest-requires : tie.Need-digest-requires
 digest-requires c κs =
-    let start = c .before .before .before .before .before .before .before .before .before .before .before .before .before .before .before .before .before .before .before .before .before .before .before in
+    let u = c .before .before .before .before .before .before .before .before .before .before in
+    let start = u .before .before .before .before .before .before .before .before .before .before .before .before .before in
     let a = start .args in
     let q = start .pre in
     let log = joined (a .end .0) (a .log .now) (a .waiting .now) in
     let short : length (a .front .now) + 96 < 499 = omega (arith, ap length (q .2), front-most (at log (a .first .0))) in
-    (q .0, (omega (arith, c .before .before .before .before .before .before .before .before .before .before .before .before .before .parts-of .ensures), short))
+    (q .0, (omega (arith, u .before .before .before .parts-of .ensures), short))
 
 slice-aggregate-equal : tie.Need-slice-aggregate-equal
 slice-aggregate-equal c = search needs
@@ -252,42 +257,44 @@ equal-requires c κs = search needs
 
 returns-10 : tie.Need-returns-10
 returns-10 c =
-    let start = c .before .before .before .before .before .before .before .before .before .before .before .before .before .before .before .before .before .before .before .before .before .before .before .before .before .before .before in
+    let u = c .before .before .before .before .before .before .before .before .before .before in
+    let start = u .before .before .before .before .before .before .before .before .before .before .before .before .before .before .before .before .before in
     let a = start .args in
     let q = start .pre in
     let log = joined (a .end .0) (a .log .now) (a .waiting .now) in
     let s = at log (a .first .0) in
     let k = length (a .front .now) in
-    let number-at = c .before .before .before .before .before .before .before .before .before .before .before .before .before .before .before .before .before .before .before .before .before .before .number-at in
+    let number-at = u .before .before .before .before .before .before .before .before .before .before .before .before .number-at in
     let size = number-at .result in
     let label = ap (λ (x : Bytes). length x + 96) (q .2) in
-    let sized = number-value _ size (number-at .ensures ∙ ap numberOf (field-at s k 44 4 (ap length (q .2)))) (c .before .before .before .before .before .before .before .before .before .before .before .before .before .before .before .before .before .before .before .before .before .if1 .left) in
+    let sized = number-value _ size (number-at .ensures ∙ ap numberOf (field-at s k 44 4 (ap length (q .2)))) (u .before .before .before .before .before .before .before .before .before .before .before .if1 .left) in
     unsound log (a .first .0) (a .kind) (a .score .now) (k + 96) size 9 label sized
     (ap (λ (x : Bytes). same x (a .score .now)) (sym (c .before .before .before .digest .ensures)) ∙ sym (c .before .equal .ensures) ∙ not-true _ (c .if10 .taken))
 
 returns-11 : tie.Need-returns-11
 returns-11 c =
-    let start = c .before .before .before .before .before .before .before .before .before .before .before .before .before .before .before .before .before .before .before .before .before .before .before .before .before .before .before in
+    let u = c .before .before .before .before .before .before .before .before .before .before in
+    let start = u .before .before .before .before .before .before .before .before .before .before .before .before .before .before .before .before .before in
     let a = start .args in
     let q = start .pre in
     let log = joined (a .end .0) (a .log .now) (a .waiting .now) in
     let s = at log (a .first .0) in
     let k = length (a .front .now) in
-    let number-at = c .before .before .before .before .before .before .before .before .before .before .before .before .before .before .before .before .before .before .before .before .before .before .number-at in
+    let number-at = u .before .before .before .before .before .before .before .before .before .before .before .before .number-at in
     let size = number-at .result in
     let label = ap (λ (x : Bytes). length x + 96) (q .2) in
-    let sized = number-value _ size (number-at .ensures ∙ ap numberOf (field-at s k 44 4 (ap length (q .2)))) (c .before .before .before .before .before .before .before .before .before .before .before .before .before .before .before .before .before .before .before .before .before .if1 .left) in
-    let known = c .before .before .before .before .before .before .before .before .before .before .before .before .before .before .before .before .before .before .before .before .before .before .before .before .before .before .shared-slice-known in
-    let known2 = c .before .before .before .before .before .before .before .before .before .before .before .before .before .before .before .before .before .before .before .before .before .before .before .before .before .shared-slice-known2 in
-    let parts-of = c .before .before .before .before .before .before .before .before .before .before .before .before .before .before .before .before .before .parts-of in
+    let sized = number-value _ size (number-at .ensures ∙ ap numberOf (field-at s k 44 4 (ap length (q .2)))) (u .before .before .before .before .before .before .before .before .before .before .before .if1 .left) in
+    let known = u .before .before .before .before .before .before .before .before .before .before .before .before .before .before .before .before .shared-slice-known in
+    let known2 = u .before .before .before .before .before .before .before .before .before .before .before .before .before .before .before .shared-slice-known2 in
+    let parts-of = u .before .before .before .before .before .before .before .parts-of in
     let checks-fit = c .before .before .before .before .before .before .before .before .before .checks-fit in
     let labels-agree = c .before .before .before .before .before .before .before .labels-agree in
     passed log (a .first .0) (a .kind) (a .score .now) (k + 96) size label sized
-    (c .before .before .before .before .before .before .before .before .before .before .before .before .before .before .before .before .before .before .before .before .before .if1 .left)
-    (omega (arith, c .before .before .before .before .before .before .before .before .before .before .before .before .before .before .before .before .before .before .before .before .if2 .left))
-    (sym (c .before .before .before .before .before .before .before .before .before .before .before .before .before .before .before .before .before .before .before .is-lawful .ensures) ∙ not-false _ (c .before .before .before .before .before .before .before .before .before .before .before .before .before .before .before .before .before .before .if3 .left))
-    (omega (arith, parts-of .ensures, c .before .before .before .before .before .before .before .before .before .before .before .before .before .before .if4 .left, sectors-joined (a .end .0) (a .log .now) (a .waiting .now) (q .0)))
-    (omega (arith, parts-of .ensures, c .before .before .before .before .before .before .before .before .before .before .before .before .before .if5 .left))
+    (u .before .before .before .before .before .before .before .before .before .before .before .if1 .left)
+    (omega (arith, u .before .before .before .before .before .before .before .before .before .before .if2 .left))
+    (sym (u .before .before .before .before .before .before .before .before .before .is-lawful .ensures) ∙ not-false _ (u .before .before .before .before .before .before .before .before .if3 .left))
+    (omega (arith, parts-of .ensures, u .before .before .before .before .if4 .left, sectors-joined (a .end .0) (a .log .now) (a .waiting .now) (q .0)))
+    (omega (arith, parts-of .ensures, u .before .before .before .if5 .left))
     (sym (labels-agree .ensures (dateField s) (sym (q .2))) ∙ not-false _ (c .before .before .before .before .before .before .if8 .left))
     (ap (λ (m : ℕ). checked log m (a .first .0)) (sym (parts-of .ensures)) ∙ sym (checks-fit .ensures) ∙ not-false _ (c .before .before .before .before .before .before .before .before .if7 .left))
     (sym (c .before .before .before .before .before .rest-is-zero .ensures) ∙ not-false _ (c .before .before .before .before .if9 .left))

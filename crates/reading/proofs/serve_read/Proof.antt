@@ -26,7 +26,8 @@ tag-of-requires c κs = omega (arith, read-length _ _ _ (c .before .before .befo
 
 answer-settled-requires : tie.Need-answer-settled-requires
 answer-settled-requires c κs =
-    let start = c .before .before .before .before .before .before .before .before .before .before .before .before .before .before in
+    let u = c .before .before .before .before .before .before .before .before .before .before in
+    let start = u .before .before .before .before in
     let a = start .args in
     let place = c .before .before .before .place .given in
     let w = settled-within (a .kind) (c .before .before .before .before .before .before .score-of .result .now) (a .index .now) (a .log .now) _ (c .before .before .before .before .before .find-settled .ensures _ (place .1)) in
@@ -37,14 +38,15 @@ same-length c = search needs
 
 returns : tie.Need-returns
 returns c =
-    let a = c .before .before .before .before .before .before .before .before .before .before .before .before .before .before .before .before .before .args in
+    let u = c .before .before .before .before .before .before .before .before .before .before in
+    let a = u .before .before .before .before .before .before .before .args in
     let score = c .before .before .before .before .before .before .before .before .before .score-of in
     let place = c .before .before .before .before .before .before .place .given in
     let tag = c .before .before .before .before .tag-of in
     let told = c .before .before .answer-settled .ensures (a .waiting .now) in
     let found = c .before .before .before .before .before .before .before .before .find-settled .ensures _ (place .1) in
     read-as (a .message .now) (a .index .now) (beside (a .log .now) (a .waiting .now)) _ _ (tag .ensures) (a .kind) (a .count) _ _ (score .ensures)
-    (read-settled (a .kind) (score .result .now) (a .index .now) (a .log .now) _ found (a .count) _ (a .waiting .now) _ _ (c .before .before .before .before .before .before .before .before .before .before .before .is-lawful .ensures) (c .before .before .before .before .before .before .before .before .before .before .if1 .taken) _ told)
+    (read-settled (a .kind) (score .result .now) (a .index .now) (a .log .now) _ found (a .count) _ (a .waiting .now) _ _ (u .before .is-lawful .ensures) (c .before .before .before .before .before .before .before .before .before .before .if1 .taken) _ told)
 
 enum-told : tie.Need-enum-told
 enum-told c = search needs
