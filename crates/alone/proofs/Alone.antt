@@ -1,9 +1,8 @@
 -- A store in a log for which nothing waits is the store of one whose first part is blank.
 use mathlib.Core.Path.{_≡_, refl, sym, ap, ap₂, _∙_}
 use mathlib.Core.Bool.{Bool, true, false, cond, _&&_}
-use mathlib.Core.List.{[], _++_}
-use mathlib.Core.Option.{none, some}
-use Prim.Native.Nat.{ℕ, _+_, _*_, _≤_}
+use mathlib.Core.Option.{some}
+use Prim.Native.Nat.{ℕ, _+_}
 use native.Mathlib.Omega.{arith}
 use native.Mathlib.Nat.{sub-zero, zero-add, le-antisymm}
 use lib.Dec.{leb}
@@ -22,7 +21,7 @@ use Rattle.reader.specs.declared.Place.the-variants.{At, Nowhere}
 use Rattle.lookup.proofs.Held.{held-stands}
 use Rattle.lookup.proofs.Outcomes.{placed-some, placed-none}
 use Rattle.log.specs.LookUp.{held}
-use Rattle.log.specs.Parts.{tape, writtenFrom, Lent, alone, beside, oneLog, roomFor, appendRow}
+use Rattle.log.specs.Parts.{tape, writtenFrom, alone, beside, roomFor, appendRow}
 use Rattle.log.specs.Store.{AfterStore, afterStore, receipt, newRow, partsFor, appended, compared, store}
 use Rattle.log.specs.declared.Stored.{Stored}
 use Rattle.log.specs.declared.Stored.the-variants.{New, Refused}

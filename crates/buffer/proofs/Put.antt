@@ -1,12 +1,12 @@
 -- Writing into a byte string: its length, what stands before and behind, two writes side by side, a part that was lent, one store.
-use mathlib.Core.Path.{_≡_, refl, sym, ap, ap₂, _∙_}
-use mathlib.Core.List.{List, [], _∷_, _++_, append-assoc, append-nil}
-use Prim.Native.Nat.{ℕ, _+_, _-_, _≤_, _<_, min}
+use mathlib.Core.Path.{_≡_, sym, ap, ap₂, _∙_}
+use mathlib.Core.List.{[], _∷_, _++_, append-assoc, append-nil}
+use Prim.Native.Nat.{ℕ, _+_, _-_, _≤_, _<_}
 use native.Mathlib.Omega.{arith}
 use native.Mathlib.Nat.{zero-add, add-zero}
 use native.Mathlib.Numerals.{add-one}
-use lib.ListN.{length, getD, take, drop, set, length-append, length-take, length-drop, drop-of-length-le, take-append-drop}
-use lib.Seq.{take-at, drop-at, drop-append-add, drop-drop, set-split, take-all, drop-append-le, take-append-le, length-take-le, take-take}
+use lib.ListN.{length, take, drop, set, length-append, length-take, length-drop, drop-of-length-le, take-append-drop}
+use lib.Seq.{take-at, drop-at, drop-append-add, drop-drop, set-split, length-take-le}
 use Rattle.buffer.specs.Bytes.{Bytes, put}
 
 module _ (d : Bytes) (at : ℕ) (x : Bytes) (h : at + length x ≤ length d) where

@@ -2,7 +2,6 @@
 use mathlib.Core.Path.{_≡_, sym, ap, ap₂, _∙_}
 use Prim.Native.Nat.{ℕ, _+_, _-_, _*_, _≤_}
 use native.Mathlib.Omega.{arith}
-use lib.Dec.{eqb}
 use lib.ListN.{length, take, drop, length-take, length-drop}
 use lib.Seq.{take-all}
 use borrow.Author.Tests.{eq-eqb, ne-eqb}
@@ -15,7 +14,7 @@ use Rattle.tree.specs.Tree.{pointer}
 use Rattle.pair.specs.declared.Verdict.{Verdict}
 use Rattle.pair.specs.declared.Verdict.the-variants.{Open}
 use Rattle.pair.specs.Verdict.{verdict}
-use Rattle.comparison.specs.Compare.{byVerdict, listed, compareBlocks, compareEntries, mostLeaf, comparePosition}
+use Rattle.comparison.specs.Compare.{byVerdict, compareBlocks, compareEntries, mostLeaf, comparePosition}
 use Rattle.comparison.proofs.Bounds.{open-leaf}
 
 pub score-of-20 : (x : Bytes) → length x ≡ 40 → length (take (40 - 20) (drop 20 x)) ≡ 20

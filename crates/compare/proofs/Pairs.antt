@@ -1,6 +1,6 @@
 -- A pair of blocks: skipped, refused, not read, or what is below it.
 use mathlib.Core.Path.{_≡_, sym, ap, ap₂, _∙_}
-use mathlib.Core.Bool.{true, false, cond}
+use mathlib.Core.Bool.{true, false}
 use Prim.Native.Nat.{ℕ, zero, suc, _+_, _-_, _≤_, _<_, max}
 use native.Mathlib.Omega.{arith}
 use lib.ListN.{length}
@@ -18,7 +18,7 @@ use Rattle.pair.specs.Opened.{opened, placeAt}
 use Rattle.pair.proofs.Opened.{OpenedAt, refused-at, goes-on, in-log, not-many, whole-scores}
 use Rattle.comparison.specs.declared.Compared.{Compared}
 use Rattle.comparison.specs.Compared.{none, refused, oneUnit, inOrder}
-use Rattle.comparison.specs.Compare.{Blocks, positions, spending, pairBy, compareBlocks, comparePosition, compareBelow}
+use Rattle.comparison.specs.Compare.{positions, spending, pairBy, compareBlocks, comparePosition, compareBelow}
 use Rattle.compare.specs.Parts.{Lies}
 use Rattle.compare.proofs.InOrder.{OfAll}
 

@@ -14,7 +14,6 @@ use Rattle.entry.specs.declared.Entry.{Entry}
 use Rattle.entry.specs.Entry.{entryOf, wellFormed, scoreOf}
 use Rattle.file.specs.File.{entryReadable}
 use Rattle.walk.specs.Walk.{mostAllowance}
-use Rattle.pair.specs.declared.Verdict.{Verdict}
 use Rattle.pair.specs.declared.Verdict.the-variants.{Open, Differ}
 use Rattle.pair.specs.Verdict.{sameShape, verdictOf, verdict}
 use Rattle.pair.proofs.Verdicts.{by-tests, shape-self}

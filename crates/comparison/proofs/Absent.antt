@@ -1,5 +1,4 @@
 -- Equal scores are skipped unread, a missing block is its refusal, and a refusal stops all.
-use mathlib.Core.Path.{refl}
 use native.Mathlib.Omega.{arith}
 use borrow.Author.Tests.{le-ltb, ne-eqb}
 use Rattle.buffer.proofs.Bytes.{same-refl, same-false}

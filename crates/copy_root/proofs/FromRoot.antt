@@ -1,9 +1,9 @@
 -- A copy from its root: the root, and its directory block.
 use mathlib.Core.Path.{_≡_, sym, ap, _∙_}
 use mathlib.Core.Bool.{Bool, true, false}
-use Prim.Native.Nat.{ℕ, _+_, _-_, _≤_, _<_}
+use Prim.Native.Nat.{ℕ, _+_, _-_, _≤_}
 use native.Mathlib.Omega.{arith}
-use lib.ListN.{length, take, drop}
+use lib.ListN.{take, drop}
 use Rattle.buffer.specs.Bytes.{Bytes}
 use Rattle.refusal.specs.declared.Refusal.{Refusal}
 use Rattle.refusal.specs.declared.Refusal.the-variants.{Entry as IllFormed}
@@ -18,7 +18,7 @@ use Rattle.visit.specs.declared.Walked.{Walked}
 use Rattle.visit.specs.declared.Met.{Met}
 use Rattle.visit.specs.declared.End.the-variants.{Refused as Stopped}
 use Rattle.visit.specs.Met.{metOf, answerOf}
-use Rattle.visit.proofs.Visits.{Known, found-known, spent-within}
+use Rattle.visit.proofs.Visits.{found-known, spent-within}
 use Rattle.descent.specs.Descent.{paddedTo}
 use Rattle.descent.proofs.Padded.{root-padded}
 use Rattle.copying.specs.Copy.{Copied, copied, stopped, kept, copyDirectory, copyTop, copyRoot}

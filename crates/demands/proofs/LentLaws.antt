@@ -6,7 +6,7 @@ use mathlib.Core.Option.{Option, none, some}
 use Prim.Native.Nat.{ℕ, _+_, _-_, _*_, _%_, _≤_, _<_}
 use native.Mathlib.Omega.{arith}
 use lib.Dec.{leb, ltb, eqb}
-use lib.ListN.{length, take, drop, replicate, length-append, length-take, length-drop, length-replicate}
+use lib.ListN.{length, take, replicate, length-take, length-replicate}
 use lib.Seq.{take-append-le}
 use borrow.Author.Tests.{leb-true, lt-leb, ltb-true, ltb-false}
 use Rattle.ground.specs.Choice.{on}
@@ -15,14 +15,14 @@ use Rattle.ground.proofs.Choices.{and-true}
 use Rattle.buffer.specs.Bytes.{Bytes}
 use Rattle.buffer.proofs.Put.{length-put}
 use Rattle.sector.specs.Sector.{blank}
-use Rattle.block.specs.Block.{Row, parts, image, images, valid, written}
+use Rattle.block.specs.Block.{Row, parts, image, valid, written}
 use Rattle.block.specs.Log.{sectors, at, Alike, joined, used}
 use Rattle.block.proofs.At.{at-void}
 use Rattle.block.proofs.Used.{used-le-sectors, at-beyond}
 use Rattle.block.proofs.Joined.{at-log, length-joined, sectors-joined, used-joined}
 use Rattle.block.proofs.Alike.{used-alike}
 use Rattle.block.proofs.Written.{length-written, at-written}
-use Rattle.log.specs.Parts.{Lent, beside, oneLog, tape, writtenFrom, moved, roomFor, appendRow, canSettle, settled}
+use Rattle.log.specs.Parts.{Lent, oneLog, tape, writtenFrom, moved, roomFor, appendRow, canSettle, settled}
 use Rattle.log.proofs.Room.{room-reads, settle-reads}
 use Rattle.log.proofs.Parts.{tape-alone, tape-written, at-moved, used-moved}
 use Rattle.demands.specs.Ledger.{Extent, roomFrom}

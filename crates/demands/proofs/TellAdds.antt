@@ -5,9 +5,9 @@ use mathlib.Core.List.{List, [], _∷_}
 use mathlib.Core.Option.{Option, none, some}
 use Prim.Native.Nat.{ℕ}
 use native.Mathlib.Omega.{arith}
-use lib.Dec.{leb, ltb, eqb}
+use lib.Dec.{leb, eqb}
 use lib.ListN.{length}
-use borrow.Author.Tests.{ltb-false, leb-true, le-leb, eqb-false}
+use borrow.Author.Tests.{leb-true, eqb-false}
 use Rattle.ground.specs.Choice.{on}
 use Rattle.ground.proofs.Choices.{on-ind, and-true, cond-ind}
 use Rattle.buffer.specs.Bytes.{Bytes, same}

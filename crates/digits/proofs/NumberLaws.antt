@@ -1,6 +1,6 @@
 -- Digits and the numbers that they make, for every base and width: each determines the other. Assumes nothing.
 use mathlib.Core.Path.{_≡_, refl, sym, ap, _∙_}
-use mathlib.Core.Bool.{Bool, true, false, _&&_, false≢true}
+use mathlib.Core.Bool.{true}
 use mathlib.Core.List.{List, [], _∷_, _++_, map, append-assoc, append-nil}
 use Prim.Native.Nat.{ℕ, zero, suc, _+_, _*_, _/_, _%_, _^_, _<_}
 use native.Mathlib.Nat.{suc-add, add-suc, add-zero, zero-add, mul-comm, pow-zero, pow-suc, mod-lt, div-add-mod, div-lt-iff-lt-mul}

@@ -1,5 +1,5 @@
 -- What is read of an entry that was written.
-use mathlib.Core.Path.{_≡_, refl, sym, ap, _∙_}
+use mathlib.Core.Path.{_≡_}
 use mathlib.Core.Bool.{true, false}
 use Prim.Native.Nat.{ℕ, _+_, _*_, _/_, _%_, _^_, _<_}
 use native.Mathlib.Omega.{arith}
@@ -11,7 +11,6 @@ use Rattle.word.specs.Number.{digits, valueFrom}
 use Rattle.word.proofs.NumberLaws.{value-digits}
 use Rattle.entry.specs.Entry.{field, flagsOf, scoreOf, entryOf}
 use Rattle.entry.specs.Made.{madeEntry}
-use Rattle.entry.specs.declared.Entry.{Entry}
 
 flags-read : (n depth : ℕ) → n ≡ 1 + 4 * depth → depth < 8 → (n % 2 ≡ 1) × (n / 2 % 2 ≡ 0) × (n / 4 % 8 ≡ depth) × (n / 32 % 8 ≡ 0)
 flags-read n depth e h = (omega arith, omega arith, omega arith, omega arith)

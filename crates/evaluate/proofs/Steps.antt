@@ -1,8 +1,8 @@
 -- What was read, with "or", "and", "not" or a bracket before it.
 use mathlib.Core.Path.{_≡_, refl, sym, ap, _∙_}
 use mathlib.Core.Bool.{Bool, true, false, cond}
-use mathlib.Core.List.{List, [], _∷_}
-use mathlib.Core.Option.{Option, none, some}
+use mathlib.Core.List.{List}
+use mathlib.Core.Option.{none, some}
 use Prim.Native.Nat.{ℕ, zero, suc, _+_, _-_, _*_, _≤_, _<_}
 use native.Mathlib.Omega.{arith}
 use lib.ListN.{length}
@@ -14,7 +14,7 @@ use Rattle.query.specs.Reading.{closeWord}
 use Rattle.query.specs.Place.{wordsFrom, nextIs}
 use Rattle.query.specs.Value.{Valued}
 use Rattle.query.proofs.Front.{after-other, after-word}
-use Rattle.query.proofs.Places.{another-next, Next, next-known}
+use Rattle.query.proofs.Places.{another-next, next-known}
 use Rattle.query.proofs.Fused.{joinStep, notStep, closeStep}
 use Rattle.evaluate.specs.declared.Read.{Read}
 use Rattle.evaluate.specs.declared.Read.the-variants.{Done, Ill}

@@ -1,8 +1,8 @@
 -- A list and a choice by what stands behind their first part, a term by its first word.
 use mathlib.Core.Path.{_≡_, refl, sym, ap, _∙_}
-use mathlib.Core.Bool.{Bool, true, false}
+use mathlib.Core.Bool.{true, false}
 use mathlib.Core.List.{List, _∷_}
-use Prim.Native.Nat.{ℕ, zero, suc, _+_, _-_, _*_, _≤_, _<_}
+use Prim.Native.Nat.{ℕ, zero, suc, _+_, _-_, _*_, _≤_}
 use native.Mathlib.Omega.{arith}
 use lib.ListN.{length}
 use Rattle.buffer.specs.Bytes.{Bytes}
@@ -10,14 +10,14 @@ use Rattle.kleene.specs.declared.Value.{Value}
 use Rattle.kleene.specs.Kleene.{andOf, orOf}
 use Rattle.card.specs.Card.{valueIn}
 use Rattle.query.specs.Reading.{orWord, andWord, notWord, openWord}
-use Rattle.query.specs.Grammar.{nameAt, listAt, choiceAt, termAt}
+use Rattle.query.specs.Grammar.{listAt, choiceAt, termAt}
 use Rattle.query.specs.Place.{wordsFrom, nextIs}
 use Rattle.query.specs.Value.{valueOf, choiceValue, termValue, Valued, valued}
 use Rattle.query.proofs.Places.{another-next, Next, next-known}
 use Rattle.query.proofs.Fused.{notStep, closeStep, list-step, choice-step, not-step, no-room, open-step, name-step}
 use Rattle.evaluate.specs.declared.Read.{Read}
 use Rattle.evaluate.specs.declared.Read.the-variants.{Done, Ill}
-use Rattle.evaluate.specs.Read.{behind, joinedBy, negatedOf, closedOf, Reads, OfList, OfChoice, OfTerm, OfName}
+use Rattle.evaluate.specs.Read.{behind, joinedBy, negatedOf, closedOf, OfList, OfChoice, OfTerm, OfName}
 use Rattle.evaluate.proofs.Steps.{ahead-negated, ahead-closed, negated-behind, closed-behind, join-ill, join-alone, join-more}
 
 -- ---- a list, by its first choice

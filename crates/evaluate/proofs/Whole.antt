@@ -1,5 +1,5 @@
 -- A query as a whole: too long, ill-formed, with words behind it, or told.
-use mathlib.Core.Path.{_≡_, refl, sym, ap, _∙_}
+use mathlib.Core.Path.{_≡_, sym, ap, _∙_}
 use mathlib.Core.List.{List}
 use mathlib.Core.Option.{some}
 use Prim.Native.Nat.{ℕ, _+_, _*_, _≤_, _<_}
@@ -12,12 +12,11 @@ use Rattle.card.specs.Card.{valueIn}
 use Rattle.query.specs.Reading.{mostBytes, mostOpen}
 use Rattle.query.specs.Grammar.{listAt}
 use Rattle.query.specs.Place.{wordsFrom}
-use Rattle.query.specs.Value.{valueOf, Valued, valued}
+use Rattle.query.specs.Value.{valueOf, valued}
 use Rattle.query.proofs.Places.{from-start, from-outside, from-inside}
 use Rattle.query.proofs.Fused.{wholeStep, reading-valued, too-long}
 use Rattle.evaluate.specs.declared.Read.{Read}
 use Rattle.evaluate.specs.declared.Read.the-variants.{Done, Ill}
-use Rattle.evaluate.specs.declared.Answer.{Answer}
 use Rattle.evaluate.specs.declared.Answer.the-variants.{Told, Refused}
 use Rattle.evaluate.specs.Read.{behind, OfList}
 use Rattle.evaluate.specs.Evaluate.{evaluateOf}

@@ -1,7 +1,7 @@
 -- An index kept by requests is the one that rebuilding makes: a store appends a block and enters it, a sync leaves every sector, all else leaves both.
-use mathlib.Core.Path.{_≡_, refl, sym, ap, ap₂, subst, _∙_}
+use mathlib.Core.Path.{_≡_, refl, sym, ap, subst, _∙_}
 use mathlib.Core.Bool.{Bool, true, false, cond, not}
-use mathlib.Core.List.{List, [], _∷_}
+use mathlib.Core.List.{[], _∷_}
 use mathlib.Core.Logic.{_⊎_, inl, inr}
 use mathlib.Core.Option.{Option, none, some}
 use Prim.Native.Nat.{ℕ, _≤_}
@@ -15,7 +15,7 @@ use Rattle.buffer.specs.Bytes.{Bytes, same}
 use Rattle.buffer.proofs.Bytes.{small-drop}
 use Rattle.word.specs.Number.{small}
 use Rattle.sha1.specs.Sha1.{sha1Of}
-use Rattle.refusal.specs.declared.Refusal.the-variants.{BlockType, DataLength, NoRoom, Clash}
+use Rattle.refusal.specs.declared.Refusal.the-variants.{BlockType, DataLength, Clash}
 use Rattle.message.specs.Message.{tagOf, dataOf}
 use Rattle.kind.specs.Kind.{lawful, longest}
 use Rattle.block.specs.Block.{Row, parts, valid}
@@ -26,7 +26,7 @@ use Rattle.log.specs.LookUp.{blocks, held, emptyRow}
 use Rattle.log.specs.Parts.{Lent, oneLog, roomFor, appendRow, canSettle, settled}
 use Rattle.log.proofs.Parts.{tape-alone}
 use Rattle.log.specs.Store.{AfterStore, afterStore, receipt, partsFor, newRow, appended, compared, store}
-use Rattle.log.specs.declared.Stored.the-variants.{New, Duplicate, Refused}
+use Rattle.log.specs.declared.Stored.the-variants.{Duplicate, Refused}
 use Rattle.log.proofs.Allowed.{row-valid}
 use Rattle.index.specs.Index.{cleared}
 use Rattle.hint.specs.Rebuilt.{enteredRow, enteredAll, rebuilt}
@@ -35,12 +35,11 @@ use Rattle.hint.proofs.Alike.{rebuilt-alike}
 use Rattle.hint.proofs.Rebuilt.{rebuilt-appends, rebuilt-hits, rebuilt-keeps}
 use Rattle.hint.proofs.Scan.{exact-is-scan}
 use Rattle.request.specs.Step.{Outcome, allowed, dateAllowed, dateOf, refused, written, write}
-use Rattle.request.specs.declared.Session.{Session}
 use Rattle.request.specs.declared.Session.the-variants.{Greeted}
-use Rattle.indexed.specs.Indexed.{Indexed, readBy, enteredBy, indexAfter, writeBy, stepBy}
+use Rattle.indexed.specs.Indexed.{readBy, enteredBy, indexAfter, writeBy, stepBy}
 use Rattle.indexed.proofs.Ways.{Quiet, step-ways}
 use Rattle.indexed.proofs.OfScore.{read-leaves, any-log-by-index}
-use Rattle.ledger.specs.History.{Item, AllOfBytes, given, Standing, blank-log}
+use Rattle.ledger.specs.History.{Item, given, blank-log}
 use Rattle.ledger.proofs.Trace.{trace-keeps}
 use Rattle.demands.specs.Ledger.{Extent}
 use Rattle.demands.specs.Instance.{archive}

@@ -1,5 +1,5 @@
 -- The demands by any index: each request is answered as by the scan, since no two sound blocks of the log clash; and whatever happens, where none do.
-use mathlib.Core.Path.{_≡_, refl, sym, ap, subst, _∙_}
+use mathlib.Core.Path.{_≡_, refl, ap, subst, _∙_}
 use mathlib.Core.Bool.{true}
 use mathlib.Core.List.{List, [], _∷_, _++_}
 use Prim.Native.Nat.{ℕ}
@@ -11,9 +11,9 @@ use Rattle.request.specs.Step.{Outcome}
 use Rattle.request.specs.declared.Session.{Session}
 use Rattle.indexed.proofs.AsScan.{reads-as-scan}
 use Rattle.ledger.specs.Archive.{Seen}
-use Rattle.ledger.specs.Ledger.{told, has}
-use Rattle.ledger.specs.Trace.{Turn, Trace, trace, All, Along}
-use Rattle.ledger.specs.History.{Item, AllOfBytes, given, Standing, answer, Books, recount, blank-log, blank-books, harmed, harmed-books, first-log, first-books, second-log, second-books, Damage, Zeroing}
+use Rattle.ledger.specs.Ledger.{has}
+use Rattle.ledger.specs.Trace.{Turn, Trace, trace, Along}
+use Rattle.ledger.specs.History.{Item, AllOfBytes, given, Standing, answer, Books, recount, blank-log, blank-books, harmed, harmed-books, first-log, first-books, second-log, second-books, Zeroing}
 use Rattle.ledger.specs.Events.{Shown, Event, ask, harm, stop, crash, grow, answered, happen, beginning, recountEvent, Possible}
 use Rattle.ledger.proofs.Trace.{along-all, along-gives, trace-keeps}
 use Rattle.ledger.proofs.Lists.{Stands, changed-after, goes-on, follows}
@@ -21,7 +21,7 @@ use Rattle.ledger.proofs.Happens.{begins-blank, follows-all, all-that-happens}
 use Rattle.ledger.proofs.After.{none-waits-first, zeroing-first}
 use Rattle.ledger.proofs.Harm.{damage-zeroing}
 use Rattle.ledger.proofs.Theorem.{demand2, demand3-zeroed}
-use Rattle.demands.specs.Ledger.{Asked, Answer, Extent}
+use Rattle.demands.specs.Ledger.{Answer, Extent}
 use Rattle.demands.specs.Instance.{archive}
 use Rattle.demands.proofs.Lawful.{lawful}
 use Rattle.every_index.specs.EveryIndex.{ItemBy, EventBy, seenOf, answerBy, happensBy, happenBy, itemsOf, eventsOf, Agreed, AgreedAtRequest, Agreeing, EveryIndex, Unhealed, EveryIndexUnhealed, NoClashFirst, NoClashSecond, Demand2ByIndex, firstLogBy, Demand3ByIndex, Demand3ZeroedByIndex}

@@ -1,12 +1,12 @@
 -- An index in which every place is free: clearing its buckets changes nothing.
-use mathlib.Core.Path.{_≡_, refl, sym, ap, ap₂, _∙_}
+use mathlib.Core.Path.{_≡_, sym, ap, _∙_}
 use mathlib.Core.Bool.{true}
 use mathlib.Core.List.{_++_}
 use Prim.Native.Nat.{ℕ, _+_, _*_, _/_, _%_, _≤_, _<_}
 use native.Mathlib.Omega.{arith}
 use lib.ListN.{length, getD, take, drop, replicate, take-append-drop}
 use lib.Seq.{length-take-le, getD-take, getD-drop}
-use Rattle.buffer.specs.Bytes.{Bytes, zeros}
+use Rattle.buffer.specs.Bytes.{Bytes}
 use Rattle.buffer.proofs.Bytes.{zeros-getD, zeros-all, zeros-replicated}
 use Rattle.index.specs.Index.{places, placeAt, free, leftOver, cleared}
 

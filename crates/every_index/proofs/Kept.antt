@@ -1,7 +1,7 @@
 -- A complete index stays complete: what is stored is entered, what is settled keeps its sectors, and nothing else changes.
-use mathlib.Core.Path.{_≡_, refl, sym, ap, subst, _∙_}
+use mathlib.Core.Path.{_≡_, refl, sym, subst, _∙_}
 use mathlib.Core.Bool.{Bool, true, false, cond, not}
-use mathlib.Core.List.{List, [], _∷_, List·Memᴰ·not-nil}
+use mathlib.Core.List.{[], _∷_, List·Memᴰ·not-nil}
 use mathlib.Core.Option.{Option, none, some}
 use Prim.Native.Nat.{ℕ, _≤_}
 use native.Mathlib.Omega.{arith}
@@ -18,8 +18,8 @@ use Rattle.message.specs.Message.{framed, tagOf, versionOf, scoreOf, dataOf, re
 use Rattle.message.specs.declared.Request.{Request}
 use Rattle.message.specs.declared.Request.the-variants.{Ping, Hello, Goodbye, Read, Write, Sync, Unknown, Ill}
 use Rattle.kind.specs.Kind.{lawful, longest}
-use Rattle.block.specs.Block.{Row, parts, valid}
-use Rattle.block.specs.Log.{Alike, sectors, used}
+use Rattle.block.specs.Block.{Row}
+use Rattle.block.specs.Log.{Alike, used}
 use Rattle.block.proofs.Alike.{sound-alike}
 use Rattle.log.specs.LookUp.{held, emptyRow}
 use Rattle.log.specs.Parts.{Lent, oneLog, roomFor, canSettle, settled, appendRow}
@@ -28,9 +28,9 @@ use Rattle.log.specs.declared.Stored.{Stored}
 use Rattle.log.specs.declared.Stored.the-variants.{New, Duplicate, Refused}
 use Rattle.log.proofs.Allowed.{row-valid}
 use Rattle.refusal.specs.declared.Refusal.the-variants.{BlockType, DataLength}
-use Rattle.hint.specs.Hint.{heldBy, hint}
+use Rattle.hint.specs.Hint.{heldBy}
 use Rattle.hint.specs.Rebuilt.{enteredRow}
-use Rattle.hint.specs.Promises.{Complete, Appends}
+use Rattle.hint.specs.Promises.{Complete}
 use Rattle.hint.proofs.Alike.{hint-alike}
 use Rattle.hint.proofs.Appended.{entered-hits}
 use Rattle.request.specs.Step as steps
@@ -47,7 +47,7 @@ use Rattle.demands.specs.Instance.{void, archive}
 use Rattle.demands.specs.Ledger.{Extent}
 use Rattle.demands.proofs.Lawful.{lawful as laws}
 use Rattle.demands.proofs.LentLaws.{one-appended, room-one, at-settled, settle-fits}
-use Rattle.demands.proofs.TellAdds.{rowOf, date-or-none, log-allowed-of}
+use Rattle.demands.proofs.TellAdds.{date-or-none, log-allowed-of}
 use Rattle.demands.proofs.Seen.{held-zero, empty-score}
 use Rattle.every_index.specs.Kept.{HasPlace, KeepsComplete, Kept, keep, NeverFull, KeptIndexHits}
 

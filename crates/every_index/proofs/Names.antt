@@ -8,7 +8,7 @@ use mathlib.Core.Option.{Option, none, some}
 use Prim.Native.Nat.{ℕ}
 use lib.Dec.{ltb}
 use Rattle.ledger.specs.Archive.{Effect, stays, adds, settles, Archive}
-use Rattle.ledger.specs.Ledger.{has, Ledger, empty, told, enter, settle, covers, hit, intact, keepRows, there, thereRows, loose, crashed, atSettling, note}
+use Rattle.ledger.specs.Ledger.{has, Ledger, empty, told, enter, settle, hit, intact, keepRows, there, thereRows, loose, crashed, atSettling, note}
 use Rattle.ledger.specs.History.{Item, given, ruling, Books}
 use Rattle.ledger.specs.Events.{SomeOfBytes, begun, beginning}
 use Rattle.ledger.specs.Named.{AddsNewNames}

@@ -1,6 +1,6 @@
 -- Where intact rows of one type and score have the same bytes, no two sound blocks of the log clash: each is an intact row. So it is where no two rows have the
 -- same type and score.
-use mathlib.Core.Path.{_≡_, refl, sym, ap, ap₂, _∙_}
+use mathlib.Core.Path.{_≡_, ap}
 use mathlib.Core.List.{List·Memᴰ}
 use mathlib.Core.Option.{some}
 use Prim.Native.Nat.{ℕ}
@@ -8,7 +8,7 @@ use Rattle.buffer.specs.Bytes.{Bytes}
 use Rattle.block.specs.Block.{Row}
 use Rattle.log.specs.Parts.{Lent, oneLog}
 use Rattle.hint.specs.Promises.{NoClash}
-use Rattle.ledger.specs.Ledger.{Ledger, intact}
+use Rattle.ledger.specs.Ledger.{intact}
 use Rattle.ledger.specs.History.{Books}
 use Rattle.ledger.specs.Reflects.{Reflects}
 use Rattle.ledger.specs.Named.{AddsNewNames}

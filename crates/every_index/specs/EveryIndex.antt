@@ -16,7 +16,7 @@ use Rattle.ledger.specs.Ledger.{has, intact}
 use Rattle.ledger.specs.Trace.{Turn, trace, Along}
 use Rattle.ledger.specs.History.{Item, AllOfBytes, given, Standing, Books, recount, blank-log, blank-books, harmed, harmed-books, first-log, first-books, second-log, Damage, Zeroing}
 use Rattle.ledger.specs.Events.{Shown, Event, ask, harm, stop, crash, grow, answered, happen, recountEvent, Possible}
-use Rattle.demands.specs.Ledger.{Asked, Answer, Extent}
+use Rattle.demands.specs.Ledger.{Answer, Extent}
 use Rattle.demands.specs.Instance.{archive}
 
 -- a message, or anything else that happens, and the index that is lent with it; only a request looks at one

@@ -8,7 +8,7 @@ use lib.Dec.{eqb}
 use lib.ListN.{length}
 use Rattle.buffer.specs.Bytes.{Bytes}
 use Rattle.word.specs.Number.{small}
-use Rattle.log.specs.Parts.{Lent, tape}
+use Rattle.log.specs.Parts.{Lent}
 use Rattle.known.specs.declared.Known.{Known}
 use Rattle.known.specs.Known.{doubtOf, exactly, learned}
 use Rattle.known_request.specs.Quick.{Quick}
@@ -19,8 +19,8 @@ use Rattle.indexed.specs.Indexed.{Indexed, stepBy}
 use Rattle.block.specs.Log.{used}
 use Rattle.ledger.specs.Archive.{Seen}
 use Rattle.ledger.specs.Trace.{Turn, trace, Along}
-use Rattle.ledger.specs.History.{Item, given, Standing, answer, Books, recount, blank-log, blank-books}
-use Rattle.ledger.specs.Events.{Shown, Event, ask, harm, stop, crash, grow, answered, happen, recountEvent, EventHistory, log-then, books-then}
+use Rattle.ledger.specs.History.{Item, given, Standing, answer, Books, blank-log, blank-books}
+use Rattle.ledger.specs.Events.{Shown, Event, ask, harm, stop, crash, grow, answered, happen, recountEvent, log-then, books-then}
 use Rattle.ledger.proofs.Trace.{Agree}
 use Rattle.ledger.proofs.Lists.{Stands}
 use Rattle.ledger.proofs.Happens.{begins-blank, follows-all, stands-then}
@@ -29,9 +29,9 @@ use Rattle.demands.specs.Instance.{grown, archive}
 use Rattle.demands.proofs.Lawful.{lawful}
 use Rattle.demands.proofs.LogLaws.{used-grown}
 use Rattle.demands.proofs.LentLaws.{tape-grown}
-use Rattle.every_index.specs.EveryIndex.{seenOf, answerBy, Agreeing, Unhealed}
+use Rattle.every_index.specs.EveryIndex.{seenOf, answerBy, Agreeing}
 use Rattle.every_index.proofs.EveryIndex.{as-scan, unhealed-agrees}
-use Rattle.every_known.specs.EveryKnown.{Serving, opened, learning, askKnown, answerKnown, happensKnown, Moment, taking, happenKnown, eventsIn, EveryKnown, EveryKnownUnhealed, EveryKnownFrom, GrowthLeavesKnown}
+use Rattle.every_known.specs.EveryKnown.{Serving, opened, learning, askKnown, happensKnown, Moment, taking, happenKnown, eventsIn, EveryKnown, EveryKnownUnhealed, EveryKnownFrom, GrowthLeavesKnown}
 
 -- ---- one request
 

@@ -11,11 +11,10 @@ use Rattle.buffer.specs.Bytes.{Bytes, zeros}
 use Rattle.buffer.proofs.Bytes.{zeros-getD}
 use Rattle.refusal.specs.declared.Refusal.the-variants.{Entry as IllFormed}
 use Rattle.kind.specs.Kind.{longest}
-use Rattle.log.specs.LookUp.{logAllowed, lentAllowed}
+use Rattle.log.specs.LookUp.{lentAllowed}
 use Rattle.message.specs.declared.Request.the-variants.{Ill}
 use Rattle.message.specs.Message.{typeOf, readOf, writeOf, requestOf}
 use Rattle.request.specs.Step.{replyRoom, fresh, greeted, inSession, step}
-use Rattle.request.specs.declared.Session.{Session}
 use Rattle.request.specs.declared.Session.the-variants.{Fresh, Greeted, Closed}
 use Rattle.entry.specs.Entry.{entryOf, wellFormed, entryAllowed}
 use Rattle.entry.specs.declared.Entry.{Entry}

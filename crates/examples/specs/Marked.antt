@@ -9,7 +9,7 @@ use Rattle.buffer.specs.Bytes.{Bytes}
 use Rattle.refusal.specs.declared.Refusal.the-variants.{NotHeld, NotKnown, DataLength}
 use Rattle.kind.specs.Kind.{lawful}
 use Rattle.block.specs.Counts.{Count, table, countOf}
-use Rattle.log.specs.LookUp.{logAllowed, lentAllowed}
+use Rattle.log.specs.LookUp.{lentAllowed}
 use Rattle.message.specs.Message.{framed, tagOf, dataOf, requestOf}
 use Rattle.message.specs.Reply.{errorReply}
 use Rattle.message.specs.declared.Request.the-variants.{Write}

@@ -9,7 +9,6 @@ use Rattle.buffer.specs.Bytes.{Bytes}
 use Rattle.refusal.specs.declared.Refusal.the-variants.{NoRoom}
 use Rattle.sha1.specs.Sha1.{sha1Of}
 use Rattle.block.specs.Block.{Row, written}
-use Rattle.log.specs.LookUp.{logAllowed}
 use Rattle.block.specs.Log.{sectors, used}
 use Rattle.log.specs.Parts.{Lent, beside, moved}
 use Rattle.request.specs.Step.{replyRoom, granted, refused, step, allowed, dateAllowed}

@@ -6,7 +6,7 @@ use Prim.Native.Nat.{ℕ, _+_, _≤_, _<_}
 use lib.ListN.{length, getD, drop}
 use Rattle.buffer.specs.Bytes.{Bytes}
 use Rattle.refusal.specs.declared.Refusal.the-variants.{Body, Entry as IllFormed}
-use Rattle.log.specs.LookUp.{logAllowed, lentAllowed}
+use Rattle.log.specs.LookUp.{lentAllowed}
 use Rattle.message.specs.Message.{framed, typeOf, tagOf}
 use Rattle.log.specs.Parts.{Lent}
 use Rattle.request.specs.Step.{replyRoom, refused, step, allowed, dateAllowed}

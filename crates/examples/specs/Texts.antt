@@ -8,7 +8,6 @@ use Rattle.buffer.specs.Bytes.{Bytes}
 use Rattle.word.specs.Number.{beBytes}
 use Rattle.utf8.specs.Examples.{Example, table}
 use Rattle.message.specs.Message.{requestOf}
-use Rattle.message.specs.declared.Request.{Request}
 use Rattle.message.specs.declared.Request.the-variants.{Hello, Ill}
 
 -- "[s] is a two-byte count and text"

@@ -20,7 +20,7 @@ use Rattle.leaf.specs.Leaf.{leafRun, under}
 use Rattle.leaf.specs.Fetch.{runIn}
 use Rattle.leaf.proofs.Places.{byte-place}
 use Rattle.leaf.proofs.Steps.{leaf-in, leaf-past}
-use Rattle.fill.specs.Fill.{Read, byte, refused, byteOf, byteBelow}
+use Rattle.fill.specs.Fill.{byte, refused, byteOf, byteBelow}
 
 sum-front : (x r j o : ℕ) → x + r ≡ o → o + j ≡ x + (r + j)
 sum-front x r j o e = omega arith

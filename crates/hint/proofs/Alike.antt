@@ -1,5 +1,5 @@
 -- Two logs with the same sectors: look-up by index is the same, and so is the index rebuilt from them.
-use mathlib.Core.Path.{_≡_, ap, _∙_}
+use mathlib.Core.Path.{_≡_}
 use Prim.Native.Nat.{ℕ}
 use Rattle.buffer.specs.Bytes.{Bytes}
 use Rattle.block.specs.Log.{Alike}

@@ -2,7 +2,7 @@
 use mathlib.Core.Path.{_≡_, refl, sym, ap, ap₂, _∙_}
 use mathlib.Core.Bool.{Bool, true, false, cond}
 use mathlib.Core.List.{List, [], _∷_, List·Memᴰ·head, List·Memᴰ·tail}
-use Prim.Native.Nat.{ℕ, zero, suc, _+_, _-_, _*_, _≤_, _<_}
+use Prim.Native.Nat.{ℕ, zero, suc, _+_, _-_, _*_, _<_}
 use native.Mathlib.Omega.{arith}
 use lib.Dec.{eqb, ltb}
 use borrow.Author.Tests.{eqb-true, eqb-false}
@@ -11,7 +11,7 @@ use Rattle.buffer.specs.Bytes.{Bytes, zeros}
 use Rattle.block.specs.Block.{Row, valid}
 use Rattle.block.proofs.Facts.{score-length}
 use Rattle.log.specs.LookUp.{blocks}
-use Rattle.index.specs.Index.{places, bucketOf, placeAt, free, firstFree, freePlace, hasFree, entered, cleared}
+use Rattle.index.specs.Index.{places, bucketOf, placeAt, firstFree, freePlace, hasFree, cleared}
 use Rattle.index.specs.declared.Bucket.{Bucket}
 use Rattle.index.proofs.Buckets.{in-bucket}
 use Rattle.index.proofs.Entered.{length-entered, entered-place, entered-other, entered-full, length-cleared, cleared-place}

@@ -1,20 +1,18 @@
 -- A block appended to the log and entered into the index: an index that led to every block still does.
 use mathlib.Core.Path.{_≡_, refl, sym, ap, ap₂, _∙_, subst}
 use mathlib.Core.Bool.{Bool, true, false, cond, _&&_, true≢false}
-use mathlib.Core.List.{List, [], _∷_, _++_, List·Memᴰ, List·Memᴰ·append-cases, List·Memᴰ·eq-of-singleton}
+use mathlib.Core.List.{[], _∷_, List·Memᴰ, List·Memᴰ·append-cases, List·Memᴰ·eq-of-singleton}
 use mathlib.Core.Logic.{_≢_, _⊎_, inl, inr}
 use mathlib.Core.Option.{Option, none, some}
-use Prim.Native.Nat.{ℕ, _+_, _-_, _*_, _≤_, _<_}
-use native.Mathlib.Omega.{arith}
+use Prim.Native.Nat.{ℕ, _-_, _<_}
 use lib.Dec.{eqb, ltb}
 use borrow.Author.Tests.{eqb-true, eqb-false, eq-eqb, ltb-true, ltb-false}
 use lib.ListN.{length, getD, take}
-use Rattle.ground.specs.Choice.{on}
 use Rattle.ground.proofs.Choices.{and-true}
 use Rattle.buffer.specs.Bytes.{Bytes, same}
 use Rattle.buffer.proofs.Bytes.{same-true, same-refl}
-use Rattle.block.specs.Block.{Row, parts, valid, written}
-use Rattle.block.specs.Log.{sectors, used, sound}
+use Rattle.block.specs.Block.{Row, written}
+use Rattle.block.specs.Log.{used, sound}
 use Rattle.block.proofs.Facts.{score-length}
 use Rattle.block.proofs.Sound.{sound-reads}
 use Rattle.block.proofs.Apart.{none-past}
@@ -22,11 +20,10 @@ use Rattle.log.specs.LookUp.{blocks, firstOf}
 use Rattle.log.proofs.Blocks.{blocks-in, blocks-out}
 use Rattle.log.proofs.First.{first-sound}
 use Rattle.log.proofs.Written.{first-front, still, same-sound}
-use Rattle.log.proofs.Appended.{new-sound, blocks-added}
-use Rattle.index.specs.Index.{places, bucketOf, placeAt, named, sectorAt, free, freePlace, hasFree, entered}
-use Rattle.index.proofs.Buckets.{in-bucket, free-range}
-use Rattle.index.proofs.Entered.{length-entered, entered-place, entered-other, entered-full, entered-stays, taken-free}
-use Rattle.hint.specs.Hint.{soundWith, trueAt, firstFound, hint}
+use Rattle.log.proofs.Appended.{blocks-added}
+use Rattle.index.specs.Index.{bucketOf, placeAt, named, sectorAt, free, freePlace, hasFree}
+use Rattle.index.proofs.Entered.{entered-other, entered-full, entered-stays, taken-free}
+use Rattle.hint.specs.Hint.{soundWith, trueAt, hint}
 use Rattle.hint.specs.Rebuilt.{enteredRow}
 use Rattle.hint.specs.Promises.{Exact, Complete, Appends, EnteredHits, EnteredExact, HintStays}
 use Rattle.hint.proofs.Found.{some-not-none, is-some, found-any, found-same, found-or}

@@ -1,6 +1,6 @@
 -- A bucket that holds the entries of a list of rows, in their order, and free places behind them: what is found there, and what entering does to it.
 use mathlib.Core.Path.{_≡_, refl, sym, ap, ap₂, _∙_}
-use mathlib.Core.Bool.{Bool, true, false, cond, _&&_, true≢false}
+use mathlib.Core.Bool.{Bool, true, false, cond, _&&_}
 use mathlib.Core.List.{List, [], _∷_, _++_, List·Memᴰ, List·Memᴰ·head, List·Memᴰ·tail}
 use mathlib.Core.Logic.{_≢_, _⊎_, inl, inr}
 use mathlib.Core.Option.{Option, none, some}
@@ -17,7 +17,7 @@ use Rattle.block.specs.Block.{Row, valid}
 use Rattle.block.specs.Log.{sound}
 use Rattle.block.proofs.Facts.{score-length}
 use Rattle.log.specs.LookUp.{firstOf}
-use Rattle.index.specs.Index.{places, bucketOf, placeAt, named, entryBytes, free, firstFree, freePlace, hasFree, entered}
+use Rattle.index.specs.Index.{places, bucketOf, placeAt, named, entryBytes, free, firstFree, freePlace, hasFree}
 use Rattle.index.proofs.Places.{length-named}
 use Rattle.index.proofs.Buckets.{buckets-apart, free-after}
 use Rattle.index.proofs.Entered.{length-entered, entered-place, entered-other, entered-outside}

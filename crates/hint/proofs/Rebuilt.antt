@@ -1,14 +1,14 @@
 -- A rebuilt index: each bucket holds the entries of its sound blocks, in log order; so it leads to every block.
-use mathlib.Core.Path.{_≡_, refl, sym, ap, ap₂, _∙_, subst}
+use mathlib.Core.Path.{_≡_, refl, sym, ap, _∙_, subst}
 use mathlib.Core.Bool.{Bool, true, false, cond, _&&_, true≢false}
 use mathlib.Core.List.{List, [], _∷_, _++_, append-nil, append-assoc, List·Memᴰ, List·Memᴰ·head, List·Memᴰ·tail, List·Memᴰ·not-nil, List·Memᴰ·cases-cons, List·Memᴰ·append-cases, List·Memᴰ·eq-of-singleton}
 use mathlib.Core.Logic.{_≢_, _⊎_, inl, inr}
 use mathlib.Core.Option.{Option, none, some}
-use Prim.Native.Nat.{ℕ, zero, suc, _+_, _-_, _*_, _≤_, _<_}
+use Prim.Native.Nat.{ℕ, _+_, _-_, _*_, _≤_, _<_}
 use native.Mathlib.Omega.{arith}
 use lib.Dec.{eqb}
 use borrow.Author.Tests.{eqb-true, eqb-false, eq-eqb}
-use lib.ListN.{length, getD, length-append, replicate}
+use lib.ListN.{length, getD, length-append}
 use Rattle.ground.proofs.Choices.{and-true}
 use Rattle.buffer.specs.Bytes.{Bytes, same, zeros}
 use Rattle.buffer.proofs.Bytes.{same-true, zeros-replicate}
@@ -20,12 +20,12 @@ use Rattle.log.specs.LookUp.{blocks, firstOf}
 use Rattle.log.proofs.Blocks.{blocks-out}
 use Rattle.log.proofs.First.{first-sound}
 use Rattle.log.proofs.Appended.{blocks-added}
-use Rattle.index.specs.Index.{places, bucketOf, placeAt, leftOver, entered, cleared}
+use Rattle.index.specs.Index.{places, bucketOf, placeAt, leftOver, cleared}
 use Rattle.index.proofs.Buckets.{bucket-whole}
 use Rattle.index.proofs.Entered.{left-over-entered, length-cleared, left-over-cleared, cleared-place}
 use Rattle.hint.specs.Hint.{trueAt, firstFound, hint}
 use Rattle.hint.specs.Rebuilt.{enteredRow, enteredAll, rebuilt}
-use Rattle.hint.specs.Promises.{ofBucket, Exact, RebuiltHits, RebuiltKeeps, RebuiltAppends}
+use Rattle.hint.specs.Promises.{ofBucket, RebuiltHits, RebuiltKeeps, RebuiltAppends}
 use Rattle.hint.proofs.Sound.{head-lt}
 use Rattle.hint.proofs.Leads.{hint-finds}
 use Rattle.hint.proofs.Filled.{Each, Valid, filled-first, Holds, length-row, holds-own, holds-other}

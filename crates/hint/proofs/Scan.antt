@@ -1,16 +1,14 @@
 -- What look-up by index gives beside the scan, for any index.
 use mathlib.Core.Path.{_≡_, refl, sym, ap, _∙_}
 use mathlib.Core.Bool.{Bool, true, false, cond, _&&_}
-use mathlib.Core.Logic.{_≢_, _⊎_, inl, inr}
+use mathlib.Core.Logic.{_⊎_, inl, inr}
 use mathlib.Core.Option.{Option, none, some}
 use Prim.Native.Nat.{ℕ}
-use native.Mathlib.Omega.{arith}
 use Rattle.ground.specs.Choice.{on}
 use Rattle.ground.proofs.Choices.{and-true}
 use Rattle.buffer.specs.Bytes.{Bytes, same}
 use Rattle.buffer.proofs.Bytes.{same-true}
 use Rattle.kind.specs.Kind.{lawful, zeroScore}
-use Rattle.refusal.specs.declared.Refusal.{Refusal}
 use Rattle.block.specs.Block.{Row, placeOf}
 use Rattle.block.specs.Log.{sound}
 use Rattle.log.specs.LookUp.{blocks, firstOf, emptyRow, held, absence, lookUp, lookNumber, lookSector}
@@ -18,8 +16,7 @@ use Rattle.log.specs.declared.Look.{Look}
 use Rattle.log.specs.declared.Look.the-variants.{Found, Refused}
 use Rattle.log.proofs.First.{first-sound}
 use Rattle.hint.specs.Hint.{hint, heldBy, lookUpBy}
-use Rattle.hint.specs.Promises.{NoClash, bytesOf, HintIsScan, OneBlockIsTheScans, RefusesAlike, HintHolds, Exact, ExactIsScan}
-use Rattle.hint.proofs.Found.{some-not-none, is-some}
+use Rattle.hint.specs.Promises.{bytesOf, HintIsScan, OneBlockIsTheScans, RefusesAlike, HintHolds, ExactIsScan}
 use Rattle.hint.proofs.Leads.{hint-sound, hint-finds}
 
 -- what is seen of a look-up by index is what is seen of the scan, if that is so of any hint

@@ -1,15 +1,14 @@
 -- An index too short for one place in each bucket: nothing is found by it, and nothing is entered.
-use mathlib.Core.Path.{_≡_, refl, ap}
-use mathlib.Core.Bool.{cond}
+use mathlib.Core.Path.{_≡_}
 use mathlib.Core.Option.{none}
-use Prim.Native.Nat.{ℕ, _+_, _-_, _*_, _/_, _<_}
+use Prim.Native.Nat.{ℕ, _+_, _-_, _*_, _<_}
 use native.Mathlib.Omega.{arith}
 use lib.ListN.{length, getD}
 use Rattle.buffer.specs.Bytes.{Bytes}
 use Rattle.log.specs.LookUp.{held, lookUp, lookUpAsked}
 use Rattle.log.specs.Parts.{tape}
 use Rattle.index.specs.Index.{places, bucketOf, firstFree, entered}
-use Rattle.hint.specs.Hint.{trueAt, firstFound, hint, heldBy, lookUpBy, lookUpByAsked}
+use Rattle.hint.specs.Hint.{firstFound, hint, heldBy, lookUpBy, lookUpByAsked}
 use Rattle.hint.specs.Promises.{EmptyIsScan}
 
 module _ (index : Bytes) (h : length index < 6400) where

@@ -1,24 +1,24 @@
 -- What an entry is true of is sound at its sector; and a place with an entry leads to its block, a free one to none.
 use mathlib.Core.Path.{_≡_, refl, sym, ap, ap₂, _∙_, subst}
 use mathlib.Core.Bool.{Bool, true, false, cond, _&&_, false≢true}
-use mathlib.Core.List.{[], _∷_, _++_}
+use mathlib.Core.List.{[]}
 use mathlib.Core.Logic.{_≢_}
 use mathlib.Core.Option.{Option, none, some}
-use Prim.Native.Nat.{ℕ, _+_, _-_, _^_, _≤_, _<_}
+use Prim.Native.Nat.{ℕ, _-_, _^_, _<_}
 use native.Mathlib.Omega.{arith}
 use lib.Dec.{eqb}
 use borrow.Author.Tests.{eqb-true, eq-eqb}
-use lib.ListN.{length, getD, take, drop, List·getD-append}
+use lib.ListN.{length, getD, take, drop}
 use lib.Seq.{take-at, drop-at, getD-take, getD-at}
 use Rattle.ground.specs.Choice.{on}
 use Rattle.ground.proofs.Choices.{and-true}
 use Rattle.word.specs.Number.{beBytes, beNumber}
 use Rattle.word.proofs.NumberLaws.{value-digits}
-use Rattle.buffer.specs.Bytes.{Bytes, same, zeros}
+use Rattle.buffer.specs.Bytes.{Bytes, same}
 use Rattle.buffer.proofs.Bytes.{same-refl, same-true, zeros-getD}
 use Rattle.sha1.proofs.Digest.{digest-bytes}
 use Rattle.kind.specs.Kind.{lawful}
-use Rattle.block.specs.Block.{Row, parts, valid}
+use Rattle.block.specs.Block.{Row, valid}
 use Rattle.block.specs.Log.{soundAs, sound}
 use Rattle.block.proofs.Tests.{cond-some}
 use Rattle.block.proofs.Facts.{valid-facts, parts-pos, score-length}

@@ -1,13 +1,13 @@
 -- Buckets lie within the buffer, apart from each other; the first free place of a range.
-use mathlib.Core.Path.{_≡_, refl, sym, ap, _∙_, subst}
-use mathlib.Core.Bool.{Bool, true, false, cond, true≢false}
+use mathlib.Core.Path.{_≡_, ap, _∙_}
+use mathlib.Core.Bool.{true, false}
 use Prim.Native.Nat.{ℕ, zero, suc, _+_, _-_, _*_, _/_, _≤_, _<_}
 use native.Mathlib.Nat.{mul-le-mul-left, mul-suc}
 use native.Mathlib.Omega.{arith}
 use lib.ListN.{length, getD}
 use Rattle.ground.proofs.Choices.{cond-ind}
 use Rattle.buffer.specs.Bytes.{Bytes}
-use Rattle.index.specs.Index.{places, bucketOf, placeAt, free, firstFree}
+use Rattle.index.specs.Index.{places, bucketOf, free, firstFree}
 
 -- bucket b of the 256 that m bytes have
 pub bucket-fits : (m b : ℕ) → b < 256 → 25 * (places m * b + places m) ≤ m

@@ -1,19 +1,18 @@
 -- What entering and clearing leave of a buffer.
 use mathlib.Core.Path.{_≡_, refl, sym, ap, _∙_}
-use mathlib.Core.Bool.{Bool, true, false, cond, true≢false}
+use mathlib.Core.Bool.{Bool, true, false, true≢false}
 use mathlib.Core.List.{_++_}
 use mathlib.Core.Logic.{_≢_, _⊎_, inl, inr}
-use Prim.Native.Nat.{ℕ, zero, suc, _+_, _-_, _*_, _/_, _≤_, _<_}
+use Prim.Native.Nat.{ℕ, zero, suc, _+_, _-_, _*_, _≤_, _<_}
 use native.Mathlib.Nat.{sub-zero, zero-sub}
 use native.Mathlib.Omega.{arith}
-use lib.Dec.{ltb}
 use borrow.Author.Tests.{ltb-true}
 use lib.ListN.{length, getD, take, drop, replicate, length-append, length-drop, length-replicate, replicate-append-replicate}
 use lib.Seq.{take-at, drop-at, drop-append-le, take-append-le}
 use Rattle.ground.proofs.Choices.{cond-ind}
 use Rattle.buffer.specs.Bytes.{Bytes, put}
 use Rattle.buffer.proofs.Put.{length-put}
-use Rattle.index.specs.Index.{places, bucketOf, placeAt, entryBytes, free, firstFree, freePlace, hasFree, entered, leftOver, cleared}
+use Rattle.index.specs.Index.{places, bucketOf, placeAt, entryBytes, free, freePlace, hasFree, entered, leftOver, cleared}
 use Rattle.index.specs.Promises.{EnteredKeeps, EnteredThere, ClearedKeeps}
 use Rattle.index.proofs.Places.{length-entry, drop-behind, put-place, put-other}
 use Rattle.index.proofs.Buckets.{in-bucket, free-range, free-found}

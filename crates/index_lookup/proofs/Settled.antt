@@ -2,22 +2,21 @@
 use mathlib.Core.Path.{_≡_, refl, sym, ap, _∙_}
 use mathlib.Core.Bool.{Bool, true, false, cond, _&&_}
 use mathlib.Core.List.{[]}
-use mathlib.Core.Option.{Option, some}
-use Prim.Native.Nat.{ℕ, _+_, _≤_}
+use mathlib.Core.Option.{some}
+use Prim.Native.Nat.{ℕ, _+_}
 use native.Mathlib.Omega.{arith}
 use lib.ListN.{length}
 use Rattle.ground.specs.Choice.{on}
 use Rattle.buffer.specs.Bytes.{Bytes, same}
 use Rattle.kind.specs.Kind.{lawful, zeroScore}
-use Rattle.block.specs.Block.{Row, placeOf, parts}
+use Rattle.block.specs.Block.{Row, placeOf}
 use Rattle.block.specs.declared.Block.{Block}
-use Rattle.block.specs.Log.{sectors, Alike, at, joined, used, usedOf, bytesOf, soundAs}
+use Rattle.block.specs.Log.{sectors, Alike, joined, used, usedOf, bytesOf, soundAs}
 use Rattle.block.proofs.Joined.{at-alone, sectors-joined}
 use Rattle.block.proofs.Sound.{sound-reads, sound-bytes}
 use Rattle.block.proofs.Used.{used-le-sectors}
-use Rattle.log.specs.declared.Look.{Look}
 use Rattle.log.specs.declared.Look.the-variants.{Found, Refused}
-use Rattle.log.specs.LookUp.{blocks, firstOf, emptyRow, absence}
+use Rattle.log.specs.LookUp.{emptyRow, absence}
 use Rattle.log.specs.Parts.{tape}
 use Rattle.reader.specs.Reader.{placed}
 use Rattle.reader.specs.declared.Place.{Place}

@@ -26,7 +26,7 @@ use Rattle.reader.specs.declared.Place.the-variants.{At, Nowhere}
 use Rattle.lookup.proofs.Outcomes.{placed-some, placed-none, look-cases, look-found}
 use Rattle.index.specs.Index.{bucketOf, placeAt, named, sectorAt}
 use Rattle.index.specs.declared.Bucket.{Bucket}
-use Rattle.hint.specs.Hint.{soundWith, trueAt, firstFound, hint, heldBy, lookUpBy, lookUpByAsked}
+use Rattle.hint.specs.Hint.{trueAt, firstFound, hint, heldBy, lookUpBy, lookUpByAsked}
 use Rattle.hint.proofs.Sound.{with-as, true-reads}
 use Rattle.hint.proofs.Alike.{look-up-by-alike}
 

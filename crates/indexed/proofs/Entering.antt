@@ -1,17 +1,17 @@
 -- Which requests change the index, and what they leave of it.
-use mathlib.Core.Path.{_≡_, refl, ap, _∙_}
+use mathlib.Core.Path.{_≡_, refl}
 use mathlib.Core.Bool.{Bool, true, false, cond, not}
 use mathlib.Core.Logic.{_⊎_, inl, inr}
 use mathlib.Core.Option.{Option}
 use Prim.Native.Nat.{ℕ}
 use lib.Dec.{ltb}
-use lib.ListN.{length, getD}
+use lib.ListN.{length}
 use borrow.Author.Tests.{le-ltb}
 use Rattle.sector_number.specs.declared.SectorNumber.{SectorNumber}
 use Rattle.buffer.specs.Bytes.{Bytes}
 use Rattle.sha1.specs.Sha1.{sha1Of}
 use Rattle.sha1.proofs.Digest.{digest-length, digest-bytes}
-use Rattle.message.specs.Message.{tagOf, scoreOf, dataOf, requestOf}
+use Rattle.message.specs.Message.{tagOf, dataOf, requestOf}
 use Rattle.message.specs.declared.Request.the-variants.{Write}
 use Rattle.kind.specs.Kind.{lawful, longest}
 use Rattle.log.specs.Parts.{Lent}
@@ -23,10 +23,10 @@ use Rattle.index.specs.Index.{entered, leftOver}
 use Rattle.index.proofs.Entered.{entered-keeps}
 use Rattle.refusal.specs.Number.{numberOf}
 use Rattle.refusal.specs.declared.Refusal.the-variants.{BlockType, DataLength}
-use Rattle.request.specs.Step.{Outcome, replyRoom, dateOf, refused, written, write}
+use Rattle.request.specs.Step.{replyRoom, dateOf, refused, written, write}
 use Rattle.request.specs.declared.Session.{Session}
 use Rattle.request.specs.declared.Session.the-variants.{Greeted}
-use Rattle.indexed.specs.Indexed.{Indexed, keeping, readBy, enteredBy, indexAfter, writeBy, greetedBy, inSessionBy, stepBy}
+use Rattle.indexed.specs.Indexed.{readBy, enteredBy, indexAfter, writeBy, greetedBy, inSessionBy, stepBy}
 use Rattle.indexed.specs.Promises.{Stores, EntersWhatItStores, OnlyAStoreEnters}
 use Rattle.indexed.proofs.Ways.{step-ways}
 

@@ -11,7 +11,7 @@ use Rattle.buffer.specs.Bytes.{Bytes}
 use Rattle.sha1.specs.Sha1.{sha1Of}
 use Rattle.refusal.specs.Number.{numberOf}
 use Rattle.refusal.specs.declared.Refusal.the-variants.{BlockType, OverCount, NotHeld, NotKnown}
-use Rattle.message.specs.Message.{tagOf, scoreOf, dataOf, requestOf}
+use Rattle.message.specs.Message.{tagOf, scoreOf, requestOf}
 use Rattle.message.specs.Reply.{answered, readReply}
 use Rattle.message.specs.declared.Request.the-variants.{Read}
 use Rattle.kind.specs.Kind.{lawful, zeroScore}
@@ -24,9 +24,8 @@ use Rattle.log.specs.Parts.{Lent, oneLog}
 use Rattle.hint.specs.Hint.{heldBy}
 use Rattle.hint.proofs.Scan.{hint-holds}
 use Rattle.request.specs.Step.{Outcome, refused, granted, readOf, read}
-use Rattle.request.specs.declared.Session.{Session}
 use Rattle.request.specs.declared.Session.the-variants.{Greeted}
-use Rattle.indexed.specs.Indexed.{Indexed, readBy, writeBy}
+use Rattle.indexed.specs.Indexed.{readBy, writeBy}
 use Rattle.indexed.specs.Promises.{AnyLogByIndex}
 use Rattle.indexed.proofs.Ways.{step-ways}
 

@@ -1,6 +1,5 @@
 -- A block behind all that is below it: stored, or not.
 use mathlib.Core.Path.{_≡_, sym, ap, ap₂, _∙_}
-use mathlib.Core.List.{_++_}
 use Prim.Native.Nat.{ℕ, _+_}
 use lib.ListN.{length, take, drop}
 use lib.Seq.{take-append-seam}

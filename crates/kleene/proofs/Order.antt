@@ -1,6 +1,6 @@
 -- The tables keep a yes and a no where more becomes known.
-use mathlib.Core.Path.{_≡_, refl, sym, ap, ap₂, _∙_}
-use mathlib.Core.Logic.{_⊎_, inl, inr}
+use mathlib.Core.Path.{_≡_, refl, sym, ap, ap₂}
+use mathlib.Core.Logic.{inl, inr}
 use Rattle.kleene.specs.declared.Value.{Value}
 use Rattle.kleene.specs.declared.Value.the-variants.{Yes, No, NotKnown}
 use Rattle.kleene.specs.Kleene.{notOf, andOf, orOf}

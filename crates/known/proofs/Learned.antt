@@ -1,26 +1,24 @@
 -- Look-up, store and sync by what was learned, and what is known afterwards.
 use mathlib.Core.Path.{_≡_, refl, sym, ap, ap₂, _∙_}
 use mathlib.Core.Bool.{Bool, true, false, cond, _&&_}
-use mathlib.Core.List.{List}
 use mathlib.Core.Option.{Option, none, some}
-use Prim.Native.Nat.{ℕ, _+_, _*_, _≤_}
+use Prim.Native.Nat.{ℕ, _+_, _≤_}
 use native.Mathlib.Nat.{le-antisymm}
 use native.Mathlib.Omega.{arith}
 use lib.Dec.{leb}
-use lib.ListN.{length, take, replicate}
+use lib.ListN.{length, replicate}
 use Rattle.ground.specs.Choice.{on}
-use Rattle.buffer.specs.Bytes.{Bytes, same, zeros, put}
+use Rattle.buffer.specs.Bytes.{Bytes, same, zeros}
 use Rattle.kind.specs.Kind.{lawful, zeroScore}
 use Rattle.sha1.specs.Sha1.{sha1Of}
-use Rattle.sector_number.specs.declared.SectorNumber.{SectorNumber}
-use Rattle.block.specs.Block.{Row, parts, written}
-use Rattle.block.specs.Log.{sectors, at, Alike, joined, used}
+use Rattle.block.specs.Block.{Row, written}
+use Rattle.block.specs.Log.{sectors, Alike, used}
 use Rattle.block.proofs.At.{at-void, blank-is}
 use Rattle.block.proofs.Used.{used-le, used-le-sectors}
 use Rattle.block.proofs.Joined.{sectors-joined, used-joined}
 use Rattle.log.specs.LookUp.{blocks, firstOf, emptyRow, held}
-use Rattle.log.specs.Parts.{tape, Lent, beside, writtenFrom, moved, roomFor, appendRow, canSettle, settled}
-use Rattle.log.specs.Store.{AfterStore, afterStore, receipt, store, newRow, partsFor, appended, compared}
+use Rattle.log.specs.Parts.{tape, beside, writtenFrom, moved, roomFor, appendRow, canSettle, settled}
+use Rattle.log.specs.Store.{AfterStore, afterStore, receipt, store, newRow, partsFor, compared}
 use Rattle.log.specs.declared.Stored.the-variants.{New, Refused}
 use Rattle.refusal.specs.declared.Refusal.the-variants.{NoRoom}
 use Rattle.log.proofs.Alike.{blocks-alike, absence-alike}
@@ -28,11 +26,11 @@ use Rattle.log.proofs.Parts.{tape-written, tape-alone, at-moved, used-moved}
 use Rattle.log.proofs.Room.{room-reads, settle-reads}
 use Rattle.hint.specs.Hint.{hint, heldBy}
 use Rattle.hint.specs.Rebuilt.{enteredRow}
-use Rattle.hint.specs.Promises.{Appends, Exact}
+use Rattle.hint.specs.Promises.{Appends}
 use Rattle.hint.proofs.Alike.{hint-alike}
 use Rattle.known.specs.declared.Doubt.{Doubt}
 use Rattle.known.specs.declared.Known.{Known}
-use Rattle.known.specs.Known.{doubtOf, leads, allLead, exactly, learned, heldKnown, owner, roomKnown, appendedKnown, storeKnown, listed, canSettleKnown, settledKnown, afterNew, afterSync}
+use Rattle.known.specs.Known.{doubtOf, allLead, exactly, learned, heldKnown, owner, roomKnown, storeKnown, listed, canSettleKnown, settledKnown}
 use Rattle.known.specs.Promises.{LearnedFinds, LearnedStores, LearnedSettles, KnownAfterNew, KnownAfterSync}
 use Rattle.known.proofs.Exact.{exactly-exact}
 use Rattle.known.proofs.Written.{all-same, exactly-written}

@@ -8,7 +8,6 @@ use lib.Dec.{eqb, leb, ltb}
 use lib.ListN.{length, take, replicate}
 use Rattle.ground.specs.Choice.{on}
 use Rattle.buffer.specs.Bytes.{Bytes, same, put}
-use Rattle.sector_number.specs.declared.SectorNumber.{SectorNumber}
 use Rattle.sha1.specs.Sha1.{sha1Of}
 use Rattle.refusal.specs.declared.Refusal.{Refusal}
 use Rattle.refusal.specs.declared.Refusal.the-variants.{NotHeld, NotKnown, NoRoom}

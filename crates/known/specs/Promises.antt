@@ -1,14 +1,13 @@
 -- What is promised of what is known: where it is what was learned, look-up, store and sync answer as they do without it, and what is known afterwards is
 -- what would be learned then.
 use mathlib.Core.Path.{_≡_}
-use mathlib.Core.Bool.{Bool, true, false, _&&_}
-use mathlib.Core.Option.{Option, none}
+use mathlib.Core.Bool.{true, _&&_}
+use mathlib.Core.Option.{none}
 use Prim.Native.Nat.{ℕ, _+_, _≤_, _<_}
 use lib.ListN.{length, replicate}
 use Rattle.buffer.specs.Bytes.{Bytes}
 use Rattle.sector_number.specs.declared.SectorNumber.{SectorNumber}
 use Rattle.sha1.specs.Sha1.{sha1Of}
-use Rattle.kind.specs.Kind.{longest}
 use Rattle.block.specs.Block.{Row, valid, written}
 use Rattle.block.specs.Log.{sectors, used}
 use Rattle.log.specs.LookUp.{blocks, firstOf, held, absence}
@@ -19,7 +18,7 @@ use Rattle.hint.specs.Rebuilt.{enteredRow}
 use Rattle.hint.specs.Promises.{Exact, Appends}
 use Rattle.known.specs.declared.Doubt.the-variants.{At}
 use Rattle.known.specs.declared.Known.{Known}
-use Rattle.known.specs.Known.{doubtOf, missing, leads, exactly, learned, belongs, heldKnown, owner, storeKnown, listed, afterNew, canSettleKnown, settledKnown, afterSync}
+use Rattle.known.specs.Known.{doubtOf, missing, exactly, learned, belongs, heldKnown, owner, storeKnown, listed, afterNew, canSettleKnown, settledKnown, afterSync}
 
 -- the test is right: it passes exactly if the index leads to where the scan finds each block
 abbrev pub ExactlyExact : Type 0

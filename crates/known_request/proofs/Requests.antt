@@ -1,7 +1,7 @@
 -- A request by what was learned is the request with an index, and what is known then is what would be learned then.
-use mathlib.Core.Path.{_≡_, refl, sym, ap, ap₂, _∙_, subst}
+use mathlib.Core.Path.{_≡_, refl, sym, ap, ap₂, subst}
 use mathlib.Core.Bool.{Bool, true, false, cond, not}
-use mathlib.Core.Option.{Option, none, some}
+use mathlib.Core.Option.{Option, some}
 use Prim.Native.Nat.{ℕ}
 use lib.Dec.{ltb}
 use lib.ListN.{length}
@@ -10,9 +10,8 @@ use Rattle.ground.specs.Choice.{on}
 use Rattle.ground.proofs.Choices.{cond-ind, on-ind}
 use Rattle.buffer.specs.Bytes.{Bytes, same}
 use Rattle.buffer.proofs.Bytes.{small-drop}
-use Rattle.word.specs.Number.{small}
 use Rattle.refusal.specs.declared.Refusal.{Refusal}
-use Rattle.refusal.specs.declared.Refusal.the-variants.{BlockType, OverCount}
+use Rattle.refusal.specs.declared.Refusal.the-variants.{OverCount}
 use Rattle.message.specs.Message.{framed, tagOf, versionOf, scoreOf, dataOf, requestOf}
 use Rattle.message.specs.Reply.{readReply}
 use Rattle.message.specs.declared.Request.{Request}
@@ -20,19 +19,18 @@ use Rattle.message.specs.declared.Request.the-variants.{Ping, Hello, Goodbye, R
 use Rattle.kind.specs.Kind.{lawful}
 use Rattle.sector.specs.Sector.{isDate}
 use Rattle.block.specs.Block.{Row}
-use Rattle.log.specs.LookUp.{absence}
-use Rattle.log.specs.Parts.{Lent, tape, beside, canSettle, settled, moved}
+use Rattle.log.specs.Parts.{Lent, tape, beside, canSettle, settled}
 use Rattle.hint.specs.Hint.{heldBy}
 use Rattle.known.specs.declared.Known.{Known}
-use Rattle.known.specs.Known.{missing, doubtOf, learned, belongs, heldKnown, canSettleKnown, settledKnown, afterSync}
+use Rattle.known.specs.Known.{learned, heldKnown, canSettleKnown, settledKnown}
 use Rattle.known.proofs.Belongs.{learned-belongs}
 use Rattle.known.proofs.Doubts.{missing-is-absence}
 use Rattle.known.proofs.Learned.{learned-finds, learned-settles, known-after-sync}
 use Rattle.request.specs.Step.{Outcome, refused, granted, version, replyRoom, allowed, readOf, sync, fresh, greeted, inSession}
 use Rattle.request.specs.declared.Session.{Session}
 use Rattle.request.specs.declared.Session.the-variants.{Fresh, Greeted, Closed as Shut}
-use Rattle.indexed.specs.Indexed.{Indexed, keeping, readBy, greetedBy, inSessionBy, stepBy}
-use Rattle.known_request.specs.Quick.{Quick, knowing, readFound, readKnown, syncKnown, greetedKnown, inSessionKnown, renewed, stepKnown}
+use Rattle.indexed.specs.Indexed.{keeping, readBy, greetedBy, inSessionBy, stepBy}
+use Rattle.known_request.specs.Quick.{knowing, readFound, readKnown, syncKnown, greetedKnown, inSessionKnown, stepKnown}
 use Rattle.known_request.specs.Promises.{learnedOf, QuickIsServe}
 use Rattle.known_request.proofs.Writes.{Right, write-right}
 

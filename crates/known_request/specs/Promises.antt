@@ -2,7 +2,7 @@
 use mathlib.Core.Path.{_≡_}
 use mathlib.Core.Bool.{true}
 use mathlib.Core.List.{[]}
-use mathlib.Core.Option.{Option, some}
+use mathlib.Core.Option.{some}
 use Rattle.ground.specs.Choice.{on}
 use Rattle.word.specs.Number.{small}
 use Rattle.buffer.specs.Bytes.{Bytes}

@@ -1,7 +1,6 @@
 -- One request by what is known of the log, its waiting part and its index: its outcome, and what is known afterwards. For any bytes and anything that is said
 -- to be known.
-use mathlib.Core.Bool.{Bool, cond, not}
-use mathlib.Core.List.{[]}
+use mathlib.Core.Bool.{cond, not}
 use mathlib.Core.Option.{Option, some}
 use Prim.Native.Nat.{ℕ, _+_}
 use lib.Dec.{ltb}

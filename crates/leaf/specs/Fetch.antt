@@ -1,5 +1,5 @@
 -- What the steps below the tests stand on: the run in the leaf that look-up finds, and what the tests have shown.
-use Prim.Native.Nat.{ℕ, _+_, _≤_, _<_}
+use Prim.Native.Nat.{ℕ, _≤_, _<_}
 use Rattle.kind.specs.Kind.{longest}
 use Rattle.block.specs.Block.{Inside}
 use Rattle.entry.specs.declared.Entry.{Entry}

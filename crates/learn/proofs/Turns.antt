@@ -1,7 +1,6 @@
 -- What the code's tests and turns say of what is learned.
 use mathlib.Core.Path.{_≡_, refl, sym, ap, ap₂, _∙_}
 use mathlib.Core.Bool.{Bool, true, false, cond, _&&_}
-use mathlib.Core.List.{List}
 use mathlib.Core.Logic.{_≢_}
 use mathlib.Core.Option.{Option, none, some}
 use Prim.Native.Nat.{ℕ, suc, _+_, _-_, _≤_, _<_}
@@ -10,8 +9,6 @@ use native.Mathlib.Omega.{arith}
 use native.Mathlib.Numerals.{add-one}
 use lib.Dec.{eqb, leb}
 use lib.ListN.{length, take, drop}
-use borrow.Author.Tests.{le-leb, lt-leb}
-use Rattle.ground.specs.Choice.{on}
 use Rattle.ground.specs.Places.{foundFrom}
 use Rattle.buffer.specs.Bytes.{Bytes}
 use Rattle.word.specs.Hex.{isHex}
@@ -38,7 +35,7 @@ use Rattle.rebuild.proofs.Turns.{kind-hex, score-hex, fields}
 use Rattle.known.specs.declared.Doubt.{Doubt}
 use Rattle.known.specs.declared.Doubt.the-variants.{Clear, At as DoubtAt}
 use Rattle.known.specs.declared.Known.{Known}
-use Rattle.known.specs.Known.{doubtOf, leads, allLead, exactly, learned}
+use Rattle.known.specs.Known.{doubtOf, allLead, exactly, learned}
 use Rattle.learn.specs.Learn.{foundBy, leadsFound}
 
 -- ---- one entry that is found

@@ -1,15 +1,15 @@
 -- Appending adds one sound block, behind all others, and no other: on any log.
-use mathlib.Core.Path.{_≡_, refl, sym, ap, _∙_}
+use mathlib.Core.Path.{_≡_, ap, _∙_}
 use mathlib.Core.Bool.{true}
 use mathlib.Core.List.{List, [], _∷_, _++_}
 use mathlib.Core.Option.{some}
-use Prim.Native.Nat.{ℕ, _+_, _-_, _≤_, _<_}
+use Prim.Native.Nat.{ℕ, _+_, _-_, _≤_}
 use native.Mathlib.Omega.{arith}
 use lib.ListN.{length}
 use Rattle.ground.specs.Places.{foundFrom}
 use Rattle.ground.proofs.Places.{within-in, within-after}
 use Rattle.buffer.specs.Bytes.{Bytes, zeros}
-use Rattle.block.specs.Block.{Row, parts, image, valid, written}
+use Rattle.block.specs.Block.{Row, parts, valid, written}
 use Rattle.block.specs.Log.{sectors, at, used, sound}
 use Rattle.block.proofs.Used.{used-le, blank-past}
 use Rattle.block.proofs.Written.{length-written, at-written}

@@ -1,17 +1,14 @@
 -- What a look-up gives, in numbers; the sector that 12 carries.
 use mathlib.Core.Path.{_≡_, refl, sym, ap, _∙_}
 use mathlib.Core.Bool.{Bool, true, false}
-use Prim.Native.Nat.{ℕ, _+_, _≤_, _<_}
+use Prim.Native.Nat.{ℕ, _<_}
 use native.Mathlib.Omega.{arith}
 use lib.Dec.{ltb}
 use borrow.Author.Tests.{ltb-true, ltb-false}
-use Rattle.buffer.specs.Bytes.{Bytes}
-use Rattle.sector_number.specs.declared.SectorNumber.{SectorNumber}
 use Rattle.refusal.specs.Number.{numberOf, toldSector}
-use Rattle.refusal.specs.declared.Refusal.{Refusal}
 use Rattle.refusal.specs.declared.Refusal.the-variants.{NotKnown, NotHeld}
 use Rattle.block.specs.Log.{used}
-use Rattle.log.specs.LookUp.{blocks, inBlock, firstOutside, firstDoubtful, absence, lookUp, held}
+use Rattle.log.specs.LookUp.{blocks, inBlock, firstDoubtful, lookUp}
 use Rattle.log.specs.Promises.{LookUpGives, TwelveIsFirst}
 use Rattle.log.proofs.FirstDoubt.{outside-at, inside-before, absence-known, absence-held}
 

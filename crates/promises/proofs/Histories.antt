@@ -1,7 +1,6 @@
 -- What holds of every history: the log reflects the ledger, and the ledger before and after the damage.
 use mathlib.Core.Path.{_≡_}
 use mathlib.Core.List.{[]}
-use lib.ListN.{length}
 use Rattle.ledger.specs.Ledger.{Ledger, told}
 use Rattle.ledger.specs.Reflects.{Reflects, Waits}
 use Rattle.ledger.specs.History.{Books, blank-books, harmed-books, first-books}

@@ -1,9 +1,9 @@
 -- The value of what is read, step by step, from the values of its parts.
-use mathlib.Core.Path.{_≡_, refl, sym, ap, _∙_}
+use mathlib.Core.Path.{_≡_, refl, ap, _∙_}
 use mathlib.Core.Bool.{Bool, true, false}
 use mathlib.Core.List.{List, [], _∷_}
-use mathlib.Core.Option.{Option, none, some}
-use Prim.Native.Nat.{ℕ, zero, suc, _+_, _*_, _≤_, _<_}
+use mathlib.Core.Option.{none, some}
+use Prim.Native.Nat.{ℕ, suc, _+_, _*_, _≤_, _<_}
 use lib.ListN.{length}
 use borrow.Author.Tests.{le-leb, lt-leb}
 use Rattle.ground.specs.Choice.{on}
@@ -11,7 +11,7 @@ use Rattle.buffer.specs.Bytes.{Bytes, same}
 use Rattle.card.specs.Name.{isName}
 use Rattle.kleene.specs.declared.Value.{Value}
 use Rattle.kleene.specs.Kleene.{notOf, andOf, orOf}
-use Rattle.query.specs.Reading.{Reading, choice, orElse, Choice, term, andAlso, Term, name, negated, group, orWord, andWord, notWord, openWord, closeWord, mostBytes, mostOpen}
+use Rattle.query.specs.Reading.{Reading, choice, orElse, term, andAlso, Term, negated, group, orWord, andWord, notWord, openWord, closeWord, mostBytes, mostOpen}
 use Rattle.query.specs.Grammar.{Front, words, choose, after, nameAt, listAt, choiceAt, termAt, allRead, readingOf}
 use Rattle.query.specs.Value.{valueOf, choiceValue, termValue, Valued, valued}
 use Rattle.query.proofs.Front.{NotNext, after-other, after-word}

@@ -1,5 +1,4 @@
 -- More that is known keeps every yes and every no.
-use mathlib.Core.Logic.{_⊎_}
 use Rattle.buffer.specs.Bytes.{Bytes}
 use Rattle.kleene.specs.declared.Value.{Value}
 use Rattle.kleene.specs.Order.{Keeps}

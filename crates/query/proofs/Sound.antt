@@ -1,8 +1,8 @@
 -- What is read at the front of words has these words for its tokens, lawful names and no more brackets than may be opened.
 use mathlib.Core.Path.{_≡_, refl, ap, sym, _∙_}
-use mathlib.Core.Bool.{Bool, true, false, cond, _&&_}
+use mathlib.Core.Bool.{Bool, true, _&&_}
 use mathlib.Core.List.{List, [], _∷_, _++_, append-assoc}
-use mathlib.Core.Option.{Option, none, some}
+use mathlib.Core.Option.{none, some}
 use Prim.Native.Nat.{ℕ, zero, suc, _≤_, max}
 use native.Mathlib.Nat.{max-le}
 use native.Mathlib.Omega.{arith}
@@ -10,7 +10,7 @@ use Rattle.ground.specs.Choice.{on}
 use Rattle.ground.proofs.Choices.{on-ind, cond-ind}
 use Rattle.buffer.specs.Bytes.{Bytes}
 use Rattle.card.specs.Name.{isName}
-use Rattle.query.specs.Reading.{Reading, choice, orElse, Choice, term, andAlso, Term, name, negated, group, orWord, andWord, notWord, openWord, closeWord, tokens, choiceTokens, termTokens, named, choiceNamed, termNamed, depth, choiceDepth, termDepth}
+use Rattle.query.specs.Reading.{Reading, Choice, Term, name, group, orWord, andWord, notWord, openWord, closeWord, tokens, choiceTokens, termTokens, named, choiceNamed, termNamed, depth, choiceDepth, termDepth}
 use Rattle.query.specs.Grammar.{Front, after, opening, nameAt, listAt, choiceAt, termAt}
 use Rattle.query.proofs.Front.{after-ind}
 

@@ -1,9 +1,9 @@
 -- The tokens of a reading are read as this reading, where no token behind them goes on with it.
-use mathlib.Core.Path.{_≡_, refl, ap, sym, _∙_}
-use mathlib.Core.Bool.{Bool, true, false, cond, _&&_}
+use mathlib.Core.Path.{_≡_, refl, _∙_}
+use mathlib.Core.Bool.{true}
 use mathlib.Core.List.{List, [], _∷_, _++_, append-assoc}
-use mathlib.Core.Option.{Option, none, some}
-use Prim.Native.Nat.{ℕ, zero, suc, _+_, _*_, _≤_, max}
+use mathlib.Core.Option.{some}
+use Prim.Native.Nat.{ℕ, zero, suc, _+_, _*_, _≤_}
 use native.Mathlib.Nat.{le-max-left, le-max-right}
 use native.Mathlib.Omega.{arith}
 use lib.ListN.{length, length-append}
@@ -11,7 +11,7 @@ use Rattle.ground.proofs.Choices.{and-true}
 use Rattle.buffer.specs.Bytes.{Bytes}
 use Rattle.card.specs.Name.{isName}
 use Rattle.query.specs.Reading.{Reading, choice, orElse, Choice, term, andAlso, Term, name, negated, group, orWord, andWord, notWord, openWord, closeWord, tokens, choiceTokens, termTokens, named, choiceNamed, termNamed, depth, choiceDepth, termDepth}
-use Rattle.query.specs.Grammar.{Front, after, opening, nameAt, listAt, choiceAt, termAt}
+use Rattle.query.specs.Grammar.{nameAt, listAt, choiceAt, termAt}
 use Rattle.query.proofs.Front.{NotNext, after-other, after-word}
 use Rattle.query.proofs.Names.{name-differs, not-is-no-name, open-is-no-name}
 

@@ -8,7 +8,7 @@ use Rattle.ground.specs.Choice.{on}
 use Rattle.buffer.specs.Bytes.{Bytes, same}
 use Rattle.kleene.specs.declared.Value.{Value}
 use Rattle.kleene.specs.declared.Value.the-variants.{Yes, No, NotKnown}
-use Rattle.query.specs.Reading.{Reading, choice, orElse, Choice, term, andAlso, Term, name, negated, group, andWord, orWord, notWord}
+use Rattle.query.specs.Reading.{Reading, choice, orElse, term, andAlso, Term, name, negated, group, andWord, orWord, notWord}
 use Rattle.query.specs.Grammar.{readingOf}
 use Rattle.query.specs.Value.{valueOf}
 

@@ -1,5 +1,5 @@
 -- The cases of a read, one for each return of the code.
-use mathlib.Core.Path.{_≡_, refl, sym, ap, ap₂, _∙_}
+use mathlib.Core.Path.{_≡_, sym, ap, ap₂, _∙_}
 use mathlib.Core.Bool.{Bool, true, false, cond}
 use mathlib.Core.List.{[]}
 use mathlib.Core.Logic.{⊎-elim}

@@ -1,16 +1,16 @@
 -- What the code reads in a label, and one turn of the pass over a log.
 use mathlib.Core.Path.{_≡_, refl, sym, ap, ap₂, _∙_}
-use mathlib.Core.Bool.{Bool, true, false, cond}
+use mathlib.Core.Bool.{Bool, true, false}
 use mathlib.Core.List.{[]}
 use mathlib.Core.Option.{Option, none, some}
-use Prim.Native.Nat.{ℕ, zero, suc, _+_, _-_, _^_, _≤_, _<_}
+use Prim.Native.Nat.{ℕ, suc, _+_, _-_, _^_, _≤_, _<_}
 use native.Mathlib.Nat.{sub-zero}
 use native.Mathlib.Omega.{arith}
 use native.Mathlib.Numerals.{add-one}
 use lib.ListN.{length, take, drop, length-take, length-drop}
 use lib.Seq.{drop-drop}
 use Rattle.ground.specs.Places.{foundFrom}
-use Rattle.buffer.specs.Bytes.{Bytes, same}
+use Rattle.buffer.specs.Bytes.{Bytes}
 use Rattle.buffer.proofs.Bytes.{same-true}
 use Rattle.word.specs.Hex.{isHex, hexValue, hexBytes, readHex, readFrom, readBytes, Reading, reading, readHexBytes}
 use Rattle.hexadecimal.specs.declared.Hex.the-variants.{Value, Bad}

@@ -1,7 +1,7 @@
 -- What locating a file's bytes gives is small: a start within the longest log and waiting part, a length of at most 57,344, a sector of theirs.
 use mathlib.Core.Bool.{Bool, true}
 use mathlib.Core.Path.{_≡_, refl, sym, _∙_}
-use Prim.Native.Nat.{ℕ, _+_, _-_, _*_, _%_, _≤_, _<_, min}
+use Prim.Native.Nat.{ℕ, _-_, _*_, _%_, _≤_, _<_, min}
 use native.Mathlib.Nat.{min-le-left, min-le-right, mod-lt}
 use native.Mathlib.Omega.{arith}
 use lib.Dec.{ltb}

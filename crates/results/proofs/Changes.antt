@@ -1,6 +1,6 @@
 -- What is answered of changes is small enough to pack, and is read back as it was.
 use mathlib.Core.Path.{_≡_, refl, sym, ap, ap₂, _∙_}
-use mathlib.Core.Bool.{Bool, true, false, cond, _&&_}
+use mathlib.Core.Bool.{Bool, true, false, _&&_}
 use Prim.Native.Nat.{ℕ, _+_, _*_, _/_, _%_, _≤_}
 use native.Mathlib.Omega.{arith}
 use lib.Dec.{ltb}
@@ -19,14 +19,14 @@ use Rattle.visit.specs.Visit.{endNumber}
 use Rattle.walk.specs.Walk.{mostAllowance}
 use Rattle.difference.specs.declared.Difference.{Difference}
 use Rattle.difference.specs.declared.Difference.the-variants.{First, Second, Nowhere, Refused}
-use Rattle.difference.specs.Difference.{firstFrom, blockAllowed, differenceOf}
+use Rattle.difference.specs.Difference.{blockAllowed, differenceOf}
 use Rattle.difference.proofs.First.{first-within, second-within}
 use Rattle.difference.proofs.Rest.{allowed-facts}
 use Rattle.comparison.specs.declared.Compared.{Compared}
 use Rattle.comparison.specs.Differences.{directoryAllowed, differencesIn, differencesOf}
 use Rattle.comparison.proofs.Bounds.{Within, entries-within}
 use Rattle.results.specs.Tree.{endSector}
-use Rattle.results.specs.Changes.{differencePacked, handed, differenceUnpacked, handedOf, DifferenceUnpacks, counts, comparedResult, DifferencesUnpack}
+use Rattle.results.specs.Changes.{handed, differenceUnpacked, DifferenceUnpacks, counts, comparedResult, DifferencesUnpack}
 use Rattle.results.proofs.Numbers.{number-bounds}
 
 -- ---- the first difference

@@ -1,6 +1,6 @@
 -- A copy visits no more than the walk, and the sector that it tells of is the walk's.
 use mathlib.Core.Path.{_≡_, refl, sym, ap, ap₂, subst, _∙_}
-use mathlib.Core.Logic.{_⊎_, inl, inr}
+use mathlib.Core.Logic.{inl, inr}
 use Prim.Native.Nat.{ℕ, _+_, _*_, _≤_}
 use native.Mathlib.Omega.{arith}
 use lib.ListN.{length}
@@ -13,7 +13,7 @@ use Rattle.walk.specs.Walk.{mostAllowance, walkOf}
 use Rattle.copying.specs.Copy.{Copied, copied, copyAllowed, copyOf}
 use Rattle.copying.specs.Promises.{OfSecond, AsWalk}
 use Rattle.copying.proofs.Promised.{Tested, failed, passed, tested, copy-is-walk}
-use Rattle.results.specs.Tree.{mostBoth, endSector, walkResult}
+use Rattle.results.specs.Tree.{mostBoth, endSector}
 use Rattle.results.specs.Copies.{transfer, copyResult, CopyUnpacks}
 use Rattle.results.proofs.Visits.{Within, walk-within}
 use Rattle.results.proofs.Unpacked.{walked-back}

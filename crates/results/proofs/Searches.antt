@@ -10,14 +10,14 @@ use borrow.Author.Tests.{le-leb, lt-leb}
 use lib.ListN.{length}
 use Rattle.ground.proofs.Choices.{cond-ind, on-ind}
 use Rattle.buffer.specs.Bytes.{Bytes}
-use Rattle.refusal.specs.Number.{numberOf, toldSector}
+use Rattle.refusal.specs.Number.{toldSector}
 use Rattle.refusal.specs.declared.Refusal.{Refusal}
 use Rattle.log.specs.LookUp.{lentAllowed}
 use Rattle.log.specs.Parts.{tape}
 use Rattle.entry.specs.Entry.{entryOf}
 use Rattle.leaf.specs.declared.Extent.the-variants as extent
 use Rattle.file.specs.declared.Located.the-variants as part
-use Rattle.file.specs.File.{pageAllowed, entryReadable, located}
+use Rattle.file.specs.File.{pageAllowed, entryReadable}
 use Rattle.file.proofs.Tests.{shown}
 use Rattle.fill.specs.declared.Stop.{Stop}
 use Rattle.fill.specs.declared.Stop.the-variants as stop

@@ -26,7 +26,7 @@ use Rattle.print.specs.Text.{sectorsName, usedName, recordsName, doubtfulName, 
 use Rattle.print.proofs.Lines.{verdict-length, line-short}
 use Rattle.report.specs.Report.{reportText, ReportOutcome, reportOutcome, reportOf}
 use Rattle.report.proofs.Printed.{report-room}
-use Rattle.results.specs.Survey.{reportNumber, textLength, reported, reportResult, soundResult, sizeOf}
+use Rattle.results.specs.Survey.{reportNumber, textLength, reported, reportResult, soundResult}
 
 -- ---- the report
 

@@ -1,16 +1,16 @@
 -- The label of either edition: its length, and that a sector which begins with it has its date, and its six lines behind that.
-use mathlib.Core.Path.{_≡_, refl, sym, ap, ap₂, _∙_}
+use mathlib.Core.Path.{_≡_, refl, sym, ap, _∙_}
 use mathlib.Core.Bool.{Bool, true, false, _&&_}
-use mathlib.Core.List.{List, [], _∷_, _++_, append-assoc}
+use mathlib.Core.List.{[], _∷_, _++_, append-assoc}
 use mathlib.Core.Logic.{_⊎_, inl, inr}
 use Prim.Native.Nat.{ℕ, _+_, _-_, _≤_, _<_}
 use native.Mathlib.Omega.{arith}
 use lib.ListN.{length, getD, take, drop, length-append}
-use lib.Dec.{leb, ltb}
+use lib.Dec.{leb}
 use borrow.Author.Tests.{leb-true, lt-ltb}
 use lib.Seq.{take-at, drop-at, take-all, take-take}
 use Rattle.ground.proofs.Choices.{and-true}
-use Rattle.buffer.specs.Bytes.{Bytes, same, zeros}
+use Rattle.buffer.specs.Bytes.{Bytes, zeros}
 use Rattle.buffer.proofs.Bytes.{same-refl, small-append}
 use Rattle.buffer.proofs.Parts.{part-within}
 use Rattle.word.specs.Number.{small}

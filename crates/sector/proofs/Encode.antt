@@ -1,12 +1,12 @@
 -- A sector as it is written: its length, that it fits, and its label and payload read back. Over any label's bytes.
 use mathlib.Core.Path.{_≡_, refl, sym, ap, ap₂, _∙_}
-use mathlib.Core.Bool.{Bool, true, false}
-use mathlib.Core.List.{List, [], _∷_, _++_, append-assoc}
-use Prim.Native.Nat.{ℕ, _+_, _-_, _≤_, _<_, min}
+use mathlib.Core.Bool.{true}
+use mathlib.Core.List.{[], _∷_, _++_, append-assoc}
+use Prim.Native.Nat.{ℕ, _+_, _-_, _≤_}
 use native.Mathlib.Omega.{arith}
 use lib.ListN.{length, take, drop, replicate, length-append, length-take, length-replicate, take-append-drop}
 use lib.Seq.{take-at, drop-at}
-use Rattle.buffer.specs.Bytes.{Bytes, same, zeros}
+use Rattle.buffer.specs.Bytes.{Bytes}
 use Rattle.buffer.proofs.Bytes.{same-refl, small-append, small-take, small-replicate}
 use Rattle.word.specs.Number.{small}
 use Rattle.word.specs.Hex.{hex}

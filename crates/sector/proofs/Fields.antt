@@ -2,17 +2,17 @@
 use mathlib.Core.Path.{_≡_, refl, sym, ap, _∙_}
 use mathlib.Core.Bool.{true, false}
 use mathlib.Core.List.{List, [], _∷_, _++_, append-assoc}
-use Prim.Native.Nat.{ℕ, _+_, _*_, _≤_, _<_, _^_}
+use Prim.Native.Nat.{ℕ, _+_, _≤_}
 use native.Mathlib.Omega.{arith}
-use lib.ListN.{length, getD, take, drop, length-append}
+use lib.ListN.{length, take, drop, length-append}
 use lib.Seq.{take-at}
 use Rattle.buffer.specs.Bytes.{Bytes, zeros}
 use Rattle.buffer.proofs.Bytes.{small-append}
 use Rattle.buffer.proofs.Parts.{part-within}
-use Rattle.word.specs.Number.{small, Below}
-use Rattle.word.specs.Hex.{hex, hexBytes, hexValue, isHex, readBytes}
-use Rattle.word.proofs.HexLaws.{hexBytes-length, small-hex, small-hexBytes, hexValue-hex, isHex-hex, isHex-hexBytes, readBytes-hexBytes}
-use Rattle.sector.specs.Sector.{line, lines, labelLines, recName, partName, ofName, typeName, sizeName, scoreName, labelOf, recField, kindField, sizeField, scoreDigits, scoreField}
+use Rattle.word.specs.Number.{small}
+use Rattle.word.specs.Hex.{hex, hexBytes}
+use Rattle.word.proofs.HexLaws.{hexBytes-length, small-hex, small-hexBytes}
+use Rattle.sector.specs.Sector.{line, lines, labelLines, recName, partName, ofName, typeName, sizeName, scoreName, labelOf, scoreDigits}
 use Rattle.sector.specs.declared.Label.{Label}
 
 pub length-label : (l : Label) (score : Bytes) → length score ≡ 20 → length (labelOf l score) ≡ 96

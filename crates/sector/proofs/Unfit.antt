@@ -1,15 +1,14 @@
 -- A sector that fits its check, or a blank one, and is then changed within four neighbouring bytes, does not fit.
 use mathlib.Core.Path.{_≡_, refl, sym, ap, ap₂, _∙_}
-use mathlib.Core.Logic.{_≢_}
 use mathlib.Core.Bool.{Bool, true, false}
 use mathlib.Core.List.{_++_}
-use Prim.Native.Nat.{ℕ, _+_, _≤_, _<_, _^_, min}
+use Prim.Native.Nat.{ℕ, _+_, _≤_, _<_}
 use native.Mathlib.Omega.{arith}
 use lib.Dec.{leb, lit<}
 use borrow.Author.Tests.{leb-true, leb-false}
-use lib.ListN.{length, getD, take, drop, replicate, length-take, length-drop, getD-replicate, take-append-drop, List·getD-eq-default}
+use lib.ListN.{length, getD, take, drop, length-take, length-drop, getD-replicate, take-append-drop, List·getD-eq-default}
 use lib.Seq.{ext-getD, getD-take, getD-drop, drop-drop}
-use Rattle.buffer.specs.Bytes.{Bytes, same, zeros}
+use Rattle.buffer.specs.Bytes.{Bytes, zeros}
 use Rattle.buffer.proofs.Bytes.{same-true, zeros-getD, small-getD, small-take}
 use Rattle.word.specs.Number.{small}
 use Rattle.word.specs.Hex.{hex}

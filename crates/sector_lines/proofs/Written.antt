@@ -2,17 +2,16 @@
 use mathlib.Core.Path.{_≡_, refl, sym, ap, ap₂, _∙_}
 use mathlib.Core.Bool.{Bool, true, false, _&&_}
 use mathlib.Core.List.{List, [], _∷_, _++_, append-assoc, append-nil}
-use Prim.Native.Nat.{ℕ, zero, suc, _+_, _-_, _*_, _≤_, _<_, min}
+use Prim.Native.Nat.{ℕ, zero, suc, _+_, _-_, _≤_}
 use native.Mathlib.Omega.{arith}
 use native.Mathlib.Nat.{add-zero}
 use lib.Seq.{take-append-add, take-at, take-all, take-add, drop-drop, length-take-le}
-use lib.ListN.{length, take, drop, set, replicate, length-append, length-drop, length-set, length-replicate, take-append-drop, drop-of-length-le}
+use lib.ListN.{length, take, drop, set, replicate, length-append, length-drop, length-replicate, take-append-drop, drop-of-length-le}
 use Rattle.buffer.specs.Bytes.{Bytes, same, put}
 use Rattle.buffer.proofs.Bytes.{same-append}
 use Rattle.buffer.proofs.Parts.{part-length}
 use Rattle.buffer.proofs.Put.{length-put, put-next, put-mid, put-one, put-whole}
 use Rattle.word.specs.Hex.{hex, hexBytes}
-use Rattle.word.proofs.HexLaws.{hex-length, hexBytes-length}
 use Rattle.sector.specs.Sector.{line, lines, labelLines, dateName, recName, partName, ofName, typeName, sizeName, scoreName, crcName, labelOf, check, filled, encode}
 use Rattle.crc32_rule.specs.Crc32.{crc32Of}
 use Rattle.sector.proofs.Encode.{length-check, length-filled}

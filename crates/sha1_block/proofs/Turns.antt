@@ -1,7 +1,7 @@
 -- Rounds one after another. Assumes nothing.
 use mathlib.Core.Path.{_≡_, subst}
 use mathlib.Core.List.{List}
-use Prim.Native.Nat.{ℕ, suc, _+_, _/_}
+use Prim.Native.Nat.{ℕ, _+_, _/_}
 use native.Mathlib.Numerals.{add-one}
 use lib.ListN.{getD}
 use Rattle.sha1_block.specs.declared.Hash.{Hash}

@@ -11,7 +11,7 @@ use Rattle.log.specs.Parts.{tape, Lent, oneLog}
 use Rattle.log.proofs.Parts.{held-alone, absence-alone}
 use Rattle.request.specs.Step.{step}
 use Rattle.demands.specs.Ledger.{Extent}
-use Rattle.demands.specs.Instance.{lengthOf, extentOf}
+use Rattle.demands.specs.Instance.{lengthOf}
 use Rattle.promises.specs.Histories.{Keeps, afterwards}
 use Rattle.promises.proofs.Keeps.{step-keeps, list-keeps}
 use Rattle.file_laws.proofs.Again.{again}

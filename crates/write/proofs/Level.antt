@@ -1,7 +1,7 @@
 -- The pieces of a source stored one after the other: what is left to store, and the scores at the front of the buffer.
 use mathlib.Core.Path.{_≡_, sym, ap, ap₂, _∙_}
 use mathlib.Core.List.{List, [], _∷_, _++_, append-assoc, append-nil}
-use Prim.Native.Nat.{ℕ, zero, suc, _+_, _-_, _*_, _≤_, _<_}
+use Prim.Native.Nat.{ℕ, suc, _+_, _-_, _*_, _≤_, _<_}
 use native.Mathlib.Omega.{arith}
 use lib.ListN.{length, take, drop}
 use Rattle.buffer.specs.Bytes.{Bytes, put}
@@ -15,7 +15,7 @@ use Rattle.log.specs.Store.{AfterStore, afterStore, receipt, store}
 use Rattle.log.specs.declared.Receipt.{Receipt}
 use Rattle.log.proofs.Receipts.{store-score}
 use Rattle.writer.specs.Blocks.{Typed, cutBlock, blocksFrom, scoresOf}
-use Rattle.writer.specs.WriteFile.{endOf, AfterAll, afterAll, onward, storeAll}
+use Rattle.writer.specs.WriteFile.{endOf, afterAll, onward, storeAll}
 use Rattle.writer.specs.declared.End.{End}
 use Rattle.writer.specs.declared.End.the-variants.{Done, Refused}
 

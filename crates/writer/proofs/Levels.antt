@@ -6,7 +6,7 @@ use Prim.Native.Nat.{ℕ, zero, suc, _+_, _-_, _*_, _/_, _%_, _≤_, _<_}
 use native.Mathlib.Nat.{mul-suc, mul-zero, mul-le-mul-right}
 use native.Mathlib.Omega.{arith}
 use lib.Dec.{ltb, eqb}
-use lib.ListN.{length, take, drop, length-append, length-take}
+use lib.ListN.{length, take, drop, length-append}
 use lib.Seq.{take-length, take-take, take-append-le, length-take-le}
 use borrow.Author.Tests.{le-leb, ltb-true, ltb-false, eq-eqb, ne-eqb}
 use Rattle.buffer.specs.Bytes.{Bytes}

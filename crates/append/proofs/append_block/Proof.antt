@@ -1,6 +1,5 @@
 -- `append_block` meets its contract.
-use Prim.Native.Nat.{ℕ, _+_, _-_, _*_, _≤_, _<_}
-use native.Mathlib.Omega.{arith}
+use Prim.Native.Nat.{_-_}
 use Rattle.append.proofs.Images.{front-short, room-behind, dated-written}
 use borrow.Author.Needs.{needs}
 use Rattle.append.proofs.append_block.Statement.{statement}

@@ -1,8 +1,6 @@
 -- `write_part` meets its contract.
-use mathlib.Core.Path.{_≡_, sym, ap, _∙_}
-use Prim.Native.Nat.{ℕ, _+_, _-_, _*_, _≤_, _<_}
+use Prim.Native.Nat.{_-_}
 use native.Mathlib.Omega.{arith}
-use lib.ListN.{length}
 use Rattle.append.specs.Append.{rowOf}
 use Rattle.append.proofs.Images.{start-behind, sector-made}
 use borrow.Author.Needs.{needs}

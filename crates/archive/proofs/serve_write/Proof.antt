@@ -1,5 +1,5 @@
 -- `archive::serve_write` meets its contract: a case for each return.
-use mathlib.Core.Path.{refl, _∙_}
+use mathlib.Core.Path.{refl}
 use native.Mathlib.Omega.{arith}
 use borrow.Author.Tests.{not-true, not-false}
 use Rattle.message.proofs.Requests.{write-length}

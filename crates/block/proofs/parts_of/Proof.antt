@@ -1,5 +1,5 @@
 -- `parts_of` meets its contract.
-use mathlib.Core.Path.{_≡_, ap}
+use mathlib.Core.Path.{ap}
 use Prim.Native.Nat.{ℕ, _+_, _-_, _/_}
 use Rattle.block.specs.Block.{partsOf}
 use borrow.Author.Needs.{needs}

@@ -5,7 +5,7 @@ use native.Mathlib.Omega.{arith}
 use borrow.Author.Tests.{not-true, not-false}
 use lib.ListN.{length}
 use Rattle.sector.specs.Sector.{fits}
-use Rattle.block.specs.Log.{joined, sectors, at, checked}
+use Rattle.block.specs.Log.{joined, at, checked}
 use Rattle.block.proofs.At.{length-at}
 use Rattle.block_tests.proofs.Turns.{all-turn, all-stop, all-end}
 use borrow.Author.Needs.{needs}

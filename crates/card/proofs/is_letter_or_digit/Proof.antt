@@ -1,6 +1,5 @@
 -- `card::is_letter_or_digit` meets its contract: a case for each range.
 use Rattle.card.proofs.Names.{byte-1, byte-2, byte-3, byte-4, byte-5, byte-6}
-use borrow.Author.Needs.{needs}
 use Rattle.card.proofs.is_letter_or_digit.Statement.{statement}
 use Rattle.card.proofs.is_letter_or_digit.Tie as tie
 

@@ -2,7 +2,6 @@
 -- Assumes nothing.
 use native.Mathlib.Omega.{arith}
 use Rattle.crc32_steps.proofs.Digits.{by-digits}
-use borrow.Author.Needs.{needs}
 use Rattle.crc32_steps.proofs.next_by_digits.Statement.{statement}
 use Rattle.crc32_steps.proofs.next_by_digits.Tie as tie
 

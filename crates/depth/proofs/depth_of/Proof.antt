@@ -1,4 +1,3 @@
-use native.Mathlib.Omega.{arith}
 use Rattle.writer.proofs.Depth.{dsize-under, dsize-over, psize-under, psize-over, sizes-in}
 use borrow.Author.Needs.{needs}
 use Rattle.depth.proofs.depth_of.Statement.{statement}

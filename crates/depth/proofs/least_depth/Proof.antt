@@ -1,4 +1,4 @@
-use Prim.Native.Nat.{_-_, _*_, _≤_}
+use Prim.Native.Nat.{_-_}
 use native.Mathlib.Omega.{arith}
 use Rattle.writer.proofs.Depth.{Seeking, seeking-start, seeking-found, seeking-next, seeking-none, room-fits}
 use borrow.Author.Needs.{needs}

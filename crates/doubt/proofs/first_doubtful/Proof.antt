@@ -1,9 +1,8 @@
 -- `doubt::first_doubtful` meets its contract: no sector before n is doubtful.
-use mathlib.Core.Path.{_≡_, refl, sym, ap, _∙_}
-use Prim.Native.Nat.{ℕ, _+_, _-_, _≤_, _<_}
+use mathlib.Core.Path.{refl, _∙_}
+use Prim.Native.Nat.{_-_}
 use native.Mathlib.Omega.{arith}
-use lib.ListN.{length}
-use Rattle.block.specs.Log.{sectors, joined, used}
+use Rattle.block.specs.Log.{joined, used}
 use Rattle.block.proofs.Used.{used-le-sectors}
 use Rattle.block.proofs.Joined.{sectors-joined}
 use Rattle.log.specs.LookUp.{outside}

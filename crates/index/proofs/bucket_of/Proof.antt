@@ -1,6 +1,5 @@
 -- `index::bucket_of` meets its contract: 256 buckets fit into the buffer.
 use mathlib.Core.Path.{refl}
-use Prim.Native.Nat.{_*_, _/_}
 use native.Mathlib.Omega.{arith}
 use lib.ListN.{length, getD}
 use Rattle.index.specs.Index.{bucketOf}

@@ -1,7 +1,4 @@
 -- `index::enter` meets its contract.
-use mathlib.Core.Path.{refl, ap, _∙_}
-use native.Mathlib.Omega.{arith}
-use lib.ListN.{length}
 use Rattle.index.proofs.Turns.{entered-free, entered-full}
 use borrow.Author.Needs.{needs}
 use Rattle.index.proofs.enter.Statement.{statement}

@@ -1,5 +1,4 @@
 -- `index::write_entry` meets its contract.
-use Prim.Native.Nat.{_≤_}
 use native.Mathlib.Omega.{arith}
 use Rattle.index.proofs.Turns.{named-length, entry-written, entry-length}
 use borrow.Author.Needs.{needs}

@@ -1,5 +1,5 @@
 -- `index_calls::look_result` meets its contract, case by case; what look-up tells is small.
-use mathlib.Core.Path.{refl, sym, ap, ap₂, _∙_}
+use mathlib.Core.Path.{refl, ap₂}
 use Prim.Native.Nat.{ℕ, _+_, _*_, _<_}
 use native.Mathlib.Omega.{arith}
 use Rattle.results.proofs.HintLaws.{found-so, refused-so, found-few, refused-few}

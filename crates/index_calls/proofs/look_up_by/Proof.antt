@@ -1,6 +1,6 @@
 -- `index_calls::look_up_by` meets its contract.
-use mathlib.Core.Path.{sym, ap, _∙_}
-use Rattle.results.specs.Hints.{SmallLook, lookResult}
+use mathlib.Core.Path.{ap, _∙_}
+use Rattle.results.specs.Hints.{lookResult}
 use Rattle.results.proofs.HintLaws.{asked-small}
 use borrow.Author.Needs.{needs}
 use Rattle.index_calls.proofs.look_up_by.Statement.{statement}

@@ -1,5 +1,5 @@
 -- `index_lookup::find_hint` meets its contract: the first true entry among those that are left is the first of all.
-use mathlib.Core.Path.{_≡_, sym, ap, _∙_}
+use mathlib.Core.Path.{_≡_, ap, _∙_}
 use Prim.Native.Nat.{_-_, _≤_}
 use native.Mathlib.Omega.{arith}
 use Rattle.block.specs.Log.{joined}

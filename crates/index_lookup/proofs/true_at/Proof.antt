@@ -1,8 +1,6 @@
 -- `index_lookup::true_at` meets its contract.
-use mathlib.Core.Path.{ap, _∙_}
 use native.Mathlib.Omega.{arith}
 use borrow.Author.Tests.{not-true, not-false}
-use lib.ListN.{length}
 use Rattle.block.specs.Log.{joined}
 use Rattle.block.proofs.Joined.{sectors-joined}
 use Rattle.index_lookup.proofs.Turns.{not-named, past-end, checked-there}

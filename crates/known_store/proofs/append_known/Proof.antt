@@ -1,5 +1,5 @@
 -- `known_store::append_known` meets its contract: no room among the waiting sectors, none in the log, or room in both.
-use mathlib.Core.Path.{_≡_, sym, ap, _∙_}
+use mathlib.Core.Path.{ap, _∙_}
 use native.Mathlib.Omega.{arith}
 use lib.ListN.{length}
 use Rattle.block.proofs.Facts.{parts-bounds}

@@ -1,5 +1,5 @@
 -- `known_store::lists` meets its contract: whether one of the places that are left has the entry is whether one of all has.
-use mathlib.Core.Path.{_≡_, sym, ap, _∙_}
+use mathlib.Core.Path.{_≡_}
 use mathlib.Core.Logic.{⊎-elim}
 use Prim.Native.Nat.{_-_, _≤_}
 use native.Mathlib.Omega.{arith}

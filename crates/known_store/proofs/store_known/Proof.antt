@@ -1,9 +1,7 @@
 -- `known_store::store_known` meets its contract.
-use mathlib.Core.Path.{_≡_, sym, ap, _∙_}
 use native.Mathlib.Omega.{arith}
 use lib.ListN.{length}
 use Rattle.block.proofs.Joined.{sectors-joined}
-use Rattle.sha1.proofs.Digest.{digest-length}
 use Rattle.log.specs.Parts.{beside}
 use Rattle.known.proofs.Belongs.{belongs-within}
 use Rattle.known_store.proofs.Found.{owner-within}

@@ -1,5 +1,4 @@
 -- `learn::learn` meets its contract: what is known is learned part by part.
-use mathlib.Core.Path.{_≡_, sym, ap, _∙_}
 use native.Mathlib.Omega.{arith}
 use Rattle.block.proofs.Used.{used-le-sectors}
 use Rattle.learn.proofs.Turns.{all-learned}

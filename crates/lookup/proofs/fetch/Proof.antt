@@ -1,5 +1,4 @@
 -- `lookup::fetch` meets its contract: look-up's answer, by its cases and the count.
-use mathlib.Core.Path.{_≡_}
 use Rattle.lookup.proofs.Outcomes.{count-refused, count-over, count-found}
 use borrow.Author.Needs.{needs}
 use Rattle.lookup.proofs.fetch.Statement.{statement}

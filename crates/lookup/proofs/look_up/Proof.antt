@@ -1,5 +1,4 @@
 -- `lookup::look_up` meets its contract.
-use mathlib.Core.Path.{_≡_}
 use Rattle.block.specs.Log.{joined}
 use Rattle.lookup.proofs.Outcomes.{look-none, look-some}
 use borrow.Author.Needs.{needs}

@@ -1,5 +1,5 @@
 -- `lookup::number` meets its contract, case by case.
-use mathlib.Core.Path.{_≡_, sym, ap, _∙_}
+use mathlib.Core.Path.{sym, ap, _∙_}
 use Rattle.log.specs.LookUp.{lookNumber}
 use borrow.Author.Needs.{needs}
 use Rattle.lookup.proofs.number.Statement.{statement}

@@ -1,5 +1,5 @@
 -- `reading::serve_read` meets its contract: a block among the log's own sectors to which the index leads is what look-up by index finds, whatever waits.
-use mathlib.Core.Path.{sym, ap, _∙_}
+use mathlib.Core.Path.{ap, _∙_}
 use native.Mathlib.Omega.{arith}
 use lib.ListN.{length}
 use Rattle.message.proofs.Requests.{read-length, read-score}

@@ -1,5 +1,5 @@
 -- `rebuild::enter_all` meets its contract: what is left to be entered, entered, gives the whole.
-use mathlib.Core.Path.{_≡_, refl, ap, _∙_}
+use mathlib.Core.Path.{_≡_, refl, _∙_}
 use Prim.Native.Nat.{_-_, _≤_}
 use native.Mathlib.Omega.{arith}
 use lib.ListN.{length}

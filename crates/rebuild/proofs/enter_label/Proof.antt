@@ -1,6 +1,5 @@
 -- `rebuild::enter_label` meets its contract: the digits stand behind the line of a date, if there is one.
-use mathlib.Core.Path.{sym, ap, ap₂, _∙_}
-use mathlib.Core.Bool.{true}
+use mathlib.Core.Path.{ap, ap₂, _∙_}
 use Prim.Native.Nat.{ℕ}
 use native.Mathlib.Omega.{arith}
 use Rattle.buffer.specs.Bytes.{Bytes}

@@ -1,9 +1,4 @@
 -- `score_scan::may_hold` meets its contract.
-use mathlib.Core.Path.{_≡_, sym, ap, _∙_}
-use mathlib.Core.Bool.{Bool, true, false, _||_}
-use lib.ListN.{length, take, drop}
-use Rattle.buffer.specs.Bytes.{Bytes, same}
-use Rattle.score_scan.specs.Digits.{mayHold}
 use Rattle.score_scan.proofs.Scan.{holds-dated, holds-plain}
 use borrow.Author.Needs.{needs}
 use Rattle.score_scan.proofs.may_hold.Statement.{statement}

@@ -1,12 +1,9 @@
-use mathlib.Core.Path.{_≡_, refl, sym, ap, ap₂, _∙_}
-use mathlib.Core.Bool.{true, false, _&&_}
-use Prim.Native.Nat.{ℕ, _+_, _-_, _≤_}
+use mathlib.Core.Path.{sym, _∙_}
+use Prim.Native.Nat.{_-_}
 use native.Mathlib.Omega.{arith}
-use lib.ListN.{length, getD, take, drop}
 use lib.Seq.{length-take-le}
 use borrow.Author.Tests.{not-true, not-false}
-use Rattle.buffer.specs.Bytes.{Bytes, same}
-use Rattle.buffer.proofs.Bytes.{same-true, same-refl}
+use Rattle.buffer.proofs.Bytes.{same-true}
 use Rattle.sector.proofs.Dates.{unequal, denied, dated-end, dated-name, dated-date, dated-by, front-none, front-some}
 use borrow.Author.Needs.{needs}
 use Rattle.sector.proofs.front_length.Statement.{statement}

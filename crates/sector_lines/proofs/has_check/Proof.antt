@@ -1,16 +1,12 @@
 use mathlib.Core.Path.{_≡_, refl, sym, ap, ap₂, _∙_}
-use Prim.Native.Nat.{ℕ, _+_, _-_, _≤_}
+use Prim.Native.Nat.{ℕ, _-_}
 use native.Mathlib.Omega.{arith}
 use lib.ListN.{length, take, drop, length-drop, replicate}
 use lib.Seq.{length-take-le, take-all}
-use Rattle.buffer.specs.Bytes.{Bytes, same}
+use Rattle.buffer.specs.Bytes.{same}
 use Rattle.buffer.proofs.Put.{put-whole}
 use Rattle.word.specs.Hex.{hex}
-use Rattle.crc32_rule.specs.Crc32.{crc32Of}
-use Rattle.sector.specs.Sector.{line, crcName, labelOf, check, fits}
-use Rattle.sector.proofs.Encode.{length-check}
-use Rattle.sector.proofs.Fields.{length-label}
-use Rattle.sector_lines.proofs.Written.{length-three, sector-written}
+use Rattle.sector.specs.Sector.{line, crcName, check, fits}
 use borrow.Author.Needs.{needs}
 use Rattle.sector_lines.proofs.has_check.Statement.{statement}
 use Rattle.sector_lines.proofs.has_check.Tie as tie

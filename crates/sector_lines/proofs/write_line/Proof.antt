@@ -1,12 +1,10 @@
-use mathlib.Core.Path.{_≡_, refl, sym, ap, _∙_}
-use mathlib.Core.List.{List, [], _∷_, _++_}
-use Prim.Native.Nat.{ℕ, _+_, _-_, _*_, _≤_, _<_}
+use mathlib.Core.Path.{ap}
+use Prim.Native.Nat.{_+_, _-_}
 use native.Mathlib.Omega.{arith}
-use lib.ListN.{length, take, drop}
+use lib.ListN.{length}
 use Rattle.buffer.proofs.Put.{length-put}
-use Rattle.word.specs.Hex.{hex, hexBytes}
-use Rattle.word.proofs.HexLaws.{hex-length, hexBytes-length}
-use Rattle.sector.specs.Sector.{scoreName}
+use Rattle.word.specs.Hex.{hex}
+use Rattle.word.proofs.HexLaws.{hex-length}
 use Rattle.sector_lines.proofs.Written.{digits-part, line-written, line-length}
 use borrow.Author.Needs.{needs}
 use Rattle.sector_lines.proofs.write_line.Statement.{statement}

@@ -1,11 +1,4 @@
-use mathlib.Core.Path.{_≡_, sym, ap, _∙_}
-use Prim.Native.Nat.{_+_, _*_, _≤_}
-use native.Mathlib.Omega.{arith}
-use Rattle.buffer.specs.Bytes.{Bytes}
-use Rattle.request.specs.Step.{step}
-use Rattle.request.specs.declared.Session.{Session}
-use Rattle.results.proofs.ServeLaws.{is-fresh, is-greeted, is-closed, session-most, served-so}
-use borrow.Author.Needs.{needs}
+use Rattle.results.proofs.ServeLaws.{is-fresh, is-greeted, is-closed}
 use Rattle.serve_calls.proofs.session_of.Statement.{statement}
 use Rattle.serve_calls.proofs.session_of.Tie as tie
 

@@ -5,7 +5,7 @@ use Prim.Native.Nat.{ℕ, _≤_, _<_, _-_, _+_, _%_}
 use native.Mathlib.Omega.{arith}
 use borrow.Author.Needs.{needs}
 use lib.Arith.{lt-of-le-ne}
-use lib.ListN.{length, take, length-take, length-drop}
+use lib.ListN.{length, take}
 use Rattle.sha1.specs.Stream.{Fed}
 use Rattle.sha1.proofs.Feed.{taken, part, copied, block, held, leap}
 use Rattle.sha1.proofs.absorb.Statement.{statement}

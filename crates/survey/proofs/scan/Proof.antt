@@ -1,6 +1,6 @@
 -- `survey::scan` meets its contract: what the walk counted up to a sector is what the definitions count there.
-use mathlib.Core.Path.{_≡_, _∙_}
-use Prim.Native.Nat.{ℕ, _+_, _-_, _≤_, _<_}
+use mathlib.Core.Path.{_∙_}
+use Prim.Native.Nat.{_-_}
 use native.Mathlib.Omega.{arith}
 use Rattle.block.specs.Log.{used}
 use Rattle.block.proofs.Used.{used-le-sectors}

@@ -1,9 +1,8 @@
-use mathlib.Core.Path.{_≡_, sym, ap, _∙_}
-use Prim.Native.Nat.{ℕ, _≤_}
+use mathlib.Core.Path.{ap, _∙_}
+use Prim.Native.Nat.{_≤_}
 use native.Mathlib.Omega.{arith}
-use lib.ListN.{length, take, length-take}
+use lib.ListN.{length, length-take}
 use lib.Seq.{length-take-le}
-use Rattle.buffer.specs.Bytes.{Bytes}
 use Rattle.kind.proofs.ZeroScore.{length-zero-score}
 use Rattle.entry.specs.Made.{madeEntry}
 use Rattle.write.proofs.EntryBytes.{entry-bytes, top-none, top-some}

@@ -1,6 +1,6 @@
 use mathlib.Core.Path.{ap, _∙_}
 use native.Mathlib.Omega.{arith}
-use lib.ListN.{length, length-take}
+use lib.ListN.{length-take}
 use Rattle.buffer.specs.Bytes.{Bytes}
 use Rattle.log.specs.Parts.{beside}
 use Rattle.log.specs.Store.{store}

@@ -1,10 +1,9 @@
 use mathlib.Core.Path.{_≡_, refl, sym, ap, _∙_}
-use Prim.Native.Nat.{ℕ, _+_, _-_, _*_, _≤_, _<_}
+use Prim.Native.Nat.{_+_, _-_, _*_, _≤_, _<_}
 use native.Mathlib.Omega.{arith}
 use lib.ListN.{length, take, drop, length-take, length-drop}
 use lib.Seq.{take-all}
 use Rattle.buffer.specs.Bytes.{Bytes}
-use Rattle.buffer.proofs.Put.{length-put}
 use Rattle.block.specs.Block.{partsOf}
 use Rattle.append.proofs.Images.{part-start}
 use Rattle.log.specs.Parts.{beside}

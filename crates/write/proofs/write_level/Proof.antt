@@ -1,10 +1,9 @@
 use mathlib.Core.Path.{_≡_, refl, sym, ap, _∙_}
 use Prim.Native.Nat.{ℕ, _+_, _-_, _*_, _%_, _≤_, _<_, min}
 use native.Mathlib.Omega.{arith}
-use lib.ListN.{length, take, drop, length-take, length-drop}
+use lib.ListN.{length, drop}
 use lib.Seq.{drop-drop}
 use Rattle.buffer.specs.Bytes.{Bytes}
-use Rattle.buffer.proofs.Put.{length-put}
 use Rattle.kind.proofs.Types.{pointer-lawful}
 use Rattle.block.specs.Block.{partsOf}
 use Rattle.append.proofs.Images.{part-start}

@@ -1,12 +1,8 @@
-use mathlib.Core.Path.{_≡_, refl, sym, ap, _∙_}
-use Prim.Native.Nat.{ℕ, _*_, _%_, _≤_}
+use mathlib.Core.Path.{ap, _∙_}
+use Prim.Native.Nat.{ℕ, _*_, _≤_}
 use native.Mathlib.Omega.{arith}
-use lib.ListN.{length, take, length-take}
+use lib.ListN.{length, length-take}
 use lib.Seq.{length-take-le}
-use Rattle.buffer.specs.Bytes.{Bytes}
-use Rattle.block.specs.Block.{partsOf}
-use Rattle.log.specs.Parts.{beside}
-use Rattle.cut.proofs.Multiples.{times-mod}
 use Rattle.writer.proofs.Levels.{few-pieces}
 use Rattle.writer.proofs.Tested.{tested-refused, tested-done}
 use borrow.Author.Needs.{needs}

@@ -1,6 +1,5 @@
 -- `copy_below::copy_below` meets its contract: by the level and the length.
 use Prim.Native.Nat.{ℕ}
-use native.Mathlib.Omega.{arith}
 use borrow.Author.Needs.{needs}
 use borrow.Author.Tests.{not-true, not-false}
 use Rattle.block.specs.Log.{joined}

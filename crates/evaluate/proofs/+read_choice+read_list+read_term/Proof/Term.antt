@@ -3,7 +3,6 @@ use Prim.Native.Nat.{ℕ}
 use mathlib.Core.Path.{sym, _∙_}
 use native.Mathlib.Omega.{arith}
 use borrow.Author.Needs.{needs}
-use borrow.Author.Tests.{not-true, not-false}
 use Rattle.query.specs.Reading.{notWord, openWord}
 use Rattle.query.proofs.Places.{next-known}
 use Rattle.evaluate.proofs.Terms.{not-read, none-may-open, brackets-read, name-read}
