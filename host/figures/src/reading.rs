@@ -97,9 +97,16 @@ fn definitions(text: &str) -> usize {
         .map(str::trim)
         .filter(|l| !l.is_empty())
         .filter(|l| {
-            !["--", "use ", "pub use ", "unfoldable pub use ", "mod ", "pub mod "]
-                .iter()
-                .any(|s| l.starts_with(s))
+            ![
+                "--",
+                "use ",
+                "pub use ",
+                "unfoldable pub use ",
+                "mod ",
+                "pub mod ",
+            ]
+            .iter()
+            .any(|s| l.starts_with(s))
         })
         .count()
 }
