@@ -6,7 +6,7 @@ use std::time::Duration;
 
 use crate::arguments::Arguments;
 use crate::disk;
-use crate::format::{used, SECTOR};
+use crate::format::SECTOR;
 use crate::lock;
 use crate::log_file;
 use crate::loss::Loss;
@@ -30,16 +30,15 @@ pub fn run(arguments: &Arguments, streams: &mut Streams) -> Result<u8, Failure> 
     let mark = Mark::require(path)?;
     let failed = |e| Failure::disk("mend", path, &e);
 
-    let mut bytes = log_file::load(&file, path, Some(mark), streams)?.bytes;
-    let length = bytes.len() as u64;
+    let loaded = log_file::load(&file, path, Some(mark), streams)?;
+    let length = loaded.bytes.len();
     let marked = mark.sectors * SECTOR;
-    let loss = Loss::new(mark, Some(length), used(&bytes));
+    let loss = Loss::new(mark, Some(length as u64), loaded.used);
     if loss.cut() {
-        let zeros = vec![0; marked - bytes.len()];
-        disk::write(&file, &zeros, length).map_err(failed)?;
-        bytes.resize(marked, 0);
+        let zeros = vec![0; marked - length];
+        disk::write(&file, &zeros, length as u64).map_err(failed)?;
     }
-    if used(&bytes) < mark.used {
+    if loaded.used < mark.used {
         let at = (mark.used - 1) * SECTOR;
         let doubt = sectors::unsound(SENTENCE);
         disk::write(&file, &doubt, at as u64).map_err(failed)?;

@@ -53,6 +53,8 @@ fn fits(file: &File, mark: Mark) -> bool {
 /// Some sectors of a file, where all of them can be read.
 fn load(file: &File, start: usize, end: usize) -> Option<Vec<u8>> {
     let length = (end - start) * SECTOR;
-    let Loaded { bytes, unreadable } = sectors::load_from(file, (start * SECTOR) as u64, length);
+    let Loaded {
+        bytes, unreadable, ..
+    } = sectors::load_from(file, (start * SECTOR) as u64, length);
     (unreadable.is_empty() && bytes.len() == length).then_some(bytes)
 }

@@ -53,7 +53,7 @@ pub fn make(path: &Path, sectors: usize) -> Result<(), Failure> {
     let mark = Mark { sectors, used: 0 };
     let made = lock::take(&file, path)
         .and_then(|()| blank(&file, path, sectors, &held))
-        .and_then(|()| mark.write(&mark_path, &file))
+        .and_then(|()| mark.write(&mark_path, &file).map(drop))
         .and_then(|()| held.check(INTERRUPTED));
     if made.is_err() {
         // Both are this call's own files.

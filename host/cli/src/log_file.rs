@@ -8,7 +8,7 @@ use boundary::Refusal;
 
 use crate::disk;
 use crate::escape;
-use crate::format::{allowed, used, SECTOR};
+use crate::format::{allowed, SECTOR};
 use crate::loss::Loss;
 use crate::mark::{self, Found, Mark};
 use crate::progress::Progress;
@@ -58,7 +58,8 @@ pub fn load(
     }
     let mut progress = Progress::start();
     let read_at = |buffer: &mut [u8], at: u64| disk::read_at(file, buffer, at);
-    let loaded = sectors::load(read_at, length, |end| {
+    let marked = mark.map_or(0, |mark| mark.used * SECTOR);
+    let loaded = sectors::load(read_at, length, marked, |end| {
         progress.show_before(streams, || {
             format!(
                 "reading {}: {} of {} MiB",
@@ -96,8 +97,8 @@ fn no_log(path: &Path, length: u64, mark: Option<Mark>) -> Failure {
 }
 
 /// Whether the log has all that its mark says.
-pub fn fits(path: &Path, mark: Mark, bytes: &[u8]) -> Result<(), Failure> {
-    let loss = Loss::new(mark, Some(bytes.len() as u64), used(bytes));
+pub fn fits(path: &Path, mark: Mark, loaded: &Loaded) -> Result<(), Failure> {
+    let loss = Loss::new(mark, Some(loaded.bytes.len() as u64), loaded.used);
     if loss.any() {
         return Err(loss.failure(path));
     }

@@ -42,6 +42,7 @@ mod log_file;
 mod loss;
 mod map;
 mod mark;
+mod mark_file;
 mod markup;
 mod names;
 mod output_file;

@@ -2,13 +2,18 @@
 //! With it a log that lost its tail is told from a shorter one.
 //!
 //! Three lines, `sectors=`, `used=` and `crc=`, each with 8 lower-case hex digits; the last is the
-//! CRC-32 of the two before.
+//! CRC-32 of the two before. They stand twice, at the file's front and at byte 4,096, with zeros
+//! between: in two sectors, so that what harms one of them leaves the other. Both are on disk before
+//! a sync is answered, so any of them that is good has the last one that was; where only the first
+//! of two renewals arrived, the later counts, whose sectors are on disk before either is written.
+//! The first edition had the lines once.
 
 use std::ffi::OsString;
 use std::fs::{self, File, Metadata, OpenOptions, Permissions};
 use std::io::{self, Read};
 use std::os::unix::fs::{fchown, MetadataExt, PermissionsExt};
 use std::path::{Path, PathBuf};
+use std::thread;
 
 use boundary::crc32;
 
@@ -18,7 +23,13 @@ use crate::hex;
 use crate::status::{Failure, MISSING, UNFIT};
 use crate::unique;
 
-const LENGTH: usize = 16 + 1 + 13 + 1 + 12 + 1;
+/// The bytes of the lines, and where they stand again.
+const LINES: usize = 16 + 1 + 13 + 1 + 12 + 1;
+const AGAIN: usize = 4096;
+/// The bytes of the file.
+pub const LENGTH: usize = AGAIN + LINES;
+/// How often a mark is read that looks damaged: a writer may be renewing it.
+const LOOKS: usize = 5;
 
 #[derive(Clone, Copy, Debug, PartialEq, Eq)]
 pub struct Mark {
@@ -77,15 +88,34 @@ pub fn with_suffix(path: &Path, suffix: &str) -> PathBuf {
 }
 
 impl Mark {
-    /// Its text.
+    /// Its lines.
     pub fn text(&self) -> String {
         let lines = format!("sectors={:08x}\nused={:08x}\n", self.sectors, self.used);
         let crc = crc32(lines.as_bytes());
         format!("{lines}crc={crc:08x}\n")
     }
 
-    /// The mark that has exactly this text.
-    pub fn parse(text: &[u8]) -> Option<Mark> {
+    /// Its file.
+    pub fn bytes(&self) -> [u8; LENGTH] {
+        let mut bytes = [0; LENGTH];
+        bytes[..LINES].copy_from_slice(self.text().as_bytes());
+        bytes.copy_within(..LINES, AGAIN);
+        bytes
+    }
+
+    /// The mark in a file: that of its good lines, and the later one where both are good.
+    fn of(bytes: &[u8]) -> Option<Mark> {
+        let front = &bytes[..LINES.min(bytes.len())];
+        let again = bytes.get(AGAIN..).unwrap_or_default();
+        match (Mark::parse(front), Mark::parse(again)) {
+            (Some(one), Some(other)) if one.sectors != other.sectors => None,
+            (Some(one), Some(other)) if one.used < other.used => Some(other),
+            (one, other) => one.or(other),
+        }
+    }
+
+    /// The mark that has exactly these lines.
+    fn parse(text: &[u8]) -> Option<Mark> {
         let text = std::str::from_utf8(text).ok()?;
         let mut lines = text.lines();
         let mut field = |name| {
@@ -102,13 +132,18 @@ impl Mark {
 
     /// Looks what stands in the mark's place.
     pub fn find(path: &Path) -> Result<Found, Failure> {
-        let opened = disk::open_file(path, OpenOptions::new().read(true));
-        let text = match opened.and_then(read_front) {
-            Ok(text) => text,
-            Err(e) if e.kind() == io::ErrorKind::NotFound => return Ok(Found::Missing),
-            Err(e) => return Err(Failure::disk("read the mark", path, &e)),
-        };
-        Ok(Mark::parse(&text).map_or(Found::Damaged, Found::Good))
+        for _ in 0..LOOKS {
+            let opened = disk::open_file(path, OpenOptions::new().read(true));
+            match opened.and_then(read_front) {
+                Ok(bytes) => match Mark::of(&bytes) {
+                    Some(mark) => return Ok(Found::Good(mark)),
+                    None => thread::yield_now(),
+                },
+                Err(e) if e.kind() == io::ErrorKind::NotFound => return Ok(Found::Missing),
+                Err(e) => return Err(Failure::disk("read the mark", path, &e)),
+            }
+        }
+        Ok(Found::Damaged)
     }
 
     /// The mark, which has to be there and good.
@@ -122,27 +157,34 @@ impl Mark {
     }
 
     /// Puts it in place of the one before, all or nothing, and on disk: with the owner, group and
-    /// mode that the one before has, or else the log. Its caller holds the log's lock.
-    pub fn write(&self, path: &Path, log: &File) -> Result<(), Failure> {
+    /// mode that the one before has, or else the log. Its caller holds the log's lock. Gives the file.
+    pub fn write(&self, path: &Path, log: &File) -> Result<File, Failure> {
         let new = with_suffix(path, &format!(".{}{NEW}", unique::name()));
         let replaced = disk::create(&new).and_then(|file| {
             let like = fs::metadata(path).or_else(|_| log.metadata());
-            let replaced = like.and_then(|like| self.replace(file, &like, &new, path));
+            let replaced = like.and_then(|like| self.replace(&file, &like, &new, path));
             if replaced.is_err() {
                 let _ = fs::remove_file(&new);
             }
-            replaced
+            replaced.map(|()| file)
         });
-        let synced = replaced.and_then(|()| sync_folder(path));
-        synced.map_err(|e| Failure::disk("write the mark", path, &e))
+        let synced = replaced.and_then(|file| sync_folder(path).map(|()| file));
+        synced.map_err(|e| failed(path, &e))
     }
 
     /// Writes it to a new file and gives that the mark's name.
-    fn replace(&self, file: File, like: &Metadata, new: &Path, path: &Path) -> io::Result<()> {
-        disk::write(&file, self.text().as_bytes(), 0)?;
-        keep_access(&file, like)?;
-        disk::sync(&file)?;
+    fn replace(&self, file: &File, like: &Metadata, new: &Path, path: &Path) -> io::Result<()> {
+        disk::write(file, &self.bytes(), 0)?;
+        keep_access(file, like)?;
+        disk::sync(file)?;
         disk::rename(new, path)
+    }
+
+    /// Has it on disk in a mark's own file, over the one before.
+    pub fn renew(&self, file: &File, path: &Path) -> Result<(), Failure> {
+        let written = disk::write(file, &self.bytes(), 0);
+        let synced = written.and_then(|()| disk::sync_data(file));
+        synced.map_err(|e| failed(path, &e))
     }
 }
 
@@ -228,6 +270,10 @@ fn folder(file: &Path) -> &Path {
     }
 }
 
+fn failed(path: &Path, e: &io::Error) -> Failure {
+    Failure::disk("write the mark", path, e)
+}
+
 fn missing(log: &Path, path: &Path) -> Failure {
     let words = format!(
         "{0} has no mark ({1}), so nobody can tell whether its tail is whole. Restore the mark; \
@@ -260,7 +306,7 @@ mod tests {
     fn text_and_back() {
         let text = MARK.text();
         assert!(text.starts_with("sectors=00100000\nused=00010abc\ncrc="));
-        assert_eq!(text.len(), LENGTH);
+        assert_eq!(text.len(), LINES);
         assert_eq!(Mark::parse(text.as_bytes()), Some(MARK));
     }
 
@@ -278,6 +324,73 @@ mod tests {
             assert_eq!(Mark::parse(&text[..at]), None, "cut to {at}");
         }
         assert_eq!(Mark::parse(&[&text[..], b"\n"].concat()), None);
+    }
+
+    /// One of the two is enough, whatever happened to the other; of two that are good the later counts.
+    #[test]
+    fn either_of_the_two() {
+        let later = Mark {
+            used: MARK.used + 1,
+            ..MARK
+        };
+        let file = |front: &[u8], again: &[u8]| {
+            let mut bytes = vec![0; LENGTH];
+            bytes[..front.len()].copy_from_slice(front);
+            bytes[AGAIN..][..again.len()].copy_from_slice(again);
+            Mark::of(&bytes)
+        };
+        let [one, two] = [MARK.text(), later.text()];
+        let (one, two) = (one.as_bytes(), two.as_bytes());
+        assert_eq!(Mark::of(&MARK.bytes()), Some(MARK));
+        assert_eq!(file(one, two), Some(later));
+        assert_eq!(file(two, one), Some(later));
+        for at in 0..=LINES {
+            let torn = [&two[..at], &one[at..]].concat();
+            let expected = if torn == two { later } else { MARK };
+            assert_eq!(file(&torn, one), Some(expected), "front, {at}");
+            assert_eq!(file(one, &torn), Some(expected), "again, {at}");
+        }
+        assert_eq!(file(one, b"damage"), Some(MARK));
+        assert_eq!(file(b"damage", one), Some(MARK));
+        assert_eq!(file(b"damage", b"damage"), None);
+        let longer = Mark {
+            sectors: MARK.sectors - 1,
+            ..MARK
+        };
+        assert_eq!(file(one, longer.text().as_bytes()), None);
+        // The first edition, and files that were cut.
+        for length in [LINES, LINES + 1, AGAIN, LENGTH - 1] {
+            assert_eq!(Mark::of(&MARK.bytes()[..length]), Some(MARK));
+        }
+        for length in [0, 1, LINES - 1] {
+            assert_eq!(Mark::of(&MARK.bytes()[..length]), None);
+        }
+        assert_eq!(file(&[], one), Some(MARK));
+    }
+
+    /// A reader beside a writer that renews the mark finds it good, and never an earlier one after a later.
+    #[test]
+    fn found_while_it_is_renewed() {
+        let path = std::env::temp_dir().join(format!("skywimple-mark-{}", unique::name()));
+        fs::write(&path, Mark { used: 0, ..MARK }.bytes()).unwrap();
+        let most = 20_000;
+        thread::scope(|scope| {
+            scope.spawn(|| {
+                let file = OpenOptions::new().write(true).open(&path).unwrap();
+                for used in 0..=most {
+                    disk::write(&file, &Mark { used, ..MARK }.bytes(), 0).unwrap();
+                }
+            });
+            let mut last = 0;
+            while last < most {
+                let Ok(Found::Good(found)) = Mark::find(&path) else {
+                    panic!("no mark");
+                };
+                assert!(last <= found.used, "{last} and then {}", found.used);
+                last = found.used;
+            }
+        });
+        fs::remove_file(path).unwrap();
     }
 
     #[test]

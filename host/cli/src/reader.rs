@@ -30,7 +30,7 @@ pub fn read(path: &Path, adopt: bool, streams: &mut Streams) -> Result<Vec<u8>, 
     let mark = Mark::require(path)?;
     let file = File::open(path).map_err(|e| Failure::open(path, &e))?;
     let loaded = load(&file, path, Some(mark), streams)?;
-    fits(path, mark, &loaded.bytes)?;
+    fits(path, mark, &loaded)?;
     if loaded.seen() > mark.used {
         // A crash came before the mark: without it, a block that is read now could later be lost
         // unseen. Where this reader can't write, or a writer is at work, it goes on.
@@ -62,10 +62,10 @@ impl Reader {
         // The mark first: then an append that goes on meanwhile never looks like a loss.
         let mark = Mark::require(path)?;
         let file = File::open(path).map_err(|e| Failure::open(path, &e))?;
-        let Loaded { bytes, .. } = load(&file, path, Some(mark), streams)?;
-        fits(path, mark, &bytes)?;
-        let (length, most) = (used(&bytes) * SECTOR, bytes.len());
-        let bytes = sectors::front(bytes, length, most);
+        let loaded = load(&file, path, Some(mark), streams)?;
+        fits(path, mark, &loaded)?;
+        let (length, most) = (loaded.used * SECTOR, loaded.bytes.len());
+        let bytes = sectors::front(loaded.bytes, length, most);
         let index = Index::read(path, &bytes);
         Ok(Reader {
             file,
@@ -98,8 +98,9 @@ impl Reader {
             return false;
         }
         let (start, end) = (self.mark.used * SECTOR, mark.used * SECTOR);
-        let Loaded { bytes, unreadable } =
-            sectors::load_from(&self.file, start as u64, end - start);
+        let Loaded {
+            bytes, unreadable, ..
+        } = sectors::load_from(&self.file, start as u64, end - start);
         if bytes.len() < end - start || !unreadable.is_empty() {
             return false;
         }

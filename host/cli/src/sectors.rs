@@ -9,6 +9,8 @@ use crate::format::{used, BLANK, SECTOR};
 
 pub struct Loaded {
     pub bytes: Vec<u8>,
+    /// The sectors of the used part.
+    pub used: usize,
     /// The sectors that could not be read, in order. They are neither blank nor sound in `bytes`.
     pub unreadable: Vec<usize>,
 }
@@ -19,7 +21,7 @@ impl Loaded {
     pub fn seen(&self) -> usize {
         let sector = |n: usize| &self.bytes[n * SECTOR..(n + 1) * SECTOR];
         let read = |n: &usize| self.unreadable.binary_search(n).is_err();
-        let mut from_end = (0..used(&self.bytes)).rev();
+        let mut from_end = (0..self.used).rev();
         let last = from_end.find(|n| read(n) && sector(*n) != BLANK);
         last.map_or(0, |last| last + 1)
     }
@@ -56,29 +58,90 @@ pub fn unsound(sentence: &[u8]) -> [u8; SECTOR] {
     sector
 }
 
-/// Bytes that are read at once: some sectors.
+/// Bytes that are read at once, and those where blank sectors are expected: some sectors.
 const PIECE: usize = 8192 * SECTOR;
+const BLANK_PIECE: usize = 256 * SECTOR;
 
 /// The first `length` bytes, or as many as there are, piece by piece; a piece that cannot be read
-/// at once, sector by sector. Tells after each piece how far it is.
+/// at once, sector by sector. Behind the `marked` bytes, which are some sectors, blank ones take no memory.
+/// Tells after each piece how far it is.
 pub fn load(
     read_at: impl Fn(&mut [u8], u64) -> io::Result<usize>,
     length: u64,
+    marked: usize,
     mut tell: impl FnMut(u64),
 ) -> Loaded {
     let mut bytes = vec![0; length as usize];
-    let (mut end, mut unreadable) = (0, Vec::new());
-    for piece in bytes.chunks_mut(PIECE) {
-        let count = fill(&read_at, piece, end)
-            .unwrap_or_else(|_| by_sectors(&read_at, piece, end, &mut unreadable));
-        end += count as u64;
-        tell(end);
-        if count < piece.len() {
-            break;
-        }
+    let marked = marked.min(bytes.len());
+    let (front, rear) = bytes.split_at_mut(marked);
+    let mut reading = Reading {
+        read_at,
+        end: 0,
+        unreadable: Vec::new(),
+    };
+    for piece in front.chunks_mut(PIECE) {
+        reading.next(piece);
+        tell(reading.end as u64);
     }
-    bytes.truncate(end as usize);
-    Loaded { bytes, unreadable }
+    let behind = read_blank(rear, &mut reading, tell);
+    let Reading {
+        end, unreadable, ..
+    } = reading;
+    bytes.truncate(end);
+    Loaded {
+        used: behind.unwrap_or_else(|| used(&bytes[..marked.min(end)])),
+        bytes,
+        unreadable,
+    }
+}
+
+/// Reads what is blank but for what a crash left. Gives the end of the used part, where that is here.
+fn read_blank(
+    bytes: &mut [u8],
+    reading: &mut Reading<impl Fn(&mut [u8], u64) -> io::Result<usize>>,
+    mut tell: impl FnMut(u64),
+) -> Option<usize> {
+    let mut buffer = vec![0; BLANK_PIECE.min(bytes.len())];
+    let mut end = None;
+    for piece in bytes.chunks_mut(BLANK_PIECE) {
+        let start = reading.end / SECTOR;
+        let count = reading.next(&mut buffer[..piece.len()]);
+        let read = &buffer[..count];
+        if !is_blank(read) {
+            piece[..count].copy_from_slice(read);
+            end = match used(read) {
+                0 => end,
+                used => Some(start + used),
+            };
+        }
+        tell(reading.end as u64);
+    }
+    end
+}
+
+/// Whether all these bytes are zeros.
+pub fn is_blank(bytes: &[u8]) -> bool {
+    let mut sectors = bytes.chunks(SECTOR);
+    sectors.all(|sector| *sector == BLANK[..sector.len()])
+}
+
+/// How far a file has been read.
+struct Reading<R> {
+    read_at: R,
+    end: usize,
+    unreadable: Vec<usize>,
+}
+
+impl<R: Fn(&mut [u8], u64) -> io::Result<usize>> Reading<R> {
+    /// Reads the next bytes, as many as there are, and gives their count.
+    fn next(&mut self, buffer: &mut [u8]) -> usize {
+        let start = self.end as u64;
+        let read = fill(&self.read_at, buffer, start);
+        let count =
+            read.unwrap_or_else(|_| by_sectors(&self.read_at, buffer, start, &mut self.unreadable));
+        self.end += count;
+        count
+    }
 }
 
 /// The same from some byte of a file on.
@@ -86,6 +149,7 @@ pub fn load_from(file: &File, start: u64, length: usize) -> Loaded {
     load(
         |buffer, at| disk::read_at(file, buffer, start + at),
         length as u64,
+        length,
         |_| {},
     )
 }
@@ -157,7 +221,8 @@ mod tests {
             buffer[..end - start].copy_from_slice(&file[start..end]);
             Ok(end - start)
         };
-        load(read_at, length as u64, |_| {})
+        let marked = length / 2 / SECTOR * SECTOR;
+        load(read_at, length as u64, marked, |_| {})
     }
 
     #[test]
@@ -174,6 +239,7 @@ mod tests {
             let loaded = load_with(&file, length, bad);
             assert_eq!(loaded.bytes.len(), end);
             assert_eq!(loaded.bytes[sound..], file[sound..end]);
+            assert_eq!(loaded.used, used(&loaded.bytes));
         }
         let loaded = load_with(&file, 1500, &[2]);
         assert_eq!(
@@ -203,6 +269,7 @@ mod tests {
         for (bad, start, seen, runs) in cases {
             let loaded = load_with(&file, file.len(), bad);
             assert_eq!(loaded.unreadable, bad);
+            assert_eq!(loaded.used, used(&loaded.bytes));
             assert_eq!(loaded.seen(), seen, "{bad:?}");
             let readable = loaded.readable(start);
             let readable: Vec<_> = readable.iter().map(|run| [run.start, run.end]).collect();
@@ -224,16 +291,29 @@ mod tests {
             Ok(end - start)
         };
         let mut told = Vec::new();
-        let Loaded { bytes, unreadable } = load(read_at, 4 * PIECE as u64, |end| told.push(end));
-        let length = file.len() as u64;
-        assert_eq!(told, [PIECE as u64, 2 * PIECE as u64, length]);
-        assert_eq!(
-            (bytes.len(), unreadable),
-            (file.len(), vec![PIECE / SECTOR + 5])
-        );
-        let bad = PIECE + 5 * SECTOR..PIECE + 6 * SECTOR;
-        assert_eq!(bytes[bad.clone()], unsound(b"unreadable"));
-        assert!(bytes[..bad.start] == file[..bad.start] && bytes[bad.end..] == file[bad.end..]);
+        let length = 4 * PIECE;
+        let loaded = load(read_at, length as u64, length, |end| {
+            told.push(end as usize)
+        });
+        assert_eq!(told, [PIECE, 2 * PIECE, file.len(), file.len()]);
+        // The same where less of it, or nothing, was expected.
+        let others = [0, SECTOR, PIECE + 6 * SECTOR];
+        let others = others.map(|marked| load(read_at, length as u64, marked, |_| {}));
+        for loaded in others.into_iter().chain([loaded]) {
+            let Loaded {
+                bytes,
+                used,
+                unreadable,
+            } = loaded;
+            assert_eq!(used, file.len() / SECTOR);
+            assert_eq!(
+                (bytes.len(), unreadable),
+                (file.len(), vec![PIECE / SECTOR + 5])
+            );
+            let bad = PIECE + 5 * SECTOR..PIECE + 6 * SECTOR;
+            assert_eq!(bytes[bad.clone()], unsound(b"unreadable"));
+            assert!(bytes[..bad.start] == file[..bad.start] && bytes[bad.end..] == file[bad.end..]);
+        }
     }
 
     /// A block with an unreadable sector is not known, and so is any that isn't found; others read.

@@ -15,7 +15,7 @@ use crate::date::Dates;
 use crate::failing::{quietly, Folder};
 use crate::faults::{on_failing_disk, on_good_disk, How, Lost, Random};
 use crate::format::{used, Date, SECTOR};
-use crate::mark::{self, Mark};
+use crate::mark::{self, Found, Mark};
 use crate::reader::{self, Reader};
 use crate::session::{whole_reply, Answers, REPLY, SYNC};
 use crate::status::Failure;
@@ -74,6 +74,19 @@ fn stop(path: &Path, account: &mut Account) {
     assert!(same, "a settled sector was harmed");
 }
 
+/// A stop that tears both of a mark's places leaves none that is good: that is told, not guessed, until someone
+/// takes the log as it is. Whether it was so.
+fn adopt_torn(path: &Path) -> bool {
+    let Found::Damaged = Mark::find(&mark::path_of(path)).unwrap() else {
+        return false;
+    };
+    let refused = quietly(|streams| Reader::open(path, streams)).err();
+    let told = refused.is_some_and(|failure| failure.words.contains("is damaged"));
+    assert!(told, "served by a damaged mark");
+    on_good_disk(|| quietly(|streams| Writer::open(path, true, streams)).unwrap());
+    true
+}
+
 /// Reads every block, as a server that only reads. How many are there, and whether there is doubt.
 fn check(path: &Path, blocks: &[Vec<u8>], account: &Account) -> (usize, bool) {
     let mut ledger = account.ledger.clone();
@@ -126,7 +139,7 @@ fn messages(blocks: &[Vec<u8>], random: &mut Random) -> Vec<Vec<u8>> {
 fn torn_writes() {
     let rounds = env::var("TORN_ROUNDS").map_or(ROUNDS, |rounds| rounds.parse().unwrap());
     let blocks = [1, 300, 389, 390, 900, 1167, 2000].map(|length| vec![length as u8 | 1; length]);
-    let (mut stops, mut doubts) = (0, 0);
+    let (mut stops, mut doubts, mut adopted) = (0, 0, 0);
     for seed in 0..rounds {
         let mut random = Random(seed);
         let folder = Folder::new();
@@ -145,11 +158,12 @@ fn torn_writes() {
             let messages = messages(&blocks, &mut random);
             let how = [How::Before, How::Half, How::After, How::Forgets][random.below(4)];
             let lost = Lost::Torn(random.below(usize::MAX) as u64);
-            let failed = on_failing_disk(random.below(24), how, lost, || {
+            let failed = on_failing_disk(random.below(14), how, lost, || {
                 let _ = live(&path, &messages, &mut account);
             });
             stop(&path, &mut account);
             stops += u64::from(failed);
+            adopted += u64::from(adopt_torn(&path));
             doubts += u64::from(check(&path, &blocks, &account).1);
             if random.below(3) == 0 {
                 // Another reader renews the mark first, where a crash left it behind.
@@ -169,4 +183,6 @@ fn torn_writes() {
     }
     let enough = stops > rounds && doubts > rounds / 2;
     assert!(enough, "{stops} stops, {doubts} doubts");
+    let seldom = adopted * 100 <= stops;
+    assert!(seldom, "{adopted} of {stops} stops left no good mark");
 }

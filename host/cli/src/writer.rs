@@ -14,13 +14,14 @@ use crate::date::Dates;
 use crate::disk;
 use crate::entry;
 use crate::escape;
-use crate::format::{start, used, Score, BLANK, MOST_PARTS, SECTOR};
+use crate::format::{start, Score, BLANK, MOST_PARTS, SECTOR};
 use crate::held::{self, Damaged};
 use crate::index_file::Index;
 use crate::knowledge::{Knowledge, Lent};
 use crate::lock;
 use crate::log_file::{fits, is_file, load};
 use crate::mark::{self, Found, Mark};
+use crate::mark_file::MarkFile;
 use crate::sectors::{self, Loaded};
 use crate::session::{self, Answers, Served, REPLY, SYNC};
 use crate::status::{Failure, INPUT_OUTPUT, UNFIT};
@@ -30,7 +31,7 @@ use crate::streams::Streams;
 pub struct Writer {
     file: File,
     path: PathBuf,
-    mark_path: PathBuf,
+    mark_file: MarkFile,
     mark: Option<Mark>,
     /// How many sectors the file has.
     sectors: usize,
@@ -84,15 +85,15 @@ impl Writer {
         };
         let loaded = load(&file, path, mark, streams)?;
         if let Some(mark) = mark {
-            fits(path, mark, &loaded.bytes)?;
+            fits(path, mark, &loaded)?;
         }
         let mut log = Writer {
             file,
             path: path.to_path_buf(),
-            mark_path,
+            mark_file: MarkFile::open(mark_path),
             mark,
             sectors: loaded.bytes.len() / SECTOR,
-            used: used(&loaded.bytes),
+            used: loaded.used,
             bytes: Vec::new(),
             waiting: vec![0; MOST_WAITING * SECTOR],
             waits: 0,
@@ -173,6 +174,15 @@ impl Writer {
         self.bytes.resize(self.lent(), 0);
     }
 
+    /// Counts what waits after a call: a block is stored behind what waited, and a sync leaves nothing.
+    fn count_waiting(&mut self) {
+        let start = match self.waiting[..SECTOR] == BLANK {
+            true => 0,
+            false => self.waits,
+        };
+        self.waits = start + filled(&self.waiting[start * SECTOR..]);
+    }
+
     /// Asks the proved archive. What it moves into the log is on disk before anyone is answered.
     fn ask(
         &mut self,
@@ -191,7 +201,7 @@ impl Writer {
         if !session::may_change(message) {
             return Ok(served);
         }
-        self.waits = used(&self.waiting);
+        self.count_waiting();
         self.keep_moved()?;
         if let (true, Some(index)) = (self.used + self.waits > end, &mut self.index) {
             if let Some((kind, score)) = session::stored(message, reply) {
@@ -215,7 +225,7 @@ impl Writer {
         let (log, waiting, scores) = (&self.bytes, &mut self.waiting, &mut self.scores);
         let written = boundary::write_file(log, waiting, &date, slice, sizes, scores);
         self.knowledge.forget();
-        self.waits = used(&self.waiting);
+        self.count_waiting();
         if let (true, Some(index)) = (self.used + self.waits > end, &mut self.index) {
             if let Some((kind, score)) = written.ok().and_then(leaf_of) {
                 index.enter(kind, &score, end);
@@ -249,7 +259,7 @@ impl Writer {
         mut ask: impl FnMut(&mut Writer) -> Result<Asked<A>, Failure>,
     ) -> Result<(A, usize), Failure> {
         self.open_index(streams);
-        let before = self.used + self.waits;
+        let (used, before) = (self.used, self.used + self.waits);
         let mut unsound = Vec::new();
         loop {
             let (answer, outcome) = ask(self)?;
@@ -274,8 +284,11 @@ impl Writer {
                     .for_each(|block| block.put_back(&mut self.bytes));
                 self.knowledge.forget();
             }
-            // A reply acknowledges, also where nothing was appended.
-            self.in_place()?;
+            // A reply acknowledges, also where nothing was appended; but a block that waits is the next
+            // sync's to acknowledge, and a sync that moved something was seen to when it was marked.
+            if (appended, self.used) == (0, used) {
+                self.in_place()?;
+            }
             return Ok((answer, appended));
         }
     }
@@ -328,8 +341,7 @@ impl Writer {
 
     /// The end of what stands behind the log's used part in memory.
     fn end(&self) -> usize {
-        let moved = self.bytes[self.used * SECTOR..].chunks_exact(SECTOR);
-        self.used + moved.take_while(|sector| *sector != BLANK).count()
+        self.used + filled(&self.bytes[self.used * SECTOR..])
     }
 
     /// Has what stands behind the used part, up to a sector, on disk, then the mark.
@@ -376,7 +388,7 @@ impl Writer {
             .file
             .read_exact_at(&mut found, (sectors.start * SECTOR) as u64);
         match read {
-            Ok(()) if found.iter().all(|byte| *byte == 0) => Ok(()),
+            Ok(()) if sectors::is_blank(&found) => Ok(()),
             Err(e) if e.kind() != ErrorKind::UnexpectedEof => {
                 Err(Failure::disk("read", &self.path, &e))
             }
@@ -398,23 +410,21 @@ impl Writer {
         synced.map_err(|e| Failure::disk("sync", &self.path, &e))
     }
 
-    /// Has a mark of so many used sectors on disk, unless there is one. The log itself is synced.
+    /// Has a mark of so many used sectors on disk. The log itself is synced.
     fn renew_mark(&mut self, used: usize) -> Result<(), Failure> {
         let now = Mark {
             sectors: self.sectors,
             used,
         };
-        if self.mark != Some(now) {
-            self.in_place()?;
-            now.write(&self.mark_path, &self.file)?;
-            self.mark = Some(now);
-        }
+        self.in_place()?;
+        self.mark_file.renew(now, &self.file)?;
+        self.mark = Some(now);
         Ok(())
     }
 
     /// Fails unless the log and the place of its mark are what they were.
     fn in_place(&self) -> Result<(), Failure> {
-        if mark::path_of(&self.path) != self.mark_path {
+        if mark::path_of(&self.path) != self.mark_file.path() {
             return Err(lock::replaced(&self.path));
         }
         lock::in_place(&self.file, &self.path)
@@ -450,6 +460,12 @@ impl Answers for Writer {
         }
         Ok(())
     }
+}
+
+/// The sectors before the first blank one.
+fn filled(bytes: &[u8]) -> usize {
+    let sectors = bytes.chunks_exact(SECTOR);
+    sectors.take_while(|sector| *sector != BLANK).count()
 }
 
 /// The type and score of the block of a file of one leaf. None for the empty block, which is in no sector.

@@ -166,10 +166,10 @@ fn pieces_of_dead_writers() {
 #[test]
 fn no_pieces_of_writers() {
     let place = Place::with_log(8);
-    place.write("log.mark.1-2.new", [b'x'; 45]);
+    place.write("log.mark.1-2.new", [b'x'; 4141]);
     place.write("other", "sectors=0000");
     symlink("other", place.path("log.mark.3-4.new")).unwrap();
-    place.write("log.mark.5-6.new", [b'x'; 44]);
+    place.write("log.mark.5-6.new", [b'x'; 4140]);
     place.put(b"card");
     let left = [
         "log",

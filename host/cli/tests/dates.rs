@@ -78,6 +78,7 @@ fn dates_of_files() {
 #[test]
 fn dates_that_are_none() {
     let place = Place::with_log(4);
+    place.write("card", "card");
     let before = place.file("log");
     for bad in ["", "2026111", "202611160", "2026111a", "2026-1-1", "today"] {
         for command in ["put", "serve"] {
@@ -93,7 +94,7 @@ fn dates_that_are_none() {
         .run(&["serve", "log", "--read-only", "--date", "20261116"])
         .fails(64, "--read-only writes nothing, so --date has no place");
     for bad in ["", "soon", "-1", "253402300800"] {
-        let mut put = place.command(&["put", "log", "log.mark"]);
+        let mut put = place.command(&["put", "log", "card"]);
         let output = put.env("SOURCE_DATE_EPOCH", bad).output().unwrap();
         let told = String::from_utf8(output.stderr).unwrap();
         assert_eq!(output.status.code(), Some(64), "{told}");
@@ -103,7 +104,7 @@ fn dates_that_are_none() {
         assert!(output.unwrap().status.success(), "reading needs no date");
     }
     assert_eq!(place.file("log"), before);
-    let given = ["put", "log", "log.mark", "--date", "20261116"];
+    let given = ["put", "log", "card", "--date", "20261116"];
     let output = place.command(&given).env("SOURCE_DATE_EPOCH", "").output();
     assert!(output.unwrap().status.success(), "a date is given");
 }
@@ -112,8 +113,9 @@ fn dates_that_are_none() {
 #[test]
 fn the_date_of_today() {
     let place = Place::with_log(4);
+    place.write("card", "card");
     let before = today();
-    let mut put = place.command(&["put", "log", "log.mark"]);
+    let mut put = place.command(&["put", "log", "card"]);
     let put = put.env_remove("SOURCE_DATE_EPOCH").env("TZ", "Asia/Tokyo");
     assert!(put.status().unwrap().success());
     let shown = dates(&place).remove(0);

@@ -3,7 +3,7 @@
 mod common;
 
 use std::fs::{self, Permissions};
-use std::os::unix::fs::{chown, MetadataExt, PermissionsExt};
+use std::os::unix::fs::{chown, symlink, MetadataExt, PermissionsExt};
 use std::os::unix::process::CommandExt;
 
 use common::*;
@@ -259,7 +259,8 @@ fn the_mark_keeps_its_owner() {
     assert_eq!((user, group), (4713, 4714), "the log's");
 }
 
-/// Who cannot give the mark its owner back keeps its group and mode, where the group is his.
+/// Who may write the mark leaves its owner alone; who may not, and cannot give it its owner back, keeps its
+/// group and mode, where the group is his.
 #[test]
 fn the_mark_of_another_owner() {
     if !superuser() {
@@ -278,19 +279,26 @@ fn the_mark_of_another_owner() {
         assert!(output.status.success(), "{output:?}");
         access(&place, "log.mark")
     };
-    assert_eq!(put(4712, "one"), (OTHER_USER, 4712, 0o664));
+    assert_eq!(put(4712, "one"), (4711, 4712, 0o664));
+    fs::set_permissions(place.path("log.mark"), Permissions::from_mode(0o644)).unwrap();
+    assert_eq!(put(4712, "two"), (OTHER_USER, 4712, 0o644));
+    chown(place.path("log.mark"), Some(4711), Some(4712)).unwrap();
+    fs::set_permissions(place.path("log.mark"), Permissions::from_mode(0o664)).unwrap();
     let other = (OTHER_USER, 4799, 0o604);
-    assert_eq!(put(4799, "two"), other, "no other group gets its rights");
+    assert_eq!(put(4799, "three"), other, "no other group gets its rights");
 }
 
 #[test]
 fn a_damaged_mark() {
     let good = mark(10, 6);
+    let lines = mark_lines(10, 6);
     let bad = [
         good.replace("used=00000006", "used=00000005"),
         good.replace("\n", "\r\n"),
-        good.clone() + "\n",
-        good[..good.len() - 1].to_string(),
+        lines[..lines.len() - 1].to_string(),
+        "\0".to_string() + &good,
+        good.replacen(&lines, &mark_lines(11, 6), 1),
+        "\0".repeat(good.len()),
         String::new(),
         mark(10, 11),
         mark(MOST_SECTORS + 1, 6),
@@ -306,6 +314,71 @@ fn a_damaged_mark() {
         assert_eq!(place.run(&get).with(0).out, blocks[2]);
         assert_eq!(place.file("log.mark"), good.as_bytes());
     }
+}
+
+/// The mark stands in two places, and one of them is enough; the next writer has both again. So has it where
+/// they stood in one place only, as the first edition had them.
+#[test]
+fn one_place_of_the_mark() {
+    let (good, lines) = (mark(10, 6), mark_lines(10, 6));
+    let earlier = mark_lines(10, 5);
+    let one_place = [
+        good.replacen("used=00000006", "used=00000007", 1),
+        good[..4096].to_string() + "damage",
+        good[..good.len() - 1].to_string(),
+        "\0".repeat(4096) + &lines,
+        good.clone() + "\n",
+        good.replacen(&lines, &earlier, 1),
+        good[..4096].to_string() + &earlier,
+        lines,
+    ];
+    for text in one_place {
+        let (place, blocks, scores) = filled();
+        place.write("log.mark", &text);
+        place.reads(&scores[2], &blocks[2]);
+        assert_eq!(place.file("log.mark"), text.as_bytes(), "by a reader");
+        place.put(&blocks[0]);
+        assert_eq!(place.file("log.mark"), good.as_bytes(), "by a duplicate");
+        place.write("log.mark", &text);
+        place.damage(|log| log[5 * SECTOR..].fill(0));
+        lost(&place, 1);
+    }
+}
+
+/// A link to the mark may be someone's copy of it, and stays as it is.
+#[test]
+fn a_mark_with_two_names() {
+    let place = Place::with_log(16);
+    fs::hard_link(place.path("log.mark"), place.path("copy")).unwrap();
+    place.put(b"first");
+    assert_eq!(place.file("copy"), mark(16, 0).as_bytes());
+    assert_eq!(place.file("log.mark"), mark(16, 1).as_bytes());
+    fs::rename(place.path("log.mark"), place.path("moved")).unwrap();
+    symlink("moved", place.path("log.mark")).unwrap();
+    place.put(b"second");
+    assert_eq!(place.file("moved"), mark(16, 1).as_bytes());
+    assert_eq!(place.file("log.mark"), mark(16, 2).as_bytes());
+}
+
+/// Under a server: what has the mark's name is the mark, and any other file is left alone.
+#[test]
+fn a_mark_replaced_under_a_writer() {
+    let place = Place::with_log(16);
+    let mut server = place.greeted(&[]);
+    server.store(1, b"first");
+    assert_eq!(place.file("log.mark"), mark(16, 1).as_bytes());
+    fs::rename(place.path("log.mark"), place.path("away")).unwrap();
+    server.store(2, b"second");
+    assert_eq!(place.file("away"), mark(16, 1).as_bytes());
+    assert_eq!(place.file("log.mark"), mark(16, 2).as_bytes());
+    fs::hard_link(place.path("log.mark"), place.path("copy")).unwrap();
+    server.store(3, b"third");
+    assert_eq!(place.file("copy"), mark(16, 2).as_bytes());
+    place.write("log.mark", "cut");
+    server.store(4, b"fourth");
+    assert_eq!(place.file("log.mark"), mark(16, 4).as_bytes());
+    assert_eq!(server.end().0, 0);
+    assert!(only(&place.folder, &["away", "copy", "log", "log.mark"]));
 }
 
 /// A good mark that says more than the log has is never adopted away.

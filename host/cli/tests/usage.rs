@@ -320,13 +320,21 @@ fn missing_permissions() {
     allow("log.mark", 0o000);
     place.get(&card).fails(74, "cannot read the mark");
     put().fails(74, "cannot read the mark");
-    allow("log.mark", 0o600);
+    allow("log.mark", 0o400);
     allow(".", 0o500);
+    let before = place.file("log");
     put().fails(74, "cannot write the mark");
+    assert_eq!(place.file("log"), before, "the mark is looked after first");
     place
         .run(&["init", "new", "--sectors", "1"])
         .fails(74, "cannot create new");
+    // It is renewed in its own file, or by a new one.
+    allow("log.mark", 0o600);
+    put().with(0);
+    assert_eq!(place.file("log.mark"), mark(8, 2).as_bytes());
     // Read-only altogether, and ahead of its mark: readers go on.
+    place.write("log.mark", mark(8, 1));
+    allow("log.mark", 0o400);
     allow("log", 0o400);
     place.reads(&score(b"other"), b"other");
     assert_eq!(place.file("log.mark"), mark(8, 1).as_bytes());
@@ -342,6 +350,8 @@ fn missing_permissions() {
     allow("log", 0o600);
     put().with(0);
     assert_eq!(place.file("log.mark"), mark(8, 2).as_bytes());
+    let mode = fs::metadata(place.path("log.mark")).unwrap().permissions();
+    assert_eq!(mode.mode() & 0o777, 0o400);
 }
 
 /// A sync that cannot be marked ends the server: no reply, an I/O status, nothing left over.

@@ -398,8 +398,14 @@ pub fn block(seed: usize, length: usize) -> Vec<u8> {
     (0..length).map(|_| next()).collect()
 }
 
-/// The text of a mark.
+/// A mark's file: its lines at the front and at byte 4,096.
 pub fn mark(sectors: usize, used: usize) -> String {
+    let lines = mark_lines(sectors, used);
+    format!("{lines:\0<4096}{lines}")
+}
+
+/// The lines of a mark.
+pub fn mark_lines(sectors: usize, used: usize) -> String {
     let lines = format!("sectors={sectors:08x}\nused={used:08x}\n");
     let crc = boundary::crc32(lines.as_bytes());
     format!("{lines}crc={crc:08x}\n")
