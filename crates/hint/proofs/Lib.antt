@@ -1,8 +1,8 @@
 pub mod Found
 pub mod Sound
 pub mod Tells
-pub mod There
 pub mod Leads
+pub mod There
 pub mod Entered
 pub mod Scan
 pub mod Filled

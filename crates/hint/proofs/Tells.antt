@@ -1,13 +1,13 @@
 -- The first entry of a bucket that names a type and score: what the code's turns say of it, and that the index leads to the sound block that it tells.
-use mathlib.Core.Path.{_≡_, sym, ap, _∙_}
-use mathlib.Core.Bool.{Bool, true, false, cond}
+use mathlib.Core.Path.{_≡_, refl, sym, ap, _∙_}
+use mathlib.Core.Bool.{Bool, true, false, cond, true≢false}
 use mathlib.Core.Option.{Option, none, some}
 use Prim.Native.Nat.{ℕ, zero, suc, _+_, _-_, _≤_, _<_}
 use native.Mathlib.Omega.{arith}
 use native.Mathlib.Numerals.{add-one}
 use lib.Dec.{eqb}
 use lib.ListN.{take}
-use borrow.Author.Tests.{eqb-true}
+use borrow.Author.Tests.{eqb-true, eq-eqb}
 use Rattle.ground.specs.Choice.{on}
 use Rattle.buffer.specs.Bytes.{Bytes, same}
 use Rattle.block.specs.Block.{Row}
@@ -36,6 +36,24 @@ module _ (log index : Bytes) (t : ℕ) (s : Bytes) (n : ℕ) (r : Row) (there : 
   pub hint-told : tells index t s n ≡ true → hint log index t s ≡ some r
   unfolding tells hint
   hint-told h = true-from (bucketOf index s .to - bucketOf index s .from) (bucketOf index s .from) h
+
+-- ---- no entry names them, so the index leads nowhere
+
+module _ (log index : Bytes) (t : ℕ) (s : Bytes) where
+  none-from : (k p : ℕ) → ((n : ℕ) → tellsFrom index t s n k p ≡ false) → firstFound (trueAt log index t s) k p ≡ none
+  unfolding tellsFrom firstFound trueAt
+  none-from zero p h = refl
+  none-from (suc k) p h = go (none-from k (suc p)) (same (take 21 (placeAt index p)) (named s t)) h
+    where
+      go : (((n : ℕ) → tellsFrom index t s n k (suc p) ≡ false) → firstFound (trueAt log index t s) k (suc p) ≡ none)
+          → (b : Bool) → ((n : ℕ) → cond b (eqb (sectorAt index p) n) (tellsFrom index t s n k (suc p)) ≡ false)
+          → on (cond b (soundWith log (sectorAt index p) t s) none) (firstFound (trueAt log index t s) k (suc p)) some ≡ none
+      go rest true q = absurd (true≢false (sym (eq-eqb (sectorAt index p) (sectorAt index p) refl) ∙ q (sectorAt index p)))
+      go rest false q = rest q
+
+  pub hint-untold : ((n : ℕ) → tells index t s n ≡ false) → hint log index t s ≡ none
+  unfolding tells hint
+  hint-untold h = none-from (bucketOf index s .to - bucketOf index s .from) (bucketOf index s .from) h
 
 -- ---- the turns
 

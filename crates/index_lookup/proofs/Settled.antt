@@ -11,13 +11,16 @@ use Rattle.buffer.specs.Bytes.{Bytes, same}
 use Rattle.kind.specs.Kind.{lawful, zeroScore}
 use Rattle.block.specs.Block.{Row, placeOf}
 use Rattle.block.specs.declared.Block.{Block}
-use Rattle.block.specs.Log.{sectors, Alike, joined, used, usedOf, bytesOf, soundAs}
+use Rattle.block.specs.Log.{sectors, Alike, joined, used, usedOf, bytesOf, sound, soundAs}
+use Rattle.block.proofs.Alike.{sound-alike}
 use Rattle.block.proofs.Joined.{at-alone, sectors-joined}
 use Rattle.block.proofs.Sound.{sound-reads, sound-bytes}
 use Rattle.block.proofs.Used.{used-le-sectors}
 use Rattle.log.specs.declared.Look.the-variants.{Found, Refused}
-use Rattle.log.specs.LookUp.{emptyRow, absence}
+use Rattle.log.specs.LookUp.{blocks, firstOf, emptyRow, held, absence}
 use Rattle.log.specs.Parts.{tape}
+use Rattle.log.proofs.Alike.{blocks-alike}
+use Rattle.log.proofs.First.{first-sound}
 use Rattle.reader.specs.Reader.{placed}
 use Rattle.reader.specs.declared.Place.{Place}
 use Rattle.reader.specs.declared.Place.the-variants.{At, Nowhere}
@@ -25,8 +28,8 @@ use Rattle.lookup.proofs.Outcomes.{placed-some}
 use Rattle.hint.specs.Hint.{soundWith, hint, heldBy, lookUpBy}
 use Rattle.hint.specs.Tells.{tells}
 use Rattle.hint.proofs.Sound.{with-as, with-reads}
-use Rattle.hint.proofs.Tells.{hint-told}
-use Rattle.hint.proofs.There.{with-there, with-waiting}
+use Rattle.hint.proofs.Tells.{hint-told, hint-untold}
+use Rattle.hint.proofs.There.{with-there, with-waiting, sound-waiting, first-waiting}
 use Rattle.index_lookup.specs.Settled.{FoundSettled}
 
 module _ (log index : Bytes) (t : ℕ) (s : Bytes) where
@@ -73,3 +76,35 @@ module _ (log index : Bytes) (t : ℕ) (s : Bytes) where
         hint-found (tape log waiting) r (sym zero ∙ q) (hint-told (tape log waiting) index t s n r v told) ∙ ap Found place,
         ap (bytesOf (tape log waiting)) (sym place) ∙ same-bytes n r w waiting v ∙ ap (bytesOf alone) place,
       )
+
+  -- where no entry names them, the first block by scan among the log's own sectors is found
+  module _ (zero : same s zeroScore ≡ false) (untold : (n : ℕ) → tells index t s n ≡ false) where
+    scan-found : (both : Bytes) (r : Row) → firstOf t s (blocks both) ≡ some r → lookUpBy both index t s ≡ Found (placeOf r)
+    unfolding heldBy lookUpBy
+    scan-found both r e = rw (zero, hint-untold both index t s untold, e) (go (lawful t))
+      where
+        go : (a : Bool)
+            → on (cond (a && false) (some (emptyRow t)) (some r)) (Refused (absence both)) (λ (x : Row). Found (placeOf x)) ≡ Found (placeOf r)
+        go true = refl
+        go false = refl
+
+    not-empty : (both : Bytes) (r : Row) → held both t s ≡ some r → firstOf t s (blocks both) ≡ some r
+    unfolding held
+    not-empty both r q = go (lawful t) (ap (λ (z : Bool). cond (lawful t && z) (some (emptyRow t)) (firstOf t s (blocks both))) (sym zero) ∙ q)
+      where
+        go : (a : Bool) → cond (a && false) (some (emptyRow t)) (firstOf t s (blocks both)) ≡ some r → firstOf t s (blocks both) ≡ some r
+        go true y = y
+        go false y = y
+
+    pub scanned-settled : (x : Place) → x ≡ placed (held (joined (sectors (length log)) log []) t s) → (b : Block) → x ≡ At b → FoundSettled log index t s b
+    unfolding alone
+    scanned-settled x e b here waiting =
+        let found = placed-some (held alone t s) x b e here in
+        let r = found .0 in
+        let place : placeOf r ≡ b = sym (found .2) in
+        let first : firstOf t s (blocks log) ≡ some r = ap (firstOf t s) (blocks-alike log alone same-sectors) ∙ not-empty alone r (found .1) in
+        let v : sound (tape log waiting) (r .first) ≡ some r = sound-waiting log waiting (r .first) r (first-sound log t s r first .0) in
+        let w : sound alone (r .first) ≡ some r = sym (sound-alike log alone same-sectors (r .first)) ∙ first-sound log t s r first .0 in (
+          scan-found (tape log waiting) r (first-waiting log waiting t s r first) ∙ ap Found place,
+          ap (bytesOf (tape log waiting)) (sym place) ∙ sym (sound-bytes (tape log waiting) (r .first) r v) ∙ sound-bytes alone (r .first) r w ∙ ap (bytesOf alone) place,
+        )

@@ -62,7 +62,8 @@ pub fn find_hint<'a>(
     Place::Nowhere
 }
 
-// The block to which the first entry leads that names the score and type, if it is among the log's own sectors: then nobody needs to look at those that wait.
+// The block to which the first entry leads that names the score and type, or where none does the first by scan, if it is among the log's own sectors: then nobody
+// needs to look at those that wait.
 pub fn find_settled(log: &[u8], index: &[u8], kind: u8, score: &[u8]) -> Place
     requires { ⌜ length (now score) ≡ 20 ⌝ }
     ensures { λ r. ⌜ ((b : Block) → r ≡ At b → FoundSettled (now (log .entry)) (now (index .entry)) kind (now (score .entry)) b) ⌝ }
@@ -83,7 +84,7 @@ pub fn find_settled(log: &[u8], index: &[u8], kind: u8, score: &[u8]) -> Place
         }
         p += 1;
     }
-    Place::Nowhere
+    lookup::find_held(log, SectorNumber(end), &log[..0], kind, score)
 }
 
 // What look-up by index finds: the empty block for the zero score, else the hint's, else the scan's.

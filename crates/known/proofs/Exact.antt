@@ -16,51 +16,14 @@ use Rattle.buffer.proofs.Bytes.{same-refl}
 use Rattle.block.specs.Block.{Row, parts}
 use Rattle.block.specs.Log.{sound}
 use Rattle.log.specs.LookUp.{blocks, firstOf}
-use Rattle.log.proofs.Blocks.{Ascends, blocks-in, blocks-out, blocks-ascend}
-use Rattle.log.proofs.First.{first-sound}
+use Rattle.log.proofs.Blocks.{blocks-in, blocks-out}
+use Rattle.log.proofs.First.{first-sound, least}
 use Rattle.hint.specs.Hint.{hint}
 use Rattle.hint.specs.Promises.{Exact}
 use Rattle.hint.proofs.Found.{some-not-none}
 use Rattle.hint.proofs.Leads.{hint-sound, hint-finds, first-finds}
 use Rattle.known.specs.Known.{leads, allLead, exactly}
 use Rattle.known.specs.Promises.{ExactlyExact}
-
--- ---- the first of a type and score starts before all others of them
-
-from-lo : (lo : ℕ) (rows : List Row) (x : Row) → Ascends lo rows → List·Memᴰ x rows → lo ≤ x .first
-from-lo lo [] x a m = absurd (List·Memᴰ·not-nil m)
-from-lo lo (r ∷ rows) x a m = go (List·Memᴰ·cases-cons m) (from-lo (r .first + parts r) rows x (a .1))
-  where
-    go : (x ≡ r) ⊎ List·Memᴰ x rows → (List·Memᴰ x rows → r .first + parts r ≤ x .first) → lo ≤ x .first
-    go (inl e) f = let g : x .first ≡ r .first = ap (λ (y : Row). y .first) e in omega (arith, g, a .0)
-    go (inr n) f = omega (arith, f n, a .0)
-
-first-least : (t : ℕ) (s : Bytes) (lo : ℕ) (rows : List Row) (r x : Row) → Ascends lo rows → firstOf t s rows ≡ some r
-    → List·Memᴰ x rows → x .kind ≡ t → x .score ≡ s → r .first ≤ x .first
-unfolding firstOf
-first-least t s lo [] r x a e m k v = absurd (List·Memᴰ·not-nil m)
-first-least t s lo (y ∷ rows) r x a e m k v =
-    go (eqb (y .kind) t && same (y .score) s) refl e (List·Memᴰ·cases-cons m) (λ e′ n. first-least t s (y .first + parts y) rows r x (a .1) e′ n k v)
-  where
-    go : (b : Bool) → (eqb (y .kind) t && same (y .score) s) ≡ b → cond b (some y) (firstOf t s rows) ≡ some r → (x ≡ y) ⊎ List·Memᴰ x rows
-        → (firstOf t s rows ≡ some r → List·Memᴰ x rows → r .first ≤ x .first) → r .first ≤ x .first
-    go true q e′ (inl z) rest = let w : y ≡ r = cc in
-        let f : x .first ≡ y .first = ap (λ (u : Row). u .first) z in
-        let g : y .first ≡ r .first = ap (λ (u : Row). u .first) w in
-        omega (arith, f, g)
-    go true q e′ (inr n) rest = let w : y ≡ r = cc in
-        let g : y .first ≡ r .first = ap (λ (u : Row). u .first) w in
-        let h = from-lo (y .first + parts y) rows x (a .1) n in
-        omega (arith, g, h)
-    go false q e′ (inl z) rest =
-        let is : (eqb (y .kind) t && same (y .score) s) ≡ true =
-        ap (λ (u : Row). eqb (u .kind) t && same (u .score) s) (sym z) ∙ rw (eq-eqb (x .kind) t k, ap (λ (u : Bytes). same u s) v ∙ same-refl s) in
-        absurd (true≢false (sym is ∙ q))
-    go false q e′ (inr n) rest = rest e′ n
-
-pub least : (log : Bytes) (t : ℕ) (s : Bytes) (r x : Row) → firstOf t s (blocks log) ≡ some r → sound log (x .first) ≡ some x
-    → x .kind ≡ t → x .score ≡ s → r .first ≤ x .first
-least log t s r x e q k v = first-least t s 0 (blocks log) r x (blocks-ascend log) e (blocks-in log x q) k v
 
 -- ---- every row leads
 

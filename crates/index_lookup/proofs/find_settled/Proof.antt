@@ -4,8 +4,8 @@ use Prim.Native.Nat.{ℕ, _-_, _≤_}
 use native.Mathlib.Omega.{arith}
 use borrow.Author.Tests.{eq-eqb}
 use Rattle.hint.specs.Tells.{tellsFrom, tells}
-use Rattle.hint.proofs.Tells.{tell-starts, tell-here, tell-next}
-use Rattle.index_lookup.proofs.Settled.{nowhere-settled, told-settled}
+use Rattle.hint.proofs.Tells.{tell-starts, tell-here, tell-next, tell-ends}
+use Rattle.index_lookup.proofs.Settled.{nowhere-settled, told-settled, scanned-settled}
 use borrow.Author.Needs.{needs}
 use Rattle.index_lookup.proofs.find_settled.Statement.{statement}
 use Rattle.index_lookup.proofs.find_settled.Tie as tie
@@ -74,8 +74,20 @@ loop-again c =
     let more = c .before .before .if2 .taken in
     (omega (arith, more), λ n. tell-next (a .index .now) (a .kind) (a .score .now) n (l .p) (b .result .to) more (l .inv .1 n) _ (c .before .names .ensures) (c .if3 .left))
 
+slice-aggregate-find-held : tie.Need-slice-aggregate-find-held Inv-loop μ-loop
+slice-aggregate-find-held c = search needs
+
+find-held-requires : tie.Need-find-held-requires Inv-loop μ-loop
+find-held-requires c κs = search needs
+
 returns-4 : tie.Need-returns-4 Inv-loop μ-loop
-returns-4 c = let a = c .before .before .before .before .before .before .before .before .before .args in nowhere-settled (a .log .now) (a .index .now) (a .kind) (a .score .now)
+returns-4 c =
+    let a = c .before .before .before .before .before .before .before .before .before .before .before .args in
+    let l = c .before .before .before .before .loop in
+    let b = c .before .before .before .before .before .bucket-of in
+    let ends = c .before .before .if2 .left in
+    let zero = sym (c .before .before .before .before .before .before .before .is-zero-score .ensures) ∙ c .before .before .before .before .before .before .if1 .left in
+    scanned-settled (a .log .now) (a .index .now) (a .kind) (a .score .now) zero (λ n. sym (tell-ends (a .index .now) (a .kind) (a .score .now) n (l .p) (b .result .to) ends (l .inv .1 n))) _ (c .find-held .ensures)
 
 pub find-settled-spec : {M : Type 1} → statement M
 find-settled-spec =
@@ -96,4 +108,6 @@ find-settled-spec =
     add-p
     loop-less
     loop-again
+    slice-aggregate-find-held
+    find-held-requires
     returns-4)
