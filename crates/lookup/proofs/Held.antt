@@ -43,41 +43,49 @@ held-stands log t s r e = go (lawful t && same s zeroScore) refl
     go true q = let y : some (emptyRow t) ≡ some r = rw q at e in let z : emptyRow t ≡ r = cc in subst (λ (x : Row). Stands log x) z (empty-stands log t)
     go false q = sound-stands log r ((first-sound log t s r (rw q at e)) .0)
 
--- what was found, as a row
-pub record Shown (log : Bytes) (t : ℕ) (s : Bytes) (b : Block) : Type 0 where
+-- ---- what was found, by scan, by index or with a count: the row that is held, at its place
+
+pub record FoundAt (log : Bytes) (o : Option Row) (b : Block) : Type 0 where
   pub row : Row
-  pub is-held : held log t s ≡ some row
+  pub is-held : o ≡ some row
   pub place : b ≡ placeOf row
+  pub stands : Stands log row
 
-module _ (log : Bytes) (t : ℕ) (s : Bytes) where
-  pub look-found : (b : Block) → lookUp log t s ≡ Found b → Shown log t s b
-  unfolding lookUp
-  look-found b e = go (held log t s) refl e
+module _ {log : Bytes} {o : Option Row} {b : Block} (F : FoundAt log o b) where
+  pub found-within : (n : ℕ) → sectors (length log) ≡ n → Inside n b
+  found-within n h = rw (← h, F .place) (F .stands .within)
+
+  pub found-size : b .size ≡ length (F .row .bytes)
+  found-size = ap (λ (x : Block). x .size) (F .place)
+
+  pub found-most : b .size ≤ longest
+  found-most = omega (arith, found-size, F .stands .not-many)
+
+  pub found-bytes : F .row .bytes ≡ bytesOf log b
+  found-bytes = F .stands .bytes-there ∙ ap (bytesOf log) (sym (F .place))
+
+-- the answer of a look-up, by what is held
+module _ (log : Bytes) (o : Option Row) (why : Refusal) where
+  pub answer-found : ((r : Row) → o ≡ some r → Stands log r) → (b : Block) → on o (Refused why) (λ (r : Row). Found (placeOf r)) ≡ Found b → FoundAt log o b
+  answer-found f b e = go o refl e
     where
-      go : (o : Option Row) → held log t s ≡ o → on o (Refused (absence log)) (λ (r : Row). Found (placeOf r)) ≡ Found b → Shown log t s b
+      go : (x : Option Row) → o ≡ x → on x (Refused why) (λ (r : Row). Found (placeOf r)) ≡ Found b → FoundAt log o b
       go none q d = let y : _≡_ {A = ℕ} 0 1 = cc in absurd (omega arith)
-      go (some r) q d = record { row = r; is-held = q; place = cc }
+      go (some r) q d = record { row = r; is-held = q; place = cc; stands = f r q }
 
-  pub look-absent : (w : Refusal) → lookUp log t s ≡ Refused w → (held log t s ≡ none) × (absence log ≡ w)
-  unfolding lookUp
-  look-absent w e = go (held log t s) refl e
+  pub answer-absent : (w : Refusal) → on o (Refused why) (λ (r : Row). Found (placeOf r)) ≡ Refused w → (o ≡ none) × (why ≡ w)
+  answer-absent w e = go o refl e
     where
-      go : (o : Option Row) → held log t s ≡ o → on o (Refused (absence log)) (λ (r : Row). Found (placeOf r)) ≡ Refused w → (held log t s ≡ none) × (absence log ≡ w)
+      go : (x : Option Row) → o ≡ x → on x (Refused why) (λ (r : Row). Found (placeOf r)) ≡ Refused w → (o ≡ none) × (why ≡ w)
       go none q d = (q, cc)
       go (some r) q d = let y : _≡_ {A = ℕ} 0 1 = cc in absurd (omega arith)
 
-  module _ (b : Block) (e : lookUp log t s ≡ Found b) where
-    abbrev shown : Shown log t s b
-    shown = look-found b e
+-- by scan
+module _ (log : Bytes) (t : ℕ) (s : Bytes) where
+  pub look-found : (b : Block) → lookUp log t s ≡ Found b → FoundAt log (held log t s) b
+  unfolding lookUp
+  look-found b e = answer-found log (held log t s) (absence log) (held-stands log t s) b e
 
-    stands : Stands log (shown .row)
-    stands = held-stands log t s (shown .row) (shown .is-held)
-
-    pub found-within : (n : ℕ) → sectors (length log) ≡ n → Inside n b
-    found-within n h = rw (← h, shown .place) (stands .within)
-
-    pub found-most : b .size ≤ longest
-    found-most = omega (arith, ap (λ (x : Block). x .size) (shown .place), stands .not-many)
-
-    pub found-bytes : shown .row .bytes ≡ bytesOf log b
-    found-bytes = stands .bytes-there ∙ ap (bytesOf log) (sym (shown .place))
+  pub look-absent : (w : Refusal) → lookUp log t s ≡ Refused w → (held log t s ≡ none) × (absence log ≡ w)
+  unfolding lookUp
+  look-absent w e = answer-absent log (held log t s) (absence log) w e

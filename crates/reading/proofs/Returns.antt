@@ -26,7 +26,8 @@ use Rattle.log.proofs.Counted.{Over, counted-found, counted-refused}
 use Rattle.hint.specs.Hint.{lookUpBy}
 use Rattle.hint.proofs.Alike.{look-up-by-alike}
 use Rattle.index_lookup.specs.Settled.{FoundSettled}
-use Rattle.index_lookup.proofs.Held.{look-by-absent, look-by-found, found-by-within, found-by-most, found-by-bytes}
+use Rattle.lookup.proofs.Held.{found-within, found-size, found-most, found-bytes}
+use Rattle.index_lookup.proofs.Held.{look-by-absent, look-by-found}
 use Rattle.message.specs.Message.{tagOf, scoreOf}
 use Rattle.message.specs.Reply.{readReply}
 use Rattle.request.specs.declared.Answer.{Answer}
@@ -53,7 +54,7 @@ module _ (kind count tag : ℕ) (score index : Bytes) (L : Lent) (buffer : Bytes
     unfolding readBy
     read-over w o =
         let s = look-by-found (oneLog L) index kind score (o .place) (o .found) in
-        let z : ltb count (length (s .row .bytes)) ≡ true = lt-ltb count (length (s .row .bytes)) (omega (arith, o .long, ap (λ (b : Block). b .size) (s .place))) in
+        let z : ltb count (length (s .row .bytes)) ≡ true = lt-ltb count (length (s .row .bytes)) (omega (arith, o .long, found-size s)) in
         ap (λ (x : Refusal). refused x tag Greeted L buffer) (o .why) ∙ rw (sym e ∙ q, s .is-held, z)
 
     -- J is a log with the same sectors, in which the code looks
@@ -69,8 +70,8 @@ module _ (kind count tag : ℕ) (score index : Bytes) (L : Lent) (buffer : Bytes
       read-found b d =
           let c = counted-found count (lookUpBy (oneLog L) index kind score) b (sym same-look ∙ d) in
           let s = look-by-found (oneLog L) index kind score b (c .0) in
-          let z : ltb count (length (s .row .bytes)) ≡ false = le-ltb count (length (s .row .bytes)) (omega (arith, c .1, ap (λ (x : Block). x .size) (s .place))) in
-          let x : bytesOf J b ≡ s .row .bytes = bytes-alike J (oneLog L) f b ∙ sym (found-by-bytes (oneLog L) index kind score b (c .0)) in
+          let z : ltb count (length (s .row .bytes)) ≡ false = le-ltb count (length (s .row .bytes)) (omega (arith, c .1, found-size s)) in
+          let x : bytesOf J b ≡ s .row .bytes = bytes-alike J (oneLog L) f b ∙ sym (found-bytes s) in
           rw (sym e ∙ q, s .is-held, z) (ap (λ (y : Bytes). granted (readReply tag y) Greeted L buffer) x)
 
 -- ---- by what a message asks and its fields, as they were taken from it
@@ -103,8 +104,9 @@ module _ (kind : ℕ) (score index log : Bytes) (b : Block) (found : FoundSettle
   settled-within =
       let e = found [] .0 in
       let h = used-le-sectors log in
-      let w = found-by-within (tape log []) index kind score b e (used log + 0) (sectors-joined (used log) log [] h) in
-      ((omega (arith, w .0, h), w .1), found-by-most (tape log []) index kind score b e)
+      let s = look-by-found (tape log []) index kind score b e in
+      let w = found-within s (used log + 0) (sectors-joined (used log) log [] h) in
+      ((omega (arith, w .0, h), w .1), found-most s)
 
   pub read-settled : (count tag : ℕ) (waiting buffer : Bytes) (a : Bool) → a ≡ lawful kind → a ≡ true → (o : Outcome) → o ≡ settledRead log b count tag (beside log waiting) buffer
       → o ≡ readBy kind count tag score index (beside log waiting) buffer .outcome
@@ -112,8 +114,7 @@ module _ (kind : ℕ) (score index log : Bytes) (b : Block) (found : FoundSettle
   read-settled count tag waiting buffer a e q o h =
       let f = found waiting in
       let s = look-by-found (tape log waiting) index kind score b (f .0) in
-      let size : b .size ≡ length (s .row .bytes) = ap (λ (x : Block). x .size) (s .place) in
-      let bytes : bytesOf (joined (sectors (length log)) log []) b ≡ s .row .bytes = sym (f .1) ∙ sym (found-by-bytes (tape log waiting) index kind score b (f .0)) in
+      let bytes : bytesOf (joined (sectors (length log)) log []) b ≡ s .row .bytes = sym (f .1) ∙ sym (found-bytes s) in
       let L = beside log waiting in
       rw (sym e ∙ q, s .is-held)
-      (h ∙ ap₂ (λ (n : ℕ) (x : Bytes). cond (ltb count n) (refused OverCount tag Greeted L buffer) (granted (readReply tag x) Greeted L buffer)) size bytes)
+      (h ∙ ap₂ (λ (n : ℕ) (x : Bytes). cond (ltb count n) (refused OverCount tag Greeted L buffer) (granted (readReply tag x) Greeted L buffer)) (found-size s) bytes)

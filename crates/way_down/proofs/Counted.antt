@@ -8,11 +8,11 @@ use lib.ListN.{length}
 use Rattle.buffer.specs.Bytes.{Bytes}
 use Rattle.refusal.specs.declared.Refusal.{Refusal}
 use Rattle.block.specs.declared.Block.{Block}
-use Rattle.block.specs.Block.{Row, placeOf}
+use Rattle.block.specs.Block.{Row}
 use Rattle.log.specs.declared.Look.the-variants as look
-use Rattle.log.specs.LookUp.{lookUp, counted}
+use Rattle.log.specs.LookUp.{held, lookUp, counted}
 use Rattle.log.proofs.Counted.{counted-found, counted-refused, Over}
-use Rattle.lookup.proofs.Held.{Stands, held-stands, look-found, look-absent}
+use Rattle.lookup.proofs.Held.{FoundAt, found-size, look-found, look-absent}
 use Rattle.leaf.specs.declared.Extent.{Extent}
 use Rattle.leaf.specs.declared.Extent.the-variants.{Refused}
 use Rattle.leaf.specs.Leaf.{fetched}
@@ -26,24 +26,17 @@ fetched-refused log t s count f y e = go (counted-refused count (lookUp log t s)
     go (inl q) = let a = look-absent log t s y q in rw (a .0) (ap Refused (sym (a .1)))
     go (inr O) =
         let S = look-found log t s (O .place) (O .found) in
-        let over : count < length (S .row .bytes) = omega (arith, O .long, ap (λ (x : Block). x .size) (S .place)) in
+        let over : count < length (S .row .bytes) = omega (arith, O .long, found-size S) in
         rw (S .is-held, lt-leb (length (S .row .bytes)) count over) (ap Refused (O .why))
 
--- found
+-- found, and what goes on has the row
 pub record Fetched (log : Bytes) (t : ℕ) (s : Bytes) (count : ℕ) (b : Block) : Type 0 where
-  pub row : Row
-  pub stands : Stands log row
-  pub place : b ≡ placeOf row
-  pub goes-on : (f : Row → Extent) → f row ≡ fetched log t s count f
+  pub found : FoundAt log (held log t s) b
+  pub goes-on : (f : Row → Extent) → f (found .row) ≡ fetched log t s count f
 
 pub fetched-found : (log : Bytes) (t : ℕ) (s : Bytes) (count : ℕ) (b : Block) → look.Found b ≡ counted count (lookUp log t s) → Fetched log t s count b
 fetched-found log t s count b e =
     let p = counted-found count (lookUp log t s) b (sym e) in
     let S = look-found log t s b (p .0) in
-    let few : length (S .row .bytes) ≤ count = omega (arith, p .1, ap (λ (x : Block). x .size) (S .place)) in
-    record {
-      row = S .row;
-      stands = held-stands log t s (S .row) (S .is-held);
-      place = S .place;
-      goes-on = λ f. rw (S .is-held, le-leb (length (S .row .bytes)) count few) refl;
-    }
+    let few : length (S .row .bytes) ≤ count = omega (arith, p .1, found-size S) in
+    record { found = S; goes-on = λ f. rw (S .is-held, le-leb (length (S .row .bytes)) count few) refl }

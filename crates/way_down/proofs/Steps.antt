@@ -18,7 +18,7 @@ use Rattle.log.specs.declared.Look.{Look}
 use Rattle.log.specs.declared.Look.the-variants as look
 use Rattle.log.specs.LookUp.{emptyRow, held, lookUp, counted}
 use Rattle.log.proofs.Counted.{counted-found}
-use Rattle.lookup.proofs.Held.{found-within}
+use Rattle.lookup.proofs.Held.{found-within, found-size, found-bytes, look-found}
 use Rattle.entry.specs.declared.Entry.{Entry}
 use Rattle.reader.proofs.Pieces.{length-bytes}
 use Rattle.tree.proofs.Pointers.{length-pointer}
@@ -34,7 +34,7 @@ use Rattle.leaf.proofs.Steps.{leaf-past, under-zero}
 
 module _ (log : Bytes) (t : ℕ) (s : Bytes) (count : ℕ) (l : Look) (el : l ≡ counted count (lookUp log t s)) (n : ℕ) (h : sectors (length log) ≡ n) where
   pub found-room : (b : Block) → l ≡ look.Found b → Inside n b
-  found-room b q = found-within log t s b ((counted-found count (lookUp log t s) b (sym el ∙ q)) .0) n h
+  found-room b q = found-within (look-found log t s b ((counted-found count (lookUp log t s) b (sym el ∙ q)) .0)) n h
 
   -- a look-up ends within the log
   pub look-room : LiesIn n l
@@ -80,7 +80,7 @@ module _ (log : Bytes) (page : ℕ) (e : Entry) (offset : ℕ) where
         go (look.Refused y) z = fetched-refused log t s (e .dsize) leaf-run y (sym z ∙ el)
         go (look.Found b) z =
             let F = fetched-found log t s (e .dsize) b (sym z ∙ el) in
-            ap (leafRun page e offset) (F .place) ∙ F .goes-on leaf-run
+            ap (leafRun page e offset) (F .found .place) ∙ F .goes-on leaf-run
 
     -- the zero score's block is the empty one, whose run is of zeros
     leaf-zero : (b : Bool) → same s zeroScore ≡ b → fetched log t s (e .dsize) leaf-run ≡ under log page e offset 0 s
@@ -109,20 +109,22 @@ module _ (log : Bytes) (page : ℕ) (e : Entry) (offset : ℕ) where
       F : Fetched log (2 + level) s (e .psize) g
       F = fetched-found log (2 + level) s (e .psize) g (sym z ∙ el)
 
-      size : length (F .row .bytes) ≡ g .size
-      size = sym (ap (λ (x : Block). x .size) (F .place))
+      abbrev bytes : Bytes
+      bytes = F .found .row .bytes
+
+      size : length bytes ≡ g .size
+      size = sym (found-size (F .found))
 
       pub level-ragged : (g .size % 20 ≡ 0 → ⊥) → Refused why.Pointers ≡ under log page e offset level s
       unfolding below
       level-ragged h =
-          let k : length (F .row .bytes) % 20 ≡ 0 → ⊥ = λ x. h (rw size at x) in
-          sym (rw (ne-eqb (length (F .row .bytes) % 20) 0 k) refl) ∙ F .goes-on below ∙ level-opened
+          let k : length bytes % 20 ≡ 0 → ⊥ = λ x. h (rw size at x) in
+          sym (rw (ne-eqb (length bytes % 20) 0 k) refl) ∙ F .goes-on below ∙ level-opened
 
       pub level-next : (i : ℕ) (next : Bytes) → g .size % 20 ≡ 0 → i ≡ pointerIndex e offset d → next ≡ pointer (bytesOf log g) i
           → under log page e offset d next ≡ under log page e offset level s
       unfolding below
       level-next i next h ei en =
-          let k : length (F .row .bytes) % 20 ≡ 0 = ap (λ (x : ℕ). x % 20) size ∙ h in
-          let same-bytes : bytesOf log g ≡ F .row .bytes = ap (bytesOf log) (F .place) ∙ sym (F .stands .bytes-there) in
-          ap (under log page e offset d) (en ∙ ap₂ pointer same-bytes ei)
-          ∙ sym (rw (eq-eqb (length (F .row .bytes) % 20) 0 k) refl) ∙ F .goes-on below ∙ level-opened
+          let k : length bytes % 20 ≡ 0 = ap (λ (x : ℕ). x % 20) size ∙ h in
+          ap (under log page e offset d) (en ∙ ap₂ pointer (sym (found-bytes (F .found))) ei)
+          ∙ sym (rw (eq-eqb (length bytes % 20) 0 k) refl) ∙ F .goes-on below ∙ level-opened

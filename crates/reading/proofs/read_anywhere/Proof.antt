@@ -9,7 +9,8 @@ use Rattle.block.proofs.Joined.{sectors-joined}
 use Rattle.log.specs.Parts.{beside}
 use Rattle.log.proofs.Counted.{counted-found}
 use Rattle.hint.specs.Hint.{lookUpBy}
-use Rattle.index_lookup.proofs.Held.{found-by-within, found-by-most}
+use Rattle.lookup.proofs.Held.{found-within, found-most}
+use Rattle.index_lookup.proofs.Held.{look-by-found}
 use Rattle.reading.proofs.Returns.{read-kind, read-refused, read-found, read-as}
 use borrow.Author.Needs.{needs}
 use Rattle.reading.proofs.read_anywhere.Statement.{statement}
@@ -60,7 +61,8 @@ answer-read-requires c κs = let args = c .before .before .before .before .befor
     let J = joined (border .result .0) (a .log .now) (a .waiting .now) in
     let e = (counted-found (a .count) (lookUpBy J _ (a .kind) s) _ (sym (fetch-by .ensures) ∙ (c .before .before .look .given .1))) .0 in
     let n = sectors-joined (border .result .0) (a .log .now) (a .waiting .now) (border .ensures .0) in
-    (border .ensures .0, found-by-within J _ (a .kind) s _ e _ n, found-by-most J _ (a .kind) s _ e, (given .1))
+    let found = look-by-found J _ (a .kind) s _ e in
+    (border .ensures .0, found-within found _ n, found-most found, (given .1))
 
 enum-known-look-2 : tie.Need-enum-known-look-2
 enum-known-look-2 c = search needs
