@@ -84,8 +84,10 @@ module _ (log log′ : Bytes) (h : (t : ℕ) (s : Bytes) (r : Row) → held log 
       → opened log′ d level s refused next′ ≡ next′ (R .row .bytes)
   read-again e d S level s next next′ R =
       read-is (record {
-        row-held = ap (λ (t : ℕ). held log′ t s) (type-shape e d S level) ∙ h (typeAt e level) s (R .row) (R .read .row-held);
-        within-count = ap (λ (n : ℕ). ltb n (length (R .row .bytes))) (count-shape e d S level) ∙ R .read .within-count;
+        passes = record {
+          row-held = ap (λ (t : ℕ). held log′ t s) (type-shape e d S level) ∙ h (typeAt e level) s (R .row) (R .read .passes .row-held);
+          within-count = ap (λ (n : ℕ). ltb n (length (R .row .bytes))) (count-shape e d S level) ∙ R .read .passes .within-count;
+        };
         whole = R .read .whole;
       }) refused next′
 

@@ -134,7 +134,7 @@ module _ (B : Blocks) (log : Bytes) (e : Entry) (nest : ℕ) (s t : Bytes) (left
       let b = R .first .bytes in
       let c = R .second .bytes in
       let n = max (positions 0 (length b)) (positions 0 (length c)) in
-      leaves (R .first) (R .second) (R .first-read .row-held) (R .second-read .row-held)
+      leaves (R .first) (R .second) (R .first-read .passes .row-held) (R .second-read .passes .row-held)
       (everywhere n (λ p. Unchanged log (listed b p) (listed c p))
       (λ p l. each-none (λ i a. positionBy B e 0 nest b c i a) (left - 1) (λ p. Unchanged log (listed b p) (listed c p))
       (λ p a h. entries-unchanged B log left f nest (listed b p) (listed c p) a (omega (arith, R .some-left)))
@@ -148,7 +148,7 @@ module _ (B : Blocks) (log : Bytes) (e : Entry) (nest : ℕ) (s t : Bytes) (left
       let b = R .first .bytes in
       let c = R .second .bytes in
       let n = max (positions (suc d) (length b)) (positions (suc d) (length c)) in
-      pointers (R .first) (R .second) (R .first-read .row-held) (R .second-read .row-held)
+      pointers (R .first) (R .second) (R .first-read .passes .row-held) (R .second-read .passes .row-held)
       (everywhere n (λ p. UnchangedBlocks log e d (pointer b p) (pointer c p))
       (λ p l. each-none (λ i a. positionBy B e (suc d) nest b c i a) (left - 1) (λ p. UnchangedBlocks log e d (pointer b p) (pointer c p))
       (λ p a h y w. f e d nest (pointer b p) (pointer c p) a (omega (arith, R .some-left))
@@ -218,7 +218,7 @@ module _ (B : Blocks) (log : Bytes) (f : CountsNone B log) where
       go false q =
           let R = both-read B log e level nest s t left q d in
           ap (λ (c : Compared). c .count) (R .is)
-          ∙ below-none e level nest s t (R .first) (R .second) (left - 1) (R .first-read .row-held) (R .second-read .row-held) q u (ap (λ (c : Compared). c .end) (sym (R .is)) ∙ d)
+          ∙ below-none e level nest s t (R .first) (R .second) (left - 1) (R .first-read .passes .row-held) (R .second-read .passes .row-held) q u (ap (λ (c : Compared). c .end) (sym (R .is)) ∙ d)
 
 blocks-none : (f : ℕ) (log : Bytes) → CountsNone (λ e l n s t a. compareBlocks f log e l n s t a) log
 unfolding compareBlocks

@@ -53,5 +53,5 @@ pub below-a-root : (log b : Bytes) (n : ℕ) (t : Bool) → rootWellFormed (padd
 unfolding walkTop
 below-a-root log b n true z d =
     let s = seen log 1 n 2 longest (rootScore (paddedTo 300 b)) _ d in
-    below-root (s .row) z (s .found .row-held) (found-directory _ log 1 (s .row .bytes) (n - 1) (s .rest-done) (omega arith))
+    below-root (s .row) z (s .found .passes .row-held) (found-directory _ log 1 (s .row .bytes) (n - 1) (s .rest-done) (omega arith))
 below-a-root log b n false z d = not-done _ d

@@ -85,7 +85,7 @@ module _ (role : Role) (count : ℕ) (score : Bytes) where
   shown-by L a b o why B q f =
       last-by a b o why B (λ p. HoldsAll L (p .visits)) (λ n y. tt) (λ r F. let p = B (r .bytes) in
       holds-on L (p .answer .end) (map (later 1) (p .visits)) (1 + p .answer .visits) (itself (r .bytes))
-      (holds-later L 1 (p .visits) (f (F .not-spent) (r .bytes))) (record { row = r; row-held = q ∙ F .row-held; these = refl }, tt))
+      (holds-later L 1 (p .visits) (f (F .not-spent) (r .bytes))) (record { row = r; row-held = q ∙ F .passes .row-held; these = refl }, tt))
 
   -- over a log that holds the blocks
   pub again-by : (L : Bytes) (a b : Bool) (o o′ : Option Row) (why why′ : Refusal) (B B′ : Bytes → PostOrder) → held L (typeOf role) score ≡ o′
@@ -96,7 +96,7 @@ module _ (role : Role) (count : ℕ) (score : Bytes) where
       last-by a b o why B (λ p. p .answer .end ≡ Done → HoldsAll L (p .visits) → lastBy role count score a b o′ why′ B′ ≡ p) (λ n y d h. not-done y d)
       (λ r F d h. let S = behind-held L (r .bytes) (B (r .bytes)) d h in
       let y : o′ ≡ some (S .row) = sym q ∙ S .row-held in
-      let e : lastBy role count score a b o′ why′ B′ ≡ behind role score (r .bytes) (B′ (r .bytes)) = rw (F .not-deep, F .not-spent, y, S .these, F .within-count) in
+      let e : lastBy role count score a b o′ why′ B′ ≡ behind role score (r .bytes) (B′ (r .bytes)) = rw (F .not-deep, F .not-spent, y, S .these, F .passes .within-count) in
       e ∙ followed-again L (B (r .bytes)) (B′ (r .bytes)) 1 (itself (r .bytes)) (itself (r .bytes)) (f (F .not-spent) (r .bytes)) (λ m u v. refl) d h) d h
 
   pub links-by : (a b : Bool) (o : Option Row) (why : Refusal) (B : Bytes → PostOrder) → (b ≡ false → (x : Bytes) → LinksFirst Any (B x .visits))

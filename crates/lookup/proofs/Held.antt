@@ -4,6 +4,7 @@ use mathlib.Core.Bool.{Bool, true, false, _&&_}
 use mathlib.Core.Option.{Option, none, some}
 use Prim.Native.Nat.{ℕ, _+_, _≤_}
 use native.Mathlib.Omega.{arith}
+use lib.Dec.{ltb}
 use lib.ListN.{length}
 use Rattle.ground.specs.Choice.{on}
 use Rattle.buffer.specs.Bytes.{Bytes, same}
@@ -63,6 +64,11 @@ module _ {log : Bytes} {o : Option Row} {b : Block} (F : FoundAt log o b) where
 
   pub found-bytes : F .row .bytes ≡ bytesOf log b
   found-bytes = F .stands .bytes-there ∙ ap (bytesOf log) (sym (F .place))
+
+-- a row that is held and not longer than a count
+pub record HeldWithin (o : Option Row) (count : ℕ) (r : Row) : Type 0 where
+  pub row-held : o ≡ some r
+  pub within-count : ltb count (length (r .bytes)) ≡ false
 
 -- the answer of a look-up, by what is held
 module _ (log : Bytes) (o : Option Row) (why : Refusal) where

@@ -18,7 +18,7 @@ use Rattle.block.specs.Log.{sectors, bytesOf}
 use Rattle.log.specs.declared.Look.{Look}
 use Rattle.log.specs.declared.Look.the-variants.{Found, Refused}
 use Rattle.log.specs.LookUp.{held, absence, lookUp, counted}
-use Rattle.lookup.proofs.Held.{Stands, held-stands}
+use Rattle.lookup.proofs.Held.{Stands, held-stands, HeldWithin}
 use Rattle.entry.specs.declared.Entry.{Entry}
 use Rattle.tree.specs.Tree.{typeAt, countAt}
 use Rattle.pair.specs.Opened.{ragged, opened, wholeScores, placeAt}
@@ -28,15 +28,14 @@ placed r = Found (placeOf r)
 
 -- a row that passes the tests: it is held, not over the count and not ragged
 pub record ReadAs (log : Bytes) (e : Entry) (level : ℕ) (score : Bytes) (r : Row) : Type 0 where
-  pub row-held : held log (typeAt e level) score ≡ some r
-  pub within-count : ltb (countAt e level) (length (r .bytes)) ≡ false
+  pub passes : HeldWithin (held log (typeAt e level) score) (countAt e level) r
   pub whole : ragged level (length (r .bytes)) ≡ false
 
 -- what goes on has its bytes
 pub read-is : {log : Bytes} {e : Entry} {level : ℕ} {score : Bytes} {r : Row} → ReadAs log e level score r → {A : Type 0} (refused : Refusal → A) (next : Bytes → A)
     → opened log e level score refused next ≡ next (r .bytes)
 unfolding opened
-read-is R refused next = rw (R .row-held, R .within-count, R .whole)
+read-is R refused next = rw (R .passes .row-held, R .passes .within-count, R .whole)
 
 -- what is known where a block is found
 pub record OpenedAt (log : Bytes) (e : Entry) (level : ℕ) (score : Bytes) (place : Block) : Type 0 where
@@ -60,7 +59,7 @@ module _ (log : Bytes) (e : Entry) (level : ℕ) (score : Bytes) where
           → P (wholeScores level (cond b (Refused OverCount) (placed r)))
           (cond b (refused OverCount) (cond (ragged level (length (r .bytes))) (refused Pointers) (next (r .bytes))))
       by-count r o true q = f OverCount
-      by-count r o false q = by-ragged r (λ z. record { row-held = o; within-count = q; whole = z }) (ragged level (length (r .bytes))) refl
+      by-count r o false q = by-ragged r (λ z. record { passes = record { row-held = o; within-count = q }; whole = z }) (ragged level (length (r .bytes))) refl
 
       by-held : (o : Option Row) → held log (typeAt e level) score ≡ o
           → P (wholeScores level (counted (countAt e level) (on o (Refused (absence log)) placed)))
@@ -81,7 +80,7 @@ module _ (log : Bytes) (e : Entry) (level : ℕ) (score : Bytes) where
 
 module _ {log : Bytes} {e : Entry} {level : ℕ} {score : Bytes} {p : Block} (O : OpenedAt log e level score p) where
   stands : Stands log (O .row)
-  stands = held-stands log (typeAt e level) score (O .row) (O .read .row-held)
+  stands = held-stands log (typeAt e level) score (O .row) (O .read .passes .row-held)
 
   size-of-row : p .size ≡ length (O .row .bytes)
   size-of-row = ap (λ (x : Block). x .size) (O .place-of-row)

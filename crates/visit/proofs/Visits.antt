@@ -19,7 +19,7 @@ use Rattle.block.proofs.Joined.{sectors-joined}
 use Rattle.log.specs.declared.Look.{Look}
 use Rattle.log.specs.declared.Look.the-variants.{Found, Refused}
 use Rattle.log.specs.LookUp.{held, absence, lookUp, counted}
-use Rattle.lookup.proofs.Held.{held-stands}
+use Rattle.lookup.proofs.Held.{held-stands, HeldWithin}
 use Rattle.entry.specs.declared.Entry.{Entry}
 use Rattle.tree.specs.Tree.{typeAt, countAt}
 use Rattle.visit.specs.declared.Walked.{Walked}
@@ -44,8 +44,7 @@ visitBy a b o w count next = byTests a b o w count (λ n y. walked n (Stopped y)
 pub record FoundByTests (a b : Bool) (o : Option Row) (count : ℕ) (r : Row) : Type 0 where
   pub not-deep : a ≡ false
   pub not-spent : b ≡ false
-  pub row-held : o ≡ some r
-  pub within-count : ltb count (length (r .bytes)) ≡ false
+  pub passes : HeldWithin o count r
 
 -- two accounts of a visit: both are of one refusal, or both of one row that passes
 pub by-tests-both : {A B : Type 0} (a b : Bool) (o : Option Row) (w : Refusal) (count : ℕ) (f : ℕ → Refusal → A) (g : Row → A) (f′ : ℕ → Refusal → B) (g′ : Row → B)
@@ -58,7 +57,7 @@ by-tests-both false false (some r) w count f g f′ g′ P u v = go (ltb count (
   where
     go : (c : Bool) → ltb count (length (r .bytes)) ≡ c → P (cond c (f 1 OverCount) (g r)) (cond c (f′ 1 OverCount) (g′ r))
     go true q = u 1 OverCount
-    go false q = v r (record { not-deep = refl; not-spent = refl; row-held = refl; within-count = q })
+    go false q = v r (record { not-deep = refl; not-spent = refl; passes = record { row-held = refl; within-count = q } })
 
 -- one account
 pub by-tests : {A : Type 0} (a b : Bool) (o : Option Row) (w : Refusal) (count : ℕ) (f : ℕ → Refusal → A) (g : Row → A) (P : A → Type 0)
@@ -145,23 +144,23 @@ module _ (log : Bytes) (nest left kind count : ℕ) (score : Bytes) (m : Met) (e
   pub any-found : {A : Type 0} (f : ℕ → Refusal → A) (next : Bytes → A) (p : Block) → m .look ≡ Found p → account f (λ r. next (r .bytes)) ≡ next (bytesOf log p)
   any-found f next p =
       met-and f (λ r. next (r .bytes)) (λ x z. x .look ≡ Found p → z ≡ next (bytesOf log p)) (λ n y q. let z : _≡_ {A = ℕ} 0 1 = cc in absurd (omega arith))
-      (λ r F q. let z : placeOf r ≡ p = cc in ap next (held-stands log kind score r (F .row-held) .bytes-there ∙ ap (bytesOf log) z))
+      (λ r F q. let z : placeOf r ≡ p = cc in ap next (held-stands log kind score r (F .passes .row-held) .bytes-there ∙ ap (bytesOf log) z))
 
   pub found-known : (p : Block) → m .look ≡ Found p → Known log nest left kind count score p (m .spent)
   unfolding visiting
   found-known p d =
       met-and {A = ℕ} (λ n y. 0) (λ r. 0) (λ x _. x .look ≡ Found p → Known log nest left kind count score p (x .spent)) (λ n y q. let z : _≡_ {A = ℕ} 0 1 = cc in absurd (omega arith))
       (λ r F q. let z : placeOf r ≡ p = cc in
-      let s = held-stands log kind score r (F .row-held) in
+      let s = held-stands log kind score r (F .passes .row-held) in
       let size : length (r .bytes) ≡ p .size = ap (λ (x : Block). x .size) z in
       record {
         not-deep = ltb-false 16 nest (F .not-deep);
         some-left = let y = eqb-false left 0 (F .not-spent) in positive left y;
         in-log = rw (← z) (s .within);
         not-many = omega (arith, size, s .not-many);
-        counted-in = omega (arith, size, ltb-false count (length (r .bytes)) (F .within-count));
+        counted-in = omega (arith, size, ltb-false count (length (r .bytes)) (F .passes .within-count));
         one-spent = refl;
-        goes-on = λ go w h. rw (F .not-deep, F .not-spent, F .row-held, F .within-count) (ap more (h ∙ ap go (sym (s .bytes-there ∙ ap (bytesOf log) z))));
+        goes-on = λ go w h. rw (F .not-deep, F .not-spent, F .passes .row-held, F .passes .within-count) (ap more (h ∙ ap go (sym (s .bytes-there ∙ ap (bytesOf log) z))));
       }) d
 
   pub refused-known : (why : Refusal) → m .look ≡ Refused why → (go : Bytes → Walked) → answerOf m ≡ visiting log nest left kind count score go

@@ -63,7 +63,7 @@ module _ (log log′ : Bytes) (h : (t : ℕ) (s : Bytes) (r : Row) → held log 
   visit-again nest left kind count score next next′ f =
       by-tests (ltb 16 nest) (eqb left 0) (held log kind score) (absence log) count (λ n y. walked n (Refused y)) (λ r. more (next (r .bytes)))
       (λ w. Same w (visiting log′ nest left kind count score next′)) (λ n y. refused-same n y _)
-      (λ r F e. rw (F .not-deep, F .not-spent, h kind score r (F .row-held), F .within-count) (ap more (f (r .bytes) e)))
+      (λ r F e. rw (F .not-deep, F .not-spent, h kind score r (F .passes .row-held), F .passes .within-count) (ap more (f (r .bytes) e)))
 
   mutual
     unfolding visitEntry visitDirectory

@@ -127,13 +127,13 @@ mutual
       let s = seen log nest left (typeAt e zero) (countAt e zero) score _ d in
       let p = eqb-false left 0 (s .found .not-spent) in
       leaf-found log e score (s .row) (λ b. visitDirectory f log nest b (left - 1))
-      (λ y. found-directory f log nest (s .row .bytes) (left - 1) y (omega arith)) (e .directory) refl (s .found .row-held) (s .rest-done)
+      (λ y. found-directory f log nest (s .row .bytes) (left - 1) y (omega arith)) (e .directory) refl (s .found .passes .row-held) (s .rest-done)
   found-entry (suc f) log e (suc l) nest score left d h =
       let s = seen log nest left (typeAt e (suc l)) (countAt e (suc l)) score _ d in
       let p = eqb-false left 0 (s .found .not-spent) in
       scores-found log e score (s .row) l (λ x a. visitEntry f log e (suc l - 1) nest x a) (left - 1)
       (λ x a k y. subst (λ (m : ℕ). Found log e m x) (level-below l) (found-entry f log e (suc l - 1) nest x a y (omega arith)))
-      (ap (λ (t : ℕ). held log t score) (sym (type-above e l)) ∙ s .found .row-held) (eqb (length (s .row .bytes) % 20) 0) refl
+      (ap (λ (t : ℕ). held log t score) (sym (type-above e l)) ∙ s .found .passes .row-held) (eqb (length (s .row .bytes) % 20) 0) refl
       (else-done (eqb (suc l) 0) _ _ (ne-eqb (suc l) 0 (λ z. omega arith)) (s .rest-done))
 
   pub found-directory : (f : ℕ) (log : Bytes) (nest : ℕ) (b : Bytes) (left : ℕ)
@@ -154,7 +154,7 @@ root-done-found log score n r h true z d =
       root-held = h;
       formed = z;
       top = s .row;
-      top-held = s .found .row-held;
+      top-held = s .found .passes .row-held;
       below = found-directory _ log 1 (s .row .bytes) (n - 1) (s .rest-done) (omega arith);
     }
 root-done-found log score n r h false z d = not-done _ d
@@ -169,7 +169,7 @@ unfolding walkIn walkRoot
 found-in lent log score n v e =
     let d = tests-passed lent (ltb mostAllowance n) (walkRoot log score n) (ap (λ (w : Walked). w .end) e) in
     let s = seen log 0 n 1 300 score _ d in
-    root-done-found log score (n - 1) (s .row) (s .found .row-held) (rootWellFormed (paddedTo 300 (s .row .bytes))) refl (s .rest-done)
+    root-done-found log score (n - 1) (s .row) (s .found .passes .row-held) (rootWellFormed (paddedTo 300 (s .row .bytes))) refl (s .rest-done)
 
 pub walk-found : WalkFinds
 walk-found log waiting score n v e = found-in (lentAllowed (length log) (length waiting)) (tape log waiting) score n v e

@@ -43,7 +43,7 @@ module _ (log : Bytes) (e : Entry) (nest : ℕ) where
   ends-below k left s r h (suc f) a enough le d =
       let S = seen log nest a (typeAt e (suc k)) (countAt e (suc k)) s _ d in
       let pos = eqb-false a 0 (S .found .not-spent) in
-      let is : S .row ≡ r = some-same (S .row) r (sym (S .found .row-held) ∙ ap (λ (t : ℕ). held log t s) (type-above e k) ∙ h) in
+      let is : S .row ≡ r = some-same (S .row) r (sym (S .found .passes .row-held) ∙ ap (λ (t : ℕ). held log t s) (type-above e k) ∙ h) in
       let all = each-ends f k left (a - 1) (S .row .bytes) (omega arith) (omega arith) (eqb (length (S .row .bytes) % 20) 0)
       (else-done (eqb (suc k) 0) _ _ (ne-eqb (suc k) 0 (λ z. omega arith)) (S .rest-done)) in
       subst (λ (x : Row). (i : ℕ) → i < length (x .bytes) / 20 → Ends left k (piece 20 i (x .bytes))) is all
