@@ -2,7 +2,7 @@
 -- at n is exactly the sound block there that has both.
 use mathlib.Core.Path.{_≡_, refl, sym, ap, ap₂, _∙_, subst}
 use mathlib.Core.Bool.{Bool, true, false, _&&_}
-use mathlib.Core.Option.{Option, none, some}
+use mathlib.Core.Option.{none, some}
 use Prim.Native.Nat.{ℕ}
 use native.Mathlib.Omega.{arith}
 use lib.Dec.{eqb}
@@ -45,17 +45,6 @@ pub sound-bytes : (log : Bytes) (n : ℕ) (r : Row) → sound log n ≡ some r �
 sound-bytes log n r e =
     let p = sound-reads log n r e in
     sym (ap (λ (m : ℕ). take (length (r .bytes)) (payloads (labelLength (r .date)) log (parts r) m)) (p .1) ∙ take-payloads log n r (p .0) (p .3))
-
--- no sound block, none of any type and score
-pub as-none : (log : Bytes) (n kind : ℕ) (score : Bytes) → sound log n ≡ none → soundAs log n kind score ≡ none
-as-none log n kind score e = go (soundAs log n kind score) refl
-  where
-    go : (o : Option Row) → soundAs log n kind score ≡ o → soundAs log n kind score ≡ none
-    go none q = q
-    go (some r) q =
-        let z : none ≡ some r = sym e ∙ (as-reads log n kind score r q) .0 in
-        let y : _≡_ {A = ℕ} 0 1 = cc in
-        absurd (omega arith)
 
 -- a sound block of another type or score
 pub as-other : (log : Bytes) (n kind : ℕ) (score : Bytes) (r : Row) → sound log n ≡ some r → soundAs log n kind score ≡ none → (eqb (r .kind) kind && same (r .score) score) ≡ false

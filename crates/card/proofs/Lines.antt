@@ -59,9 +59,6 @@ with-line n s l = go (begins s (ending true)) (begins s (ending false)) refl ref
     go false false q r e = let z : _≡_ {A = ℕ} 0 1 = cc in absurd (omega arith)
 
 -- bytes with a line at their front: its text, and what is behind it
-pub line-name : (s : Bytes) (l : Line) → lineOf s ≡ some l → l .name ≡ upToEquals s
-line-name s l e = with-line (upToEquals s) (drop (length (upToEquals s)) s) l e .0
-
 pub line-front : (s : Bytes) (l : Line) → lineOf s ≡ some l → s ≡ lineText l ++ drop (length (lineText l)) s
 line-front s l e =
     let n = upToEquals s in

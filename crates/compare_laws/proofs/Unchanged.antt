@@ -70,9 +70,6 @@ everywhere n P f g p = go (ltb p n) refl
     go true q = f p (ltb-true p n q)
     go false q = g p (ltb-false p n q)
 
-position-leaf : (B : Blocks) (e : Entry) (nest : ℕ) (b c : Bytes) (i a : ℕ) → positionBy B e 0 nest b c i a ≡ entriesBy B nest (listed b i) (listed c i) a
-position-leaf B e nest b c i a = refl
-
 position-above : (B : Blocks) (e : Entry) (d nest : ℕ) (b c : Bytes) (i a : ℕ) → positionBy B e (suc d) nest b c i a ≡ B e d nest (pointer b i) (pointer c i) a
 position-above B e d nest b c i a =
     let z : suc d - 1 ≡ d = omega arith in

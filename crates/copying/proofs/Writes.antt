@@ -1,7 +1,7 @@
 -- A list of writes: what it leaves of the second log, and how storing a list ends.
 use mathlib.Core.Path.{_≡_, refl, sym, ap, ap₂, subst, _∙_}
 use mathlib.Core.Bool.{true}
-use mathlib.Core.List.{List, [], _∷_, _++_, List·Memᴰ, List·Memᴰ·head, List·Memᴰ·tail, List·Memᴰ·not-nil, List·Memᴰ·cases-cons}
+use mathlib.Core.List.{List, [], _∷_, List·Memᴰ, List·Memᴰ·head, List·Memᴰ·tail, List·Memᴰ·not-nil, List·Memᴰ·cases-cons}
 use mathlib.Core.Logic.{_⊎_, inl, inr}
 use mathlib.Core.Option.{none as nothing, some}
 use Prim.Native.Nat.{ℕ, _≤_, _^_}
@@ -88,11 +88,6 @@ stored-shown s date t score b a (there x h eb e _) z q = record { row = x; row-h
 stored-shown s date t score b a (refused R e) z q = not-of-second (refuses-second R) q
 
 -- ---- lists of writes
-
-pub wrote-append : (date : Bytes) (a b : List Visit) (s : Bytes) → wroteAll date (a ++ b) s ≡ wroteAll date b (wroteAll date a s)
-unfolding wroteAll
-wrote-append date [] b s = refl
-wrote-append date (v ∷ a) b s = wrote-append date a b (wrote date v s)
 
 fits-on : {vs : List Visit} {date s s′ : Bytes} → Grown vs date s s′ → Fits s → Fits s′
 fits-on G f = subst (λ (n : ℕ). sectors n ≤ 16 ^ 8) (sym (G .stays .as-long)) f

@@ -141,9 +141,3 @@ module _ (u d : Bytes) (len target : ℕ) (a : Allowed u (length d) len target) 
       ap₂ (λ (y z : Bytes). take len d ++ (y ++ z))
       (e ∙ ap (λ (n : ℕ). repeat u (n / length u)) part-length)
       (post-is len target d (a .longer))
-
--- padding with zero bytes
-pub padded-zeros : (d : Bytes) (len target : ℕ) → padded zeroByte d len target ≡ take len d ++ (replicate (target - len) 0 ++ drop target d)
-unfolding padded
-padded-zeros d len target =
-    ap (λ (x : Bytes). take len d ++ (x ++ drop target d)) (ap (repeat zeroByte) (div-one (target - len)) ∙ repeat-zeros (target - len))

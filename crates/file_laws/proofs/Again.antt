@@ -1,12 +1,10 @@
 -- Reading again: a log that holds what an earlier one held answers as that one did, with the same run, place and bytes.
-use mathlib.Core.Path.{_≡_, refl, sym, ap, subst, _∙_}
+use mathlib.Core.Path.{_≡_, refl, sym, ap, _∙_}
 use mathlib.Core.Bool.{Bool, true, false, cond}
-use mathlib.Core.List.{[]}
 use mathlib.Core.Option.{Option, some}
-use Prim.Native.Nat.{ℕ, zero, suc, _+_, _-_, _*_, _%_, _≤_, _<_, min}
+use Prim.Native.Nat.{ℕ, zero, suc, _+_, _-_, _%_, _≤_, _<_, min}
 use native.Mathlib.Omega.{arith}
 use lib.Dec.{ltb, eqb}
-use borrow.Author.Tests.{lt-ltb}
 use lib.ListN.{length}
 use Rattle.buffer.specs.Bytes.{Bytes, same}
 use Rattle.kind.specs.Kind.{zeroScore}
@@ -15,16 +13,12 @@ use Rattle.refusal.specs.declared.Refusal.the-variants as why
 use Rattle.block.specs.Block.{Row, payload, placeOf}
 use Rattle.log.specs.LookUp.{held, lentAllowed}
 use Rattle.log.specs.Parts.{tape}
-use Rattle.log.proofs.Parts.{held-alone, used-alone}
 use Rattle.entry.specs.declared.Entry.{Entry}
 use Rattle.entry.specs.Entry.{entryOf, scoreOf}
-use Rattle.block.specs.Log.{used}
 use Rattle.leaf.specs.declared.Extent.{Extent}
-use Rattle.leaf.specs.declared.Extent.the-variants.{Stored, Zeros, Refused}
-use Rattle.file.proofs.Inside.{Inside, extent-in}
 use Rattle.tree.specs.Tree.{pointer, typeAt}
 use Rattle.leaf.specs.Leaf.{zeroRun, leafRun, fetched, pointerIndex, under}
-use Rattle.file.specs.File.{pageAllowed, entryReadable, test, extentAt, split, located}
+use Rattle.file.specs.File.{pageAllowed, entryReadable, test, extentAt, located}
 use Rattle.file_laws.specs.Path.{Answers}
 use Rattle.file_laws.specs.Bytes.{runBytes, byteUnder}
 use Rattle.file_laws.proofs.Extents.{Reads, extentBytes, shown-bytes, shown-reads}
@@ -113,30 +107,4 @@ again log waiting log′ waiting′ page entry offset l more a =
       shown-bytes log′ waiting′ page entry offset
           ∙ ap (λ (b : Bool). extentBytes (tape log′ waiting′) page (extentAt b (tape log′ waiting′) page entry offset)) l
           ∙ R .1 ∙ sym (shown-bytes log waiting page entry offset),
-    )
-
--- where nothing waits, they are at the same place of the log
-split-stored : (u v p : ℕ) (x : Extent) → Inside u p x → Inside v p x → split (512 * u) x ≡ split (512 * v) x
-split-stored u v p (Stored at n) a b = rw (lt-ltb at (512 * u) (a .2), lt-ltb at (512 * v) (b .2)) refl
-split-stored u v p (Zeros n) a b = refl
-split-stored u v p (Refused w) a b = refl
-
-pub again-alone : (log log′ page entry : Bytes) (offset : ℕ) → length log′ ≡ length log
-    → ((t : ℕ) (s : Bytes) (r : Row) → held log t s ≡ some r → held log′ t s ≡ some r) → Answers (located log [] page entry offset)
-    → (located log′ [] page entry offset ≡ located log [] page entry offset)
-    × (runBytes log′ [] page (located log′ [] page entry offset) ≡ runBytes log [] page (located log [] page entry offset))
-unfolding located
-again-alone log log′ page entry offset l more a =
-    let lent = lentAllowed (length log) 0 in
-    let same-lent : lentAllowed (length log′) 0 ≡ lent = ap (λ (m : ℕ). lentAllowed m 0) l in
-    let kept : (t : ℕ) (s : Bytes) (r : Row) → held (tape log []) t s ≡ some r → held (tape log′ []) t s ≡ some r =
-    λ t s r h. held-alone log′ t s ∙ more t s r (sym (held-alone log t s) ∙ h) in
-    let R = again log [] log′ [] page entry offset same-lent kept a in
-    let x = extentAt lent (tape log []) page entry offset in
-    let here : Inside (used log) (length page) x = subst (λ (k : ℕ). Inside k (length page) x) (used-alone log) (extent-in lent (tape log []) page entry offset) in
-    let there : Inside (used log′) (length page) x = subst (λ (k : ℕ). Inside k (length page) x) (used-alone log′)
-    (subst (λ (y : Extent). Inside (used (tape log′ [])) (length page) y) (R .0) (extent-in lent (tape log′ []) page entry offset)) in (
-      ap (λ (b : Bool). split (512 * used log′) (extentAt b (tape log′ []) page entry offset)) same-lent
-          ∙ ap (split (512 * used log′)) (R .0) ∙ split-stored (used log′) (used log) (length page) x there here,
-      R .1,
     )

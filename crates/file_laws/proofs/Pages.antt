@@ -39,11 +39,6 @@ answers-why (Stored at n) e = tt
 answers-why (Zeros n) e = tt
 answers-why (Refused w) e = let z : _≡_ {A = ℕ} 0 1 = cc in absurd (omega arith)
 
-pub why-answers : (x : Extent) → Reads x → whyNot x ≡ none
-why-answers (Stored at n) a = refl
-why-answers (Zeros n) a = refl
-why-answers (Refused w) a = absurd a
-
 cond-alike : (b : Bool) (x x′ y y′ : Extent) → whyNot x ≡ whyNot x′ → whyNot y ≡ whyNot y′ → whyNot (cond b x y) ≡ whyNot (cond b x′ y′)
 cond-alike true x x′ y y′ p q = p
 cond-alike false x x′ y y′ p q = q

@@ -7,7 +7,7 @@ use Prim.Native.Nat.{ℕ, _+_, _-_, _*_, _≤_}
 use native.Mathlib.Omega.{arith}
 use lib.Dec.{ltb}
 use borrow.Author.Tests.{ltb-true, ltb-false}
-use lib.ListN.{length, take, drop, length-append, length-take, length-drop}
+use lib.ListN.{length, take, drop, length-append, length-drop}
 use lib.Seq.{take-at, drop-at, drop-append-le, take-append-le, drop-drop, length-take-le}
 use Rattle.buffer.specs.Bytes.{Bytes, put}
 use Rattle.buffer.proofs.Parts.{part-within}
@@ -22,10 +22,6 @@ length-named score kind h = omega (arith, length-append score (kind ∷ []))
 pub length-entry : (score : Bytes) (kind first : ℕ) → length score ≡ 20 → length (entryBytes score kind first) ≡ 25
 length-entry score kind first h =
     omega (arith, length-append (named score kind) (beBytes 4 first), length-named score kind h, length-digits 256 4 first)
-
-pub length-place : (index : Bytes) (p : ℕ) → 25 * p + 25 ≤ length index → length (placeAt index p) ≡ 25
-unfolding placeAt
-length-place index p h = simp (length-take, length-drop) (omega arith)
 
 module _ (index x : Bytes) (p : ℕ) (l : length x ≡ 25) (h : 25 * p + 25 ≤ length index) where
   -- from the end of what was written on

@@ -129,9 +129,6 @@ module _ (log : Bytes) where
   unfolding used usedOf
   none = tape-alone log [] refl
 
-  pub used-alone : used (tape log []) ≡ used log
-  used-alone = used-alike (tape log []) log none
-
   pub held-alone : (t : ℕ) (s : Bytes) → held (tape log []) t s ≡ held log t s
   held-alone = held-alike (tape log []) log none
 

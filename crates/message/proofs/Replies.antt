@@ -1,16 +1,13 @@
 -- Replies: their parts and length, and how they come to stand at the front of the buffer.
 use mathlib.Core.Path.{_≡_, refl, sym, ap, ap₂, _∙_}
-use mathlib.Core.Bool.{true}
 use mathlib.Core.List.{[], _∷_, _++_, append-assoc}
-use Prim.Native.Nat.{ℕ, _+_, _≤_, _<_}
+use Prim.Native.Nat.{ℕ, _+_, _≤_}
 use native.Mathlib.Omega.{arith}
-use borrow.Author.Tests.{lt-ltb}
 use lib.ListN.{length, getD, take, drop, set, length-append}
 use lib.Seq.{drop-cons, length-take-le}
 use Rattle.buffer.specs.Bytes.{Bytes, put}
-use Rattle.buffer.proofs.Bytes.{small-append}
-use Rattle.word.specs.Number.{digits, beBytes, small}
-use Rattle.word.proofs.NumberLaws.{length-digits, below-digits}
+use Rattle.word.specs.Number.{digits, beBytes}
+use Rattle.word.proofs.NumberLaws.{length-digits}
 use Rattle.word.proofs.HexLaws.{hex-length}
 use Rattle.sector_number.specs.declared.SectorNumber.{SectorNumber}
 use Rattle.refusal.specs.declared.Refusal.{Refusal}
@@ -18,7 +15,7 @@ use Rattle.refusal.specs.declared.Doubt.{Doubt}
 use Rattle.refusal.specs.declared.Doubt.the-variants.{At, Nowhere}
 use Rattle.refusal.specs.Number.{numberOf, doubtOf}
 use Rattle.message.specs.Reply.{reply, answered, why, place, errorText, errorReply}
-use Rattle.buffer.proofs.Put.{length-put, put-front-put}
+use Rattle.buffer.proofs.Put.{put-front-put}
 
 -- size, type and tag of a reply whose body has n bytes
 abbrev pub head : ℕ → ℕ → ℕ → Bytes
@@ -31,19 +28,6 @@ length-head type tag n = omega (arith, length-append (beBytes 2 (2 + n)) (type �
 pub reply-parts : (type tag : ℕ) (body : Bytes) → reply type tag body ≡ head type tag (length body) ++ body
 unfolding reply
 reply-parts type tag body = sym (append-assoc (beBytes 2 (2 + length body)) (type ∷ tag ∷ []) body)
-
-pub length-reply : (type tag : ℕ) (body : Bytes) → length (reply type tag body) ≡ 4 + length body
-length-reply type tag body = rw (reply-parts, length-append, length-head)
-
--- a reply of small numbers is bytes
-pub small-reply : (type tag : ℕ) (body : Bytes) → type < 256 → tag < 256 → small body ≡ true → small (reply type tag body) ≡ true
-unfolding reply
-small-reply type tag body h k e =
-    small-append (beBytes 2 (2 + length body)) (type ∷ tag ∷ body) (below-digits 256 2 (2 + length body) (omega arith)) (rw (lt-ltb type 256 h, lt-ltb tag 256 k) e)
-
--- the buffer stays as long as it was
-pub length-answered : (buffer : Bytes) (type tag : ℕ) (body : Bytes) → 4 + length body ≤ length buffer → length (answered buffer (reply type tag body)) ≡ length buffer
-length-answered buffer type tag body h = length-put buffer 0 (reply type tag body) (omega (arith, length-reply type tag body))
 
 -- the head at the front, and the body after it
 pub head-body : (buffer : Bytes) (type tag : ℕ) (body : Bytes) → put (put buffer 0 (head type tag (length body))) 4 body ≡ answered buffer (reply type tag body)

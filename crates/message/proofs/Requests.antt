@@ -18,7 +18,7 @@ use Rattle.message.specs.declared.Request.the-variants.{Ping, Hello, Goo
 use Rattle.field.specs.declared.Next.{Next}
 use Rattle.field.specs.declared.Next.the-variants.{At, Bad}
 use Rattle.field.specs.Field.{helloEnd}
-use Rattle.message.specs.Message.{framed, typeOf, tagOf, exactly, scoreOf, readOf, writeOf, requestOf}
+use Rattle.message.specs.Message.{framed, typeOf, exactly, scoreOf, readOf, writeOf, requestOf}
 
 -- ---- numbers
 
@@ -29,9 +29,6 @@ number-lt w at m e =
     let s : small t ≡ true = small-take w (drop at m) (small-drop at m e) in
     lt-of-lt-of-le (value-lt 256 t (λ k. small-getD t k s)) (pow-le-pow-right (omega arith) (rw length-take (omega arith)))
 
-pub tag-lt : (m : Bytes) → small m ≡ true → tagOf m < 256
-tag-lt m e = small-getD m 3 e
-
 -- ---- the head
 
 pub framed-head : (m : Bytes) → framed m ≡ true → (4 ≤ length m) × (beNumber (take 2 m) ≡ length m - 2)
@@ -39,10 +36,6 @@ unfolding framed
 framed-head m e =
     let p = and-true (leb 4 (length m)) (eqb (beNumber (take 2 m)) (length m - 2)) e in
     (leb-true 4 (length m) (p .0), eqb-true (beNumber (take 2 m)) (length m - 2) (p .1))
-
--- a longer message is never framed
-pub framed-most : (m : Bytes) → small m ≡ true → framed m ≡ true → length m ≤ 65537
-framed-most m s e = let f = framed-head m e in omega (arith, f .0, f .1, number-lt 2 0 m s)
 
 -- ---- the body
 
@@ -103,15 +96,6 @@ module _ (m : Bytes) (k c : ℕ) (e : requestOf m ≡ Read k c) where
   pub read-score : length (scoreOf m) ≡ 20
   read-score = let l : length m ≡ 28 = read-length in simp (length-take, length-drop) (omega arith)
 
-  pub read-kind-lt : small m ≡ true → k < 256
-  read-kind-lt s = rw (asks m (Read k c) e .1) (small-getD m 24 s)
-
-  pub read-count-lt : small m ≡ true → c < 65536
-  read-count-lt s = rw (asks m (Read k c) e .2) (number-lt 2 26 m s)
-
 module _ (m : Bytes) (k : ℕ) (e : requestOf m ≡ Write k) where
   pub write-length : 8 ≤ length m
   write-length = asks m (Write k) e .0
-
-  pub write-kind-lt : small m ≡ true → k < 256
-  write-kind-lt s = rw (asks m (Write k) e .1) (small-getD m 4 s)

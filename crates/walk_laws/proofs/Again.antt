@@ -1,7 +1,6 @@
 -- A walk that ends, ends the same on a log that holds the same blocks and perhaps more.
-use mathlib.Core.Path.{_≡_, refl, sym, ap, _∙_}
+use mathlib.Core.Path.{_≡_, refl, ap, _∙_}
 use mathlib.Core.Bool.{Bool, true, false, cond}
-use mathlib.Core.List.{[]}
 use mathlib.Core.Option.{some}
 use Prim.Native.Nat.{ℕ, zero, suc, _+_, _-_, _*_, _/_, _%_}
 use lib.Dec.{eqb, ltb}
@@ -12,7 +11,6 @@ use Rattle.kind.specs.Kind.{longest}
 use Rattle.block.specs.Block.{Row}
 use Rattle.log.specs.LookUp.{held, absence, lentAllowed}
 use Rattle.log.specs.Parts.{tape}
-use Rattle.log.proofs.Parts.{held-alone}
 use Rattle.entry.specs.declared.Entry.{Entry}
 use Rattle.entry.specs.Entry.{entryOf, entryAllowed, scoreOf}
 use Rattle.entry.specs.Root.{rootWellFormed, rootScore}
@@ -108,10 +106,3 @@ pub walk-again : (log waiting log′ waiting′ score : Bytes) (n v : ℕ) → l
 walk-again log waiting log′ waiting′ score n v l h e =
     ap (λ (b : Bool). walkIn b (tape log′ waiting′) score n) l
     ∙ again-in (tape log waiting) (tape log′ waiting′) h (lentAllowed (length log) (length waiting)) score n v e
-
--- of a log with nothing behind it
-pub walk-again-alone : (log log′ score : Bytes) (n v : ℕ) → length log′ ≡ length log
-    → ((t : ℕ) (s : Bytes) (r : Row) → held log t s ≡ some r → held log′ t s ≡ some r)
-    → walkOf log [] score n ≡ walked v Done → walkOf log′ [] score n ≡ walked v Done
-walk-again-alone log log′ score n v l h e =
-    walk-again log [] log′ [] score n v (ap (λ (m : ℕ). lentAllowed m 0) l) (λ t s r q. held-alone log′ t s ∙ h t s r (sym (held-alone log t s) ∙ q)) e
