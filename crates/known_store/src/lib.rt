@@ -158,24 +158,6 @@ pub fn store_known(
     }
 }
 
-// Whether the bucket of a score has an entry with this score, type and sector.
-pub fn lists(index: &[u8], score: &[u8], kind: u8, first: SectorNumber) -> bool
-    requires { ⌜ length (now score) ≡ 20 ⌝ }
-    ensures { λ r. ⌜ r ≡ listed (now (index .entry)) (now (score .entry)) kind (first .0) ⌝ }
-{
-    let b = index::bucket_of(index, score);
-    let mut p = b.from;
-    while p < b.to {
-        if index::names(index, p, kind, score) {
-            if index::sector_at(index, p).0 == first.0 {
-                return true;
-            }
-        }
-        p += 1;
-    }
-    false
-}
-
 // Whether the index leads to every sound block still, with one more at the end that is known.
 fn still_exact(index: &[u8], score: &[u8], kind: u8, known: Known) -> bool
     requires { ⌜ (length (now score) ≡ 20) × (known .used .0 + known .waits .0 < 2 ^ 64) ⌝ }
@@ -187,7 +169,7 @@ fn still_exact(index: &[u8], score: &[u8], kind: u8, known: Known) -> bool
     let used = known.used;
     let waits = known.waits;
     let first = used.0 + waits.0;
-    lists(index, score, kind, SectorNumber(first))
+    bucket_scan::lists(index, score, kind, SectorNumber(first))
 }
 
 // What is known after a store of `count` sectors, by the index that it left.

@@ -1,13 +1,13 @@
--- `known_store::lists` meets its contract: whether one of the places that are left has the entry is whether one of all has.
+-- `bucket_scan::lists` meets its contract: whether one of the places that are left has the entry is whether one of all has.
 use mathlib.Core.Path.{_≡_}
 use mathlib.Core.Logic.{⊎-elim}
 use Prim.Native.Nat.{_-_, _≤_}
 use native.Mathlib.Omega.{arith}
 use Rattle.known.specs.Known.{listedFrom, listed}
-use Rattle.known_store.proofs.Listed.{list-starts, list-here, list-unnamed, list-elsewhere, list-ends}
+use Rattle.bucket_scan.proofs.Listed.{list-starts, list-here, list-unnamed, list-elsewhere, list-ends}
 use borrow.Author.Needs.{needs}
-use Rattle.known_store.proofs.lists.Statement.{statement}
-use Rattle.known_store.proofs.lists.Tie as tie
+use Rattle.bucket_scan.proofs.lists.Statement.{statement}
+use Rattle.bucket_scan.proofs.lists.Tie as tie
 
 abbrev Inv-loop : tie.InvT-loop
 Inv-loop index score kind first b p₀ p =
