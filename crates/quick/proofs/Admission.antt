@@ -14,8 +14,6 @@ use Rattle.sector.specs.Sector.{isDate}
 use Rattle.log.specs.LookUp.{lentAllowed}
 use Rattle.log.specs.Parts.{beside}
 use Rattle.known.specs.declared.Known.{Known}
-use Rattle.known.specs.Known.{learned, belongs}
-use Rattle.known.proofs.Belongs.{learned-belongs}
 use Rattle.message.specs.Message.{framed, tagOf, scoreOf, dataOf, requestOf}
 use Rattle.message.specs.declared.Request.{Request}
 use Rattle.message.proofs.Request.{the-type}
@@ -136,12 +134,3 @@ module _ (s : Session) (m date : Bytes) (log w room : ℕ) (a : Bool) (e : a ≡
         pub test-date : c ≡ true → (d : Bool) → d ≡ isDate date → d ≡ admitted s m date log w room
         unfolding admitted
         test-date u d v = rw (sym e ∙ q, le-ltb room replyRoom h, sym f ∙ p, sym g ∙ u) v
-
--- ---- what is known, or learned anew
-
-module _ (k : Known) (log w index : Bytes) (b : Bool) (e : b ≡ belongs k (length log) (length w)) where
-  pub stays : b ≡ true → (belongs k (length log) (length w) ≡ true) × (k ≡ renewed k log w index)
-  stays q = (sym e ∙ q, rw (sym e ∙ q))
-
-  pub anew : b ≡ false → (x : Known) → x ≡ learned log w index → (belongs x (length log) (length w) ≡ true) × (x ≡ renewed k log w index)
-  anew q x h = (ap (λ (y : Known). belongs y (length log) (length w)) h ∙ learned-belongs log w index, rw (sym e ∙ q) h)

@@ -1,4 +1,1 @@
-pub mod Reading
-pub mod Writing
-pub mod Syncing
 pub mod Admission

@@ -1,8 +1,8 @@
--- `quick::renew` meets its contract.
-use Rattle.quick.proofs.Admission.{stays, anew}
+-- `renewal::renew` meets its contract.
+use Rattle.renewal.proofs.Renewed.{stays, anew}
 use borrow.Author.Needs.{needs}
-use Rattle.quick.proofs.renew.Statement.{statement}
-use Rattle.quick.proofs.renew.Tie as tie
+use Rattle.renewal.proofs.renew.Statement.{statement}
+use Rattle.renewal.proofs.renew.Tie as tie
 
 belongs-requires : tie.Need-belongs-requires
 belongs-requires c κs = search needs

@@ -1,12 +1,12 @@
--- `quick::serve_sync` meets its contract: all that waits is moved, or nothing is.
+-- `known_writing::serve_sync` meets its contract: all that waits is moved, or nothing is.
 use native.Mathlib.Omega.{arith}
 use lib.ListN.{length}
 use borrow.Author.Tests.{not-true, not-false}
 use Rattle.known.proofs.Belongs.{belongs-within}
-use Rattle.quick.proofs.Syncing.{sync-refused, sync-moved}
+use Rattle.known_writing.proofs.Syncing.{sync-refused, sync-moved}
 use borrow.Author.Needs.{needs}
-use Rattle.quick.proofs.serve_sync.Statement.{statement}
-use Rattle.quick.proofs.serve_sync.Tie as tie
+use Rattle.known_writing.proofs.serve_sync.Statement.{statement}
+use Rattle.known_writing.proofs.serve_sync.Tie as tie
 
 settle-known-requires : tie.Need-settle-known-requires
 settle-known-requires c κs = search needs

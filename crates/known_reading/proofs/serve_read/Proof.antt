@@ -1,4 +1,4 @@
--- `quick::serve_read` meets its contract: a case for each return.
+-- `known_reading::serve_read` meets its contract: a case for each return.
 use mathlib.Core.Path.{refl, ap, _∙_}
 use native.Mathlib.Omega.{arith}
 use lib.ListN.{length}
@@ -7,10 +7,10 @@ use Rattle.block.proofs.Joined.{sectors-joined}
 use Rattle.known.proofs.Belongs.{belongs-within}
 use Rattle.known_store.proofs.Found.{read-within, read-most}
 use Rattle.message.proofs.Requests.{read-length, read-score}
-use Rattle.quick.proofs.Reading.{read-kind, read-missing, read-over, read-granted, read-as}
+use Rattle.known_reading.proofs.Reading.{read-kind, read-missing, read-over, read-granted, read-as}
 use borrow.Author.Needs.{needs}
-use Rattle.quick.proofs.serve_read.Statement.{statement}
-use Rattle.quick.proofs.serve_read.Tie as tie
+use Rattle.known_reading.proofs.serve_read.Statement.{statement}
+use Rattle.known_reading.proofs.serve_read.Tie as tie
 
 tag-of-requires : tie.Need-tag-of-requires
 tag-of-requires c κs =

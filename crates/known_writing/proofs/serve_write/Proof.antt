@@ -1,12 +1,12 @@
--- `quick::serve_write` meets its contract: a case for each return.
+-- `known_writing::serve_write` meets its contract: a case for each return.
 use mathlib.Core.Path.{refl}
 use native.Mathlib.Omega.{arith}
 use borrow.Author.Tests.{not-true, not-false}
 use Rattle.message.proofs.Requests.{write-length}
-use Rattle.quick.proofs.Writing.{write-kind, write-long, write-stored, write-as}
+use Rattle.known_writing.proofs.Writing.{write-kind, write-long, write-stored, write-as}
 use borrow.Author.Needs.{needs}
-use Rattle.quick.proofs.serve_write.Statement.{statement}
-use Rattle.quick.proofs.serve_write.Tie as tie
+use Rattle.known_writing.proofs.serve_write.Statement.{statement}
+use Rattle.known_writing.proofs.serve_write.Tie as tie
 
 tag-of-requires : tie.Need-tag-of-requires
 tag-of-requires c κs =

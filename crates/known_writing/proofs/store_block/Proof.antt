@@ -1,14 +1,14 @@
--- `quick::store_block` meets its contract.
+-- `known_writing::store_block` meets its contract.
 use Prim.Native.Nat.{_+_, _<_, _^_}
 use native.Mathlib.Omega.{arith}
 use lib.ListN.{length}
 use Rattle.block.proofs.Facts.{parts-bounds}
 use Rattle.insert.proofs.Inserted.{parts-dated}
 use Rattle.known.proofs.Belongs.{belongs-within}
-use Rattle.quick.proofs.Writing.{stored-answered}
+use Rattle.known_writing.proofs.Writing.{stored-answered}
 use borrow.Author.Needs.{needs}
-use Rattle.quick.proofs.store_block.Statement.{statement}
-use Rattle.quick.proofs.store_block.Tie as tie
+use Rattle.known_writing.proofs.store_block.Statement.{statement}
+use Rattle.known_writing.proofs.store_block.Tie as tie
 
 store-known-requires : tie.Need-store-known-requires
 store-known-requires c κs = search needs
