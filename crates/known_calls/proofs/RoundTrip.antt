@@ -19,9 +19,9 @@ use Rattle.known.specs.declared.Doubt.the-variants.{Clear, At}
 use Rattle.known.specs.declared.Known.{Known}
 use Rattle.known.specs.Known.{missing, doubtOf, learned}
 use Rattle.known.proofs.Doubts.{missing-is-absence}
-use Rattle.known_calls.specs.KnownBytes.{doubtNumber, doubtBy, exactByte, knownBytes, knownOf}
+use Rattle.known_bytes.specs.KnownBytes.{doubtNumber, doubtBy, exactByte, knownBytes, knownOf}
 use Rattle.known_calls.specs.Promises.{ReadsBack, HasLength, LearnedFits}
-use Rattle.known_calls.proofs.Numbers.{length-known}
+use Rattle.known_bytes.proofs.Numbers.{length-known}
 
 pub has-length : HasLength
 has-length k = length-known k

@@ -1,3 +1,2 @@
-pub mod KnownBytes
 pub mod Calls
 pub mod Promises

@@ -12,7 +12,7 @@ use Rattle.known.specs.Known.{learned}
 use Rattle.indexed.specs.Indexed.{stepBy}
 use Rattle.known_request.specs.Promises.{learnedOf}
 use Rattle.results.specs.Serve.{sessionOf, servedOf}
-use Rattle.known_calls.specs.KnownBytes.{doubtNumber, knownBytes, knownOf}
+use Rattle.known_bytes.specs.KnownBytes.{doubtNumber, knownBytes, knownOf}
 use Rattle.known_calls.specs.Calls.{serveAsked}
 
 -- numbers that eight bytes hold

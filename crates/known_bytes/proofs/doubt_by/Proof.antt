@@ -1,8 +1,8 @@
--- `known_calls::doubt_by` meets its contract.
-use Rattle.known_calls.proofs.Numbers.{clear-by, at-by}
+-- `known_bytes::doubt_by` meets its contract.
+use Rattle.known_bytes.proofs.Numbers.{clear-by, at-by}
 use borrow.Author.Needs.{needs}
-use Rattle.known_calls.proofs.doubt_by.Statement.{statement}
-use Rattle.known_calls.proofs.doubt_by.Tie as tie
+use Rattle.known_bytes.proofs.doubt_by.Statement.{statement}
+use Rattle.known_bytes.proofs.doubt_by.Tie as tie
 
 returns : tie.Need-returns
 returns c =

@@ -15,7 +15,7 @@ use Rattle.sector_number.specs.declared.SectorNumber.{SectorNumber}
 use Rattle.known.specs.declared.Doubt.{Doubt}
 use Rattle.known.specs.declared.Doubt.the-variants.{Clear, At}
 use Rattle.known.specs.declared.Known.{Known}
-use Rattle.known_calls.specs.KnownBytes.{doubtNumber, doubtBy, exactByte, knownBytes, knownOf}
+use Rattle.known_bytes.specs.KnownBytes.{doubtNumber, doubtBy, exactByte, knownBytes, knownOf}
 
 -- the part that is read
 pub number-read : (s : Bytes) (at : ℕ) → beNumber (take (at + 8 - at) (drop at s)) ≡ beNumber (take 8 (drop at s))

@@ -1,8 +1,8 @@
--- `known_calls::read_known` meets its contract.
-use Rattle.known_calls.proofs.Numbers.{known-read}
+-- `known_bytes::read_known` meets its contract.
+use Rattle.known_bytes.proofs.Numbers.{known-read}
 use borrow.Author.Needs.{needs}
-use Rattle.known_calls.proofs.read_known.Statement.{statement}
-use Rattle.known_calls.proofs.read_known.Tie as tie
+use Rattle.known_bytes.proofs.read_known.Statement.{statement}
+use Rattle.known_bytes.proofs.read_known.Tie as tie
 
 read-number-requires : tie.Need-read-number-requires
 read-number-requires c κs = search needs

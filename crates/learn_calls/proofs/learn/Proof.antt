@@ -1,8 +1,8 @@
--- `known_calls::learn` meets its contract.
-use Rattle.known_calls.proofs.Calls.{learn-refused, learn-done}
+-- `learn_calls::learn` meets its contract.
+use Rattle.learn_calls.proofs.Learned.{learn-refused, learn-done}
 use borrow.Author.Needs.{needs}
-use Rattle.known_calls.proofs.learn.Statement.{statement}
-use Rattle.known_calls.proofs.learn.Tie as tie
+use Rattle.learn_calls.proofs.learn.Statement.{statement}
+use Rattle.learn_calls.proofs.learn.Tie as tie
 
 returns : tie.Need-returns
 returns c =

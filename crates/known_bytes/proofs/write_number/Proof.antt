@@ -1,8 +1,8 @@
--- `known_calls::write_number` meets its contract.
-use Rattle.known_calls.proofs.Numbers.{number-written, number-length}
+-- `known_bytes::write_number` meets its contract.
+use Rattle.known_bytes.proofs.Numbers.{number-written, number-length}
 use borrow.Author.Needs.{needs}
-use Rattle.known_calls.proofs.write_number.Statement.{statement}
-use Rattle.known_calls.proofs.write_number.Tie as tie
+use Rattle.known_bytes.proofs.write_number.Statement.{statement}
+use Rattle.known_bytes.proofs.write_number.Tie as tie
 
 add-end : tie.Need-add-end
 add-end c = search needs

@@ -1,8 +1,8 @@
--- `known_calls::write_known` meets its contract.
-use Rattle.known_calls.proofs.Numbers.{known-written, written-length}
+-- `known_bytes::write_known` meets its contract.
+use Rattle.known_bytes.proofs.Numbers.{known-written, written-length}
 use borrow.Author.Needs.{needs}
-use Rattle.known_calls.proofs.write_known.Statement.{statement}
-use Rattle.known_calls.proofs.write_known.Tie as tie
+use Rattle.known_bytes.proofs.write_known.Statement.{statement}
+use Rattle.known_bytes.proofs.write_known.Tie as tie
 
 write-number-requires : tie.Need-write-number-requires
 write-number-requires c κs = search needs

@@ -1,9 +1,9 @@
--- `known_calls::read_number` meets its contract.
+-- `known_bytes::read_number` meets its contract.
 use mathlib.Core.Path.{_∙_}
-use Rattle.known_calls.proofs.Numbers.{number-read}
+use Rattle.known_bytes.proofs.Numbers.{number-read}
 use borrow.Author.Needs.{needs}
-use Rattle.known_calls.proofs.read_number.Statement.{statement}
-use Rattle.known_calls.proofs.read_number.Tie as tie
+use Rattle.known_bytes.proofs.read_number.Statement.{statement}
+use Rattle.known_bytes.proofs.read_number.Tie as tie
 
 add-end : tie.Need-add-end
 add-end c = search needs

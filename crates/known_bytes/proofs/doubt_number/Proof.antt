@@ -1,8 +1,8 @@
--- `known_calls::doubt_number` meets its contract.
-use Rattle.known_calls.proofs.Numbers.{clear-number, greatest-number, at-number}
+-- `known_bytes::doubt_number` meets its contract.
+use Rattle.known_bytes.proofs.Numbers.{clear-number, greatest-number, at-number}
 use borrow.Author.Needs.{needs}
-use Rattle.known_calls.proofs.doubt_number.Statement.{statement}
-use Rattle.known_calls.proofs.doubt_number.Tie as tie
+use Rattle.known_bytes.proofs.doubt_number.Statement.{statement}
+use Rattle.known_bytes.proofs.doubt_number.Tie as tie
 
 enum-known-doubt : tie.Need-enum-known-doubt
 enum-known-doubt c = search needs
