@@ -5,7 +5,7 @@ use native.Mathlib.Omega.{arith}
 use Rattle.refusal.specs.Number.{doubtOf as told}
 use Rattle.refusal.specs.declared.Doubt.the-variants.{Nowhere, At}
 use Rattle.refusal.proofs.Nowhere.{nowhere}
-use Rattle.learn.proofs.Turns.{doubt-at, doubt-clear}
+use Rattle.learn.proofs.Learned.{doubt-at, doubt-clear}
 use borrow.Author.Needs.{needs}
 use Rattle.learn.proofs.find_doubt.Statement.{statement}
 use Rattle.learn.proofs.find_doubt.Tie as tie

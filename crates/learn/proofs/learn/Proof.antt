@@ -1,7 +1,7 @@
 -- `learn::learn` meets its contract: what is known is learned part by part.
 use native.Mathlib.Omega.{arith}
 use Rattle.block.proofs.Used.{used-le-sectors}
-use Rattle.learn.proofs.Turns.{all-learned}
+use Rattle.learn.proofs.Learned.{all-learned}
 use borrow.Author.Needs.{needs}
 use Rattle.learn.proofs.learn.Statement.{statement}
 use Rattle.learn.proofs.learn.Tie as tie

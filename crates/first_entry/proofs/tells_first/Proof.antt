@@ -1,12 +1,12 @@
--- `learn::tells_first` meets its contract: what the first of the entries that are left tells is what the first of all tells.
+-- `first_entry::tells_first` meets its contract: what the first of the entries that are left tells is what the first of all tells.
 use mathlib.Core.Path.{_≡_}
 use Prim.Native.Nat.{_-_, _≤_}
 use native.Mathlib.Omega.{arith}
 use Rattle.hint.specs.Tells.{tellsFrom, tells}
 use Rattle.hint.proofs.Tells.{tell-starts, tell-here, tell-next, tell-ends}
 use borrow.Author.Needs.{needs}
-use Rattle.learn.proofs.tells_first.Statement.{statement}
-use Rattle.learn.proofs.tells_first.Tie as tie
+use Rattle.first_entry.proofs.tells_first.Statement.{statement}
+use Rattle.first_entry.proofs.tells_first.Tie as tie
 
 abbrev Inv-loop : tie.InvT-loop
 Inv-loop index kind score n b p₀ p = (p ≤ b .to) × (tellsFrom index kind score (n .0) (b .to - p) p ≡ tells index kind score (n .0))

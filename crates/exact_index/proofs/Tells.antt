@@ -14,7 +14,7 @@ use Rattle.hint.specs.Tells.{tells}
 use Rattle.hint.proofs.Found.{is-some}
 use Rattle.hint.proofs.Sound.{with-reads}
 use Rattle.hint.proofs.Tells.{hint-told}
-use Rattle.learn.specs.Learn.{foundBy}
+use Rattle.exact_index.specs.Leads.{foundBy}
 
 -- a sound block of this type and score at sector n, and the first entry that names them, as they were read, tells n: the index leads to it
 pub told-leads : (log index : Bytes) (t : ℕ) (s : Bytes) (n : ℕ) → soundWith log n t s ≢ none → (b : Bool) (u : ℕ) (v : Bytes) → b ≡ tells index u v n → u ≡ t → v ≡ s → b ≡ true

@@ -1,15 +1,15 @@
--- `learn::leads_from` meets its contract: the digits stand behind the line of a date, if there is one.
+-- `exact_index::leads_from` meets its contract: the digits stand behind the line of a date, if there is one.
 use mathlib.Core.Path.{ap, _∙_}
 use native.Mathlib.Omega.{arith}
 use Rattle.word.specs.Hex.{isHex, hexValue, readBytes}
 use Rattle.sector.proofs.Dates.{front-most}
 use Rattle.block.specs.Log.{joined}
 use Rattle.rebuild.proofs.Turns.{kind-part, kind-fits, score-part, score-read}
-use Rattle.learn.proofs.Turns.{found-nowhere, found-at}
-use Rattle.learn.proofs.Tells.{told-leads}
+use Rattle.exact_index.proofs.Turns.{found-nowhere, found-at}
+use Rattle.exact_index.proofs.Tells.{told-leads}
 use borrow.Author.Needs.{needs}
-use Rattle.learn.proofs.leads_from.Statement.{statement}
-use Rattle.learn.proofs.leads_from.Tie as tie
+use Rattle.exact_index.proofs.leads_from.Statement.{statement}
+use Rattle.exact_index.proofs.leads_from.Tie as tie
 
 front-length-requires : tie.Need-front-length-requires
 front-length-requires c κs = search needs

@@ -1,42 +1,35 @@
--- What the code's tests and turns say of what is learned.
+-- What the code's tests and turns say of the blocks that an index leads to.
 use mathlib.Core.Path.{_≡_, refl, sym, ap, ap₂, _∙_}
-use mathlib.Core.Bool.{Bool, true, false, cond, _&&_}
+use mathlib.Core.Bool.{Bool, true, false, _&&_}
 use mathlib.Core.Logic.{_≢_}
 use mathlib.Core.Option.{Option, none, some}
 use Prim.Native.Nat.{ℕ, suc, _+_, _-_, _≤_, _<_}
 use native.Mathlib.Nat.{sub-zero}
 use native.Mathlib.Omega.{arith}
 use native.Mathlib.Numerals.{add-one}
-use lib.Dec.{eqb, leb}
+use lib.Dec.{leb}
 use lib.ListN.{length, take, drop}
 use Rattle.ground.specs.Places.{foundFrom}
 use Rattle.buffer.specs.Bytes.{Bytes}
 use Rattle.word.specs.Hex.{isHex}
-use Rattle.sector_number.specs.declared.SectorNumber.{SectorNumber}
 use Rattle.sector.specs.Sector.{behind, kindField, scoreDigits, scoreField}
 use Rattle.block.specs.Block.{Row, placeOf}
 use Rattle.block.specs.declared.Block.{Block}
-use Rattle.block.specs.Log.{sectors, at, joined, used, sound}
+use Rattle.block.specs.Log.{sectors, at, sound}
 use Rattle.block.proofs.At.{length-at}
 use Rattle.block.proofs.Sound.{sound-reads}
-use Rattle.refusal.specs.declared.Refusal.{Refusal}
-use Rattle.refusal.specs.declared.Refusal.the-variants.{NotHeld, NotKnown}
 use Rattle.reader.specs.Reader.{placed}
 use Rattle.reader.specs.declared.Place.{Place}
 use Rattle.reader.specs.declared.Place.the-variants.{At, Nowhere}
-use Rattle.log.specs.Parts.{tape}
-use Rattle.log.specs.LookUp.{blocks, doubtful, firstDoubtful, absence}
+use Rattle.log.specs.LookUp.{blocks}
 use Rattle.log.proofs.Blocks.{step-none, one-some}
 use Rattle.lookup.proofs.Outcomes.{placed-some, placed-none}
 use Rattle.hint.specs.Hint.{soundWith, hint}
 use Rattle.hint.proofs.Found.{some-not-none}
 use Rattle.hint.proofs.Sound.{with-finds}
 use Rattle.rebuild.proofs.Turns.{kind-hex, score-hex, fields}
-use Rattle.known.specs.declared.Doubt.{Doubt}
-use Rattle.known.specs.declared.Doubt.the-variants.{Clear, At as DoubtAt}
-use Rattle.known.specs.declared.Known.{Known}
-use Rattle.known.specs.Known.{doubtOf, allLead, exactly, learned}
-use Rattle.learn.specs.Learn.{foundBy, leadsFound}
+use Rattle.known.specs.Known.{allLead, exactly}
+use Rattle.exact_index.specs.Leads.{foundBy, leadsFound}
 
 -- ---- one entry that is found
 
@@ -120,41 +113,3 @@ module _ (log index : Bytes) where
   pub pass-ends : (n m : ℕ) → m ≤ n → allLead log index (foundFrom (sound log) (m - n) n) ≡ exactly log index → true ≡ exactly log index
   unfolding allLead foundFrom
   pass-ends n m h w = let z : m - n ≡ 0 = omega arith in sym (ap (λ (k : ℕ). allLead log index (foundFrom (sound log) k n)) z) ∙ w
-
--- ---- doubt
-
-module _ (log : Bytes) (w : Refusal) (e : w ≡ absence log) where
-  pub doubt-at : (n : SectorNumber) → w ≡ NotKnown n → DoubtAt n ≡ doubtOf log
-  unfolding doubtOf absence
-  doubt-at n q = go (eqb (doubtful log) 0) (sym q ∙ e)
-    where
-      x : SectorNumber
-      x = record { 0 = firstDoubtful log }
-
-      go : (b : Bool) → NotKnown n ≡ cond b NotHeld (NotKnown x) → DoubtAt n ≡ cond b Clear (DoubtAt x)
-      go true d = let z : _≡_ {A = ℕ} 0 1 = cc in absurd (omega arith)
-      go false d = let z : n ≡ x = cc in ap DoubtAt z
-
-  pub doubt-clear : ((n : SectorNumber) → w ≡ NotKnown n → ⊥) → Clear ≡ doubtOf log
-  unfolding doubtOf absence
-  doubt-clear f = go (eqb (doubtful log) 0) e
-    where
-      x : SectorNumber
-      x = record { 0 = firstDoubtful log }
-
-      go : (b : Bool) → w ≡ cond b NotHeld (NotKnown x) → Clear ≡ cond b Clear (DoubtAt x)
-      go true d = refl
-      go false d = absurd (f x d)
-
--- ---- all of it
-
-pub all-learned : (log w index : Bytes) (u v : SectorNumber) (d : Doubt) (x : Bool) → u .0 ≡ used log → v .0 ≡ used w → d ≡ doubtOf (joined (u .0) log w)
-    → x ≡ exactly (joined (u .0) log w) index → record { used = u; waits = v; doubt = d; exact = x } ≡ learned log w index
-unfolding learned
-all-learned log w index u v d x p q e f =
-    known-is u v d x (record { 0 = used log }) (record { 0 = used w }) (doubtOf (tape log w)) (exactly (tape log w) index)
-    (λ i. record { 0 = p i }) (λ i. record { 0 = q i }) (e ∙ ap (λ (n : ℕ). doubtOf (joined n log w)) p) (f ∙ ap (λ (n : ℕ). exactly (joined n log w) index) p)
-  where
-    known-is : (a b : SectorNumber) (c : Doubt) (y : Bool) (a′ b′ : SectorNumber) (c′ : Doubt) (y′ : Bool) → a ≡ a′ → b ≡ b′ → c ≡ c′ → y ≡ y′
-        → _≡_ {A = Known} (record { used = a; waits = b; doubt = c; exact = y }) (record { used = a′; waits = b′; doubt = c′; exact = y′ })
-    known-is a b c y a′ b′ c′ y′ g h k l = λ i. record { used = g i; waits = h i; doubt = k i; exact = l i }

@@ -1,9 +1,9 @@
--- `learn::leads_at` meets its contract.
+-- `exact_index::leads_at` meets its contract.
 use Rattle.block.specs.Log.{joined}
-use Rattle.learn.proofs.Turns.{leads-nowhere, label-facts, leads-there}
+use Rattle.exact_index.proofs.Turns.{leads-nowhere, label-facts, leads-there}
 use borrow.Author.Needs.{needs}
-use Rattle.learn.proofs.leads_at.Statement.{statement}
-use Rattle.learn.proofs.leads_at.Tie as tie
+use Rattle.exact_index.proofs.leads_at.Statement.{statement}
+use Rattle.exact_index.proofs.leads_at.Tie as tie
 
 sound-at-requires : tie.Need-sound-at-requires
 sound-at-requires c κs = search needs

@@ -1,4 +1,4 @@
--- `learn::is_exact` meets its contract: whether the index leads to the blocks that are left is whether it leads to all.
+-- `exact_index::is_exact` meets its contract: whether the index leads to the blocks that are left is whether it leads to all.
 use mathlib.Core.Path.{_≡_, refl, sym, ap, _∙_}
 use Prim.Native.Nat.{ℕ, _+_, _-_, _≤_}
 use native.Mathlib.Omega.{arith}
@@ -8,10 +8,10 @@ use Rattle.ground.specs.Places.{foundFrom}
 use Rattle.block.specs.Log.{sectors, joined, sound}
 use Rattle.block.proofs.Joined.{sectors-joined}
 use Rattle.known.specs.Known.{allLead, exactly}
-use Rattle.learn.proofs.Turns.{pass-starts, pass-on, pass-fails, pass-ends}
+use Rattle.exact_index.proofs.Turns.{pass-starts, pass-on, pass-fails, pass-ends}
 use borrow.Author.Needs.{needs}
-use Rattle.learn.proofs.is_exact.Statement.{statement}
-use Rattle.learn.proofs.is_exact.Tie as tie
+use Rattle.exact_index.proofs.is_exact.Statement.{statement}
+use Rattle.exact_index.proofs.is_exact.Tie as tie
 
 abbrev Inv-loop : tie.InvT-loop
 Inv-loop log end waiting index count n₀ n =
