@@ -4,13 +4,12 @@ use Prim.Native.Nat.{ℕ, _+_, _*_}
 use lib.ListN.{length}
 use borrow.Author.Tests.{eq-eqb, ne-eqb}
 use Rattle.buffer.specs.Bytes.{Bytes}
-use Rattle.known.specs.declared.Known.{Known}
 use Rattle.known.specs.Known.{learned}
+use Rattle.request.specs.declared.Answer.{Answer}
 use Rattle.request.specs.declared.Session.{Session}
-use Rattle.indexed.specs.Indexed.{Indexed}
-use Rattle.known_request.specs.declared.Served.{Served}
+use Rattle.indexed.specs.Indexed.{Indexed, indexedOf}
 use Rattle.known_request.specs.Promises.{learnedOf}
-use Rattle.known_request.specs.Quick.{quickOf, stepKnown}
+use Rattle.known_request.specs.Quick.{stepKnown}
 use Rattle.known_request.proofs.Requests.{quick-is-serve}
 use Rattle.results.specs.Serve.{sessionOf, sessionNumber, servedOf}
 use Rattle.known_bytes.specs.KnownBytes.{knownBytes, knownOf}
@@ -24,15 +23,16 @@ module _ (session : ℕ) (m date index log w reply known : Bytes) (s : Session) 
   serve-refused h f =
       rw (ne-eqb (length known) 25 h) (ap (λ (n : ℕ). servedKnown n log w reply index known) (f ∙ ap (λ (t : Session). 2 + 256 * sessionNumber t) e))
 
-  pub serve-done : length known ≡ 25 → (k : Known) (v : Served) (log′ w′ reply′ index′ known′ : Bytes) → k ≡ knownOf known
-      → quickOf v log′ w′ reply′ index′ ≡ stepKnown k s m date index log w reply → known′ ≡ knownBytes (v .known)
-      → r ≡ v .answer .number + 256 * sessionNumber (v .answer .session)
+  pub serve-done : length known ≡ 25 → (v : Answer) (log′ w′ reply′ index′ known′ : Bytes)
+      → indexedOf v log′ w′ reply′ index′ ≡ stepKnown (knownOf known) s m date index log w reply .indexed
+      → known′ ≡ knownBytes (stepKnown (knownOf known) s m date index log w reply .known) → r ≡ v .number + 256 * sessionNumber (v .session)
       → servedKnown r log′ w′ reply′ index′ known′ ≡ serveAsked session m date index log w reply known
   unfolding serveAsked
-  serve-done h k v log′ w′ reply′ index′ known′ p q z n =
-      let o : quickOf v log′ w′ reply′ index′ ≡ stepKnown (knownOf known) (sessionOf session) m date index log w reply =
-      q ∙ ap₂ (λ (x : Known) (t : Session). stepKnown x t m date index log w reply) p e in
-      rw (eq-eqb (length known) 25 h) (ap₂ (λ (y : ℕ) (b : Bytes). servedKnown y log′ w′ reply′ index′ b) n z ∙ ap quickServed o)
+  serve-done h v log′ w′ reply′ index′ known′ q z n =
+      rw (eq-eqb (length known) 25 h)
+      (ap₂ (λ (y : ℕ) (b : Bytes). servedKnown y log′ w′ reply′ index′ b) n z
+      ∙ ap (λ (x : Indexed). quickServed (record { indexed = x; known = stepKnown (knownOf known) s m date index log w reply .known })) q
+      ∙ ap (λ (t : Session). quickServed (stepKnown (knownOf known) t m date index log w reply)) e)
 
 pub call-is-serve : CallIsServe
 unfolding serveAsked

@@ -25,10 +25,6 @@ pub fn serve_known(
             session: before,
         });
     }
-    let now = known_bytes::read_known(known);
-    let served = quick::serve(now, before, message, date, log, waiting, index, reply);
-    let after = served.known;
-    known_bytes::write_known(known, after);
-    let answer = served.answer;
+    let answer = quick_bytes::serve(before, message, date, log, waiting, index, reply, known);
     serve_calls::packed(answer)
 }

@@ -20,14 +20,8 @@ returns c =
     serve-refused (a .session) (a .message .now) (a .date .now) (a .index .now) (a .log .now) (a .waiting .now) (a .reply .now) (a .known .now) _ (session-of .ensures) _ (if1 .taken)
     (packed .ensures)
 
-read-known-requires : tie.Need-read-known-requires
-read-known-requires c κs = search needs
-
 serve-requires : tie.Need-serve-requires
 serve-requires c κs = search needs
-
-write-known-requires : tie.Need-write-known-requires
-write-known-requires c κs = search needs
 
 packed-requires-2 : tie.Need-packed-requires-2
 packed-requires-2 c κs = search needs
@@ -49,17 +43,15 @@ same-length-5 c = search needs
 
 returns-2 : tie.Need-returns-2
 returns-2 c =
-    let before = c .before .before .before .before .before .before .before .before .before .before .before .before .before .before .before .before .before .before in
-    let start = before .before .before .before .before .before .before .before .before .before .before .before .before .before in
-    let session-of = before .before .before .before .before .before .session-of in
-    let if1 = before .before .before .before .before .if1 in
-    let read-known = before .before .before .read-known in
-    let serve = c .before .before .before .before .before .before .before .before .before .before .before .before .before .before .before .serve in
-    let write-known = c .before .before .before .before .write-known in
+    let before = c .before .before .before .before .before .before .before .before .before .before .before .before .before .before .before .before .before in
+    let start = before .before .before .before .before .before .before .before .before .before in
+    let session-of = before .before .session-of in
+    let if1 = before .if1 in
+    let serve = c .before .before .before .before .before .before .before .before .before .before .before .serve in
     let packed2 = c .packed2 in
     let a = start .args in
     serve-done (a .session) (a .message .now) (a .date .now) (a .index .now) (a .log .now) (a .waiting .now) (a .reply .now) (a .known .now) _ (session-of .ensures) _ (if1 .left)
-    _ (serve .result) _ _ _ _ _ (read-known .ensures) (serve .ensures) (write-known .ensures) (packed2 .ensures)
+    (serve .result) _ _ _ _ _ (serve .ensures .0) (serve .ensures .1) (packed2 .ensures)
 
 pub serve-known-spec : {M : Type 1} → statement M
 serve-known-spec =
@@ -68,9 +60,7 @@ serve-known-spec =
     session-of-requires
     packed-requires
     returns
-    read-known-requires
     serve-requires
-    write-known-requires
     packed-requires-2
     same-length
     same-length-2
