@@ -4,6 +4,7 @@ use Prim.Native.Nat.{ℕ, _+_, _*_}
 use lib.ListN.{length}
 use borrow.Author.Tests.{eq-eqb, ne-eqb}
 use Rattle.buffer.specs.Bytes.{Bytes}
+use Rattle.known.specs.declared.Known.{Known}
 use Rattle.known.specs.Known.{learned}
 use Rattle.request.specs.declared.Answer.{Answer}
 use Rattle.request.specs.declared.Session.{Session}
@@ -13,9 +14,18 @@ use Rattle.known_request.specs.Quick.{stepKnown}
 use Rattle.known_request.proofs.Requests.{quick-is-serve}
 use Rattle.results.specs.Serve.{sessionOf, sessionNumber, servedOf}
 use Rattle.known_bytes.specs.KnownBytes.{knownBytes, knownOf}
-use Rattle.known_calls.specs.Calls.{servedKnown, quickServed, serveAsked}
+use Rattle.known_calls.specs.Calls.{afterLearn, learnAsked, servedKnown, quickServed, serveAsked}
 use Rattle.known_calls.specs.Promises.{CallIsServe}
 use Rattle.known_calls.proofs.RoundTrip.{has-length, reads-back, learned-fits}
+
+module _ (log w index known : Bytes) where
+  pub learn-refused : (length known ≡ 25 → ⊥) → afterLearn 2 known ≡ learnAsked log w index known
+  unfolding learnAsked
+  learn-refused h = rw (ne-eqb (length known) 25 h)
+
+  pub learn-done : length known ≡ 25 → (k : Known) (x : Bytes) → k ≡ learned log w index → x ≡ knownBytes k → afterLearn 0 x ≡ learnAsked log w index known
+  unfolding learnAsked
+  learn-done h k x e f = rw (eq-eqb (length known) 25 h) (ap (afterLearn 0) (f ∙ ap knownBytes e))
 
 module _ (session : ℕ) (m date index log w reply known : Bytes) (s : Session) (e : s ≡ sessionOf session) (r : ℕ) where
   pub serve-refused : (length known ≡ 25 → ⊥) → r ≡ 2 + 256 * sessionNumber s → servedKnown r log w reply index known ≡ serveAsked session m date index log w reply known

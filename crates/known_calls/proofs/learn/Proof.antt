@@ -1,8 +1,8 @@
--- `learn_calls::learn` meets its contract.
-use Rattle.learn_calls.proofs.Learned.{learn-refused, learn-done}
+-- `known_calls::learn` meets its contract.
+use Rattle.known_calls.proofs.Calls.{learn-refused, learn-done}
 use borrow.Author.Needs.{needs}
-use Rattle.learn_calls.proofs.learn.Statement.{statement}
-use Rattle.learn_calls.proofs.learn.Tie as tie
+use Rattle.known_calls.proofs.learn.Statement.{statement}
+use Rattle.known_calls.proofs.learn.Tie as tie
 
 returns : tie.Need-returns
 returns c =
