@@ -77,7 +77,7 @@ mod writer;
 
 use std::env;
 use std::fs::File;
-use std::io::{self, BufWriter, IsTerminal, Read, Write};
+use std::io::{self, BufReader, BufWriter, IsTerminal, Read, Write};
 use std::os::fd::AsFd;
 use std::process::ExitCode;
 
@@ -85,14 +85,14 @@ use closed::Closed;
 use status::{Failure, INPUT_OUTPUT};
 use streams::Streams;
 
-/// More than any reply has.
+/// More than any reply has, and room for some messages.
 const BUFFER: usize = 65_536;
 
 fn main() -> ExitCode {
     let words: Vec<_> = env::args_os().skip(1).collect();
     let mut input: Box<dyn Read> = match closed::input() {
         true => Box::new(Closed),
-        false => Box::new(io::stdin().lock()),
+        false => Box::new(BufReader::with_capacity(BUFFER, io::stdin().lock())),
     };
     let mut out = match output() {
         Ok(out) => out,

@@ -171,6 +171,7 @@ fn next_message(input: &mut dyn Read) -> io::Result<Input> {
         [high, low] => u16::from_be_bytes([high, low]),
         _ => return Ok(Input::Torn),
     };
+    message.reserve_exact(usize::from(size));
     input.take(u64::from(size)).read_to_end(&mut message)?;
     if message.len() < 2 + usize::from(size) {
         return Ok(Input::Torn);

@@ -56,6 +56,9 @@ pub struct Writer {
 /// full, and the longest block. So a write that finds no room finds none in the file.
 const ROOM: usize = MOST_WAITING + MOST_PARTS;
 
+/// The sectors of which it is seen at once whether they are blank.
+const PIECE: usize = 64;
+
 /// What the proved archive was asked for, and the block that it stored or found, or the refusal.
 type Asked<A> = (A, Result<Option<(u8, Score)>, Refusal>);
 
@@ -383,17 +386,19 @@ impl Writer {
 
     /// Fails unless these sectors of the file are there and blank, as they were when the log was read.
     fn still_blank(&self, sectors: Range<usize>) -> Result<(), Failure> {
-        let mut found = vec![0; sectors.len() * SECTOR];
-        let read = self
-            .file
-            .read_exact_at(&mut found, (sectors.start * SECTOR) as u64);
-        match read {
-            Ok(()) if sectors::is_blank(&found) => Ok(()),
-            Err(e) if e.kind() != ErrorKind::UnexpectedEof => {
-                Err(Failure::disk("read", &self.path, &e))
+        let mut buffer = [0; PIECE * SECTOR];
+        for start in sectors.clone().step_by(PIECE) {
+            let found = &mut buffer[..PIECE.min(sectors.end - start) * SECTOR];
+            let read = self.file.read_exact_at(found, (start * SECTOR) as u64);
+            match read {
+                Ok(()) if sectors::is_blank(found) => {}
+                Err(e) if e.kind() != ErrorKind::UnexpectedEof => {
+                    return Err(Failure::disk("read", &self.path, &e));
+                }
+                _ => return Err(changed(&self.path)),
             }
-            _ => Err(changed(&self.path)),
         }
+        Ok(())
     }
 
     /// Writes these sectors of a log to the file: at or behind the mark, and nowhere else.
