@@ -1,11 +1,11 @@
--- `archive::serve_sync` meets its contract: all that waits is moved, or nothing is.
+-- `syncing::serve_sync` meets its contract: all that waits is moved, or nothing is.
 use mathlib.Core.Path.{_∙_}
 use borrow.Author.Tests.{not-true, not-false}
 use Rattle.log.specs.Parts.{beside}
-use Rattle.archive.proofs.Returns.{sync-refused, sync-moved}
+use Rattle.syncing.proofs.Returns.{sync-refused, sync-moved}
 use borrow.Author.Needs.{needs}
-use Rattle.archive.proofs.serve_sync.Statement.{statement}
-use Rattle.archive.proofs.serve_sync.Tie as tie
+use Rattle.syncing.proofs.serve_sync.Statement.{statement}
+use Rattle.syncing.proofs.serve_sync.Tie as tie
 
 settle-requires : tie.Need-settle-requires
 settle-requires c κs = search needs

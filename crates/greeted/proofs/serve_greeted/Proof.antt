@@ -1,12 +1,12 @@
--- `archive::serve_greeted` meets its contract: a case for each request.
+-- `greeted::serve_greeted` meets its contract: a case for each request.
 use mathlib.Core.Path.{refl, sym, ap, _∙_}
 use Rattle.log.specs.Parts.{beside}
 use Rattle.request.specs.Step.{greeted}
 use Rattle.indexed.specs.Indexed.{keeping, greetedBy}
-use Rattle.archive.proofs.Returns.{greeted-as}
+use Rattle.greeted.proofs.Returns.{greeted-as}
 use borrow.Author.Needs.{needs}
-use Rattle.archive.proofs.serve_greeted.Statement.{statement}
-use Rattle.archive.proofs.serve_greeted.Tie as tie
+use Rattle.greeted.proofs.serve_greeted.Statement.{statement}
+use Rattle.greeted.proofs.serve_greeted.Tie as tie
 
 tag-of-requires : tie.Need-tag-of-requires
 tag-of-requires c κs = search needs

@@ -1,13 +1,13 @@
--- `archive::serve_write` meets its contract: a case for each return.
+-- `writing::serve_write` meets its contract: a case for each return.
 use mathlib.Core.Path.{refl}
 use native.Mathlib.Omega.{arith}
 use borrow.Author.Tests.{not-true, not-false}
 use Rattle.message.proofs.Requests.{write-length}
 use Rattle.log.specs.Parts.{beside}
-use Rattle.archive.proofs.Returns.{write-kind, write-long, write-stored, write-as}
+use Rattle.writing.proofs.Returns.{write-kind, write-long, write-stored, write-as}
 use borrow.Author.Needs.{needs}
-use Rattle.archive.proofs.serve_write.Statement.{statement}
-use Rattle.archive.proofs.serve_write.Tie as tie
+use Rattle.writing.proofs.serve_write.Statement.{statement}
+use Rattle.writing.proofs.serve_write.Tie as tie
 
 tag-of-requires : tie.Need-tag-of-requires
 tag-of-requires c κs =
