@@ -5,6 +5,15 @@ use borrow.Author.Needs.{needs}
 use Rattle.tree_calls.proofs.walk.Statement.{statement}
 use Rattle.tree_calls.proofs.walk.Tie as tie
 
+-- what is answered is walked in these two parts
+returns : tie.Need-returns
+returns c =
+    let walk = c .before .before .walk in
+    let number = c .before .number in
+    let end-sector = c .end-sector in
+    walked-so (walk .result) _ (number .result) (end-sector .result) (walk .ensures) (number .ensures) (end-sector .ensures)
+
+-- the needs in the order of the code
 walk-requires : tie.Need-walk-requires
 walk-requires c κs = search needs
 
@@ -48,13 +57,6 @@ add-result-2 c =
     let end-sector = c .end-sector in
     let w = walk-small (s .log .now) (s .waiting .now) (s .score .now) (s .allowance) _ (walk .ensures) in
     omega (arith, w .few, w .told, end-sector .ensures)
-
-returns : tie.Need-returns
-returns c =
-    let walk = c .before .before .walk in
-    let number = c .before .number in
-    let end-sector = c .end-sector in
-    walked-so (walk .result) _ (number .result) (end-sector .result) (walk .ensures) (number .ensures) (end-sector .ensures)
 
 pub walk-spec : {M : Type 1} → statement M
 walk-spec =
