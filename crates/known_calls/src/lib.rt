@@ -29,13 +29,13 @@ pub fn serve_known(
 ) -> u32
     ensures { λ r. ⌜ servedKnown r (now (log .exit)) (now (waiting .exit)) (now (reply .exit)) (now (index .exit)) (now (known .exit)) ≡ serveAsked session (now (message .entry)) (now (date .entry)) (now (index .entry)) (now (log .entry)) (now (waiting .entry)) (now (reply .entry)) (now (known .entry)) ⌝ }
 {
-    let before = serve_calls::session_of(session);
+    let before = session_numbers::session_of(session);
     if known.len() != KNOWN {
-        return serve_calls::packed(Answer {
+        return session_numbers::packed(Answer {
             number: 2,
             session: before,
         });
     }
     let answer = quick_bytes::serve(before, message, date, log, waiting, index, reply, known);
-    serve_calls::packed(answer)
+    session_numbers::packed(answer)
 }

@@ -1,9 +1,9 @@
--- `serve_calls::packed` meets its contract.
+-- `session_numbers::packed` meets its contract.
 use native.Mathlib.Omega.{arith}
 use Rattle.results.proofs.ServeLaws.{session-most}
 use borrow.Author.Needs.{needs}
-use Rattle.serve_calls.proofs.packed.Statement.{statement}
-use Rattle.serve_calls.proofs.packed.Tie as tie
+use Rattle.session_numbers.proofs.packed.Statement.{statement}
+use Rattle.session_numbers.proofs.packed.Tie as tie
 
 cast-result : tie.Need-cast-result
 cast-result c = search needs

@@ -1,6 +1,6 @@
 use Rattle.results.proofs.ServeLaws.{is-fresh, is-greeted, is-closed}
-use Rattle.serve_calls.proofs.session_of.Statement.{statement}
-use Rattle.serve_calls.proofs.session_of.Tie as tie
+use Rattle.session_numbers.proofs.session_of.Statement.{statement}
+use Rattle.session_numbers.proofs.session_of.Tie as tie
 
 returns : tie.Need-returns
 returns c = is-fresh ((c .before .args .n)) ((c .if1 .taken))
