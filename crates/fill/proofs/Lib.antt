@@ -2,4 +2,3 @@ pub mod Leaf
 pub mod Gather
 pub mod Tests
 pub mod Turn
-pub mod Border

@@ -1,4 +1,4 @@
-// Reading a file into a lent buffer: leaf by leaf, each leaf looked for once.
+// Filling a lent buffer from a file: leaf by leaf, each leaf looked for once.
 use entry::Entry;
 use log::Look;
 use refusal::Refusal;
@@ -8,7 +8,7 @@ ghost use Prim.Native.Nat.{_-_, _%_, _≤_, _<_, min};
 ghost use lib.ListN.{length};
 ghost use Rattle.block.specs.Log.{sectors, joined};
 ghost use Rattle.leaf.specs.Fetch.{Open};
-ghost use Rattle.fill.specs.Fill.{stopNumber, fillOutcome, filledWith, byteBelow, gathered, fillOf};
+ghost use Rattle.fill.specs.Fill.{stopNumber, fillOutcome, filledWith, byteBelow, gathered};
 
 // How filling a buffer ended: the buffer or the file is full, or the refusal at the first offset that has one.
 pub enum Stop {
@@ -75,7 +75,7 @@ fn fill_leaf<'a>(
 }
 
 // Fills d from an offset on, up to its end or the file's, below the score at the top level: leaf by leaf.
-fn fill_leaves<'a>(
+pub fn fill_leaves<'a>(
     log: &'a [u8],
     end: SectorNumber,
     waiting: &'a [u8],
@@ -105,31 +105,4 @@ fn fill_leaves<'a>(
         count: done,
         stop: Stop::Done,
     }
-}
-
-// Fills d with the bytes of a file from an offset on: any log, waiting part, entry, offset and buffer.
-pub fn fill<'a>(log: &'a [u8], waiting: &'a [u8], entry: &[u8], offset: u64, d: &mut [u8]) -> Filled
-    ensures { λ r. ⌜ fillOutcome r (now (d .exit)) ≡ fillOf (now (log .entry)) (now (waiting .entry)) (now (entry .entry)) offset (now (d .entry)) ⌝ }
-{
-    if !lookup::are_allowed(log.len(), waiting.len()) {
-        return Filled {
-            count: 0,
-            stop: Stop::Refused(Refusal::LogLength),
-        };
-    }
-    if !file::is_readable(entry) {
-        return Filled {
-            count: 0,
-            stop: Stop::Refused(Refusal::Entry),
-        };
-    }
-    let e = entry::entry_at(entry, 0);
-    if e.size <= offset {
-        return Filled {
-            count: 0,
-            stop: Stop::Refused(Refusal::Offset),
-        };
-    }
-    let end = lookup::border(log, waiting);
-    fill_leaves(log, end, waiting, e, &entry[20..40], offset, d)
 }

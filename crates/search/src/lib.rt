@@ -46,7 +46,7 @@ fn read_and_judge<'a>(
     if size == 0 {
         return judge(&d[..0], query);
     }
-    let filled = fill::fill(log, waiting, entry, 0, d);
+    let filled = fill_file::fill(log, waiting, entry, 0, d);
     let count = filled.count;
     let stop = filled.stop;
     match stop {

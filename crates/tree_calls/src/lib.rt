@@ -73,7 +73,7 @@ pub fn fill<'a>(
 ) -> u64
     ensures { λ r. ⌜ filledUp r (now (buffer .exit)) (now (told .exit)) ≡ fillResult (fillOf (now (log .entry)) (now (waiting .entry)) (now (entry .entry)) offset (now (buffer .entry))) ⌝ }
 {
-    let filled = fill::fill(log, waiting, entry, offset, buffer);
+    let filled = fill_file::fill(log, waiting, entry, offset, buffer);
     let stop = filled.stop;
     let sector = stop_sector(stop);
     *told = sector as u64;

@@ -1,4 +1,4 @@
--- `fill::fill` meets its contract: the tests in their order, then the tree.
+-- `fill_file::fill` meets its contract: the tests in their order, then the tree.
 use mathlib.Core.Path.{_∙_}
 use native.Mathlib.Omega.{arith}
 use borrow.Author.Tests.{not-true, not-false}
@@ -8,11 +8,11 @@ use Rattle.block.specs.Log.{joined}
 use Rattle.log.specs.Parts.{tape}
 use Rattle.entry.specs.Entry.{scoreOf}
 use Rattle.file.proofs.Tests.{entry-whole, readable-length, opened}
-use Rattle.fill.proofs.Border.{filled-alike}
-use Rattle.fill.proofs.Tests.{fill-stops-log, fill-stops-entry, fill-stops-offset, fill-goes-down}
+use Rattle.fill_file.proofs.Border.{filled-alike}
+use Rattle.fill_file.proofs.Tests.{fill-stops-log, fill-stops-entry, fill-stops-offset, fill-goes-down}
 use borrow.Author.Needs.{needs}
-use Rattle.fill.proofs.fill.Statement.{statement}
-use Rattle.fill.proofs.fill.Tie as tie
+use Rattle.fill_file.proofs.fill.Statement.{statement}
+use Rattle.fill_file.proofs.fill.Tie as tie
 
 are-allowed-requires : tie.Need-are-allowed-requires
 are-allowed-requires c κs = search needs
