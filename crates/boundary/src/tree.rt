@@ -49,5 +49,5 @@ pub extern "C" fn skywimple_walk<'a>(
 ) -> u64
     ensures { λ r. ⌜ r ≡ walkResult (walkOf (now (log .entry)) (now (waiting .entry)) (now (score .entry)) allowance) ⌝ }
 {
-    tree_calls::walk(log, waiting, score, allowance)
+    walk_calls::walk(log, waiting, score, allowance)
 }

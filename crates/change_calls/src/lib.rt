@@ -1,7 +1,7 @@
 // What changed between two days: the first difference of two directory blocks, and the differences between two trees, of a log and of the
 // sectors that wait behind its used part.
 use difference::Difference;
-use tree_calls::ABOVE_VISITS;
+use walk_calls::ABOVE_VISITS;
 ghost use mathlib.Core.Path.{_≡_};
 ghost use Rattle.difference.specs.Difference.{differenceOf};
 ghost use Rattle.comparison.specs.Differences.{differencesOf};
@@ -36,7 +36,7 @@ pub fn differences<'a>(
     let compared = compare::differences(log, waiting, first, second, allowance);
     let end = compared.end;
     let number = walk::number(end);
-    let sector = tree_calls::end_sector(end);
+    let sector = walk_calls::end_sector(end);
     *told = sector as u64;
     number as u64 + 256 * (compared.units as u64 + ABOVE_VISITS * (compared.count as u64))
 }

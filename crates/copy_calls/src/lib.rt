@@ -1,5 +1,5 @@
 // A copy of all that a root reaches into another log, its outcome as numbers.
-use tree_calls::ABOVE_VISITS;
+use walk_calls::ABOVE_VISITS;
 ghost use mathlib.Core.Path.{_≡_};
 ghost use Rattle.copying.specs.Copy.{copyOf};
 ghost use Rattle.results.specs.Copies.{transfer, copyResult};
@@ -19,6 +19,6 @@ pub fn copy<'a>(
     let copied = copy::copy(log, waiting, second, date, score, allowance);
     let end = copied.end;
     let number = walk::number(end);
-    let sector = tree_calls::end_sector(end);
+    let sector = walk_calls::end_sector(end);
     number as u64 + 256 * (copied.visits as u64 + ABOVE_VISITS * (sector as u64))
 }

@@ -1,20 +1,15 @@
-// Trees: the run of a file's bytes at an offset, a buffer filled with a file's bytes, and the walk from a root. Each is of a log and of the
-// sectors that wait behind its used part.
+// Trees: the run of a file's bytes at an offset, and a buffer filled with a file's bytes. Each is of a log and of the sectors that wait
+// behind its used part.
 use file::Located;
 use fill::Stop;
 use refusal::Refusal;
-use visit::End;
 ghost use mathlib.Core.Path.{_≡_};
 ghost use Rattle.file.specs.File.{located};
 ghost use Rattle.fill.specs.Fill.{fillOf};
-ghost use Rattle.walk.specs.Walk.{walkOf};
 ghost use Prim.Native.Nat.{_≤_};
 ghost use Rattle.refusal.specs.Number.{toldSector};
 ghost use Rattle.file.specs.declared.Located.the-variants.{Refused};
-ghost use Rattle.results.specs.Tree.{mostBoth, packed, stopSector, filledUp, fillResult, endSector, walkResult};
-
-// What stands above a count of visits or units, which takes 20 bits, is so many times itself.
-pub const ABOVE_VISITS: u64 = 1048576;
+ghost use Rattle.results.specs.Tree.{mostBoth, packed, stopSector, filledUp, fillResult};
 
 // A refusal packed as a run is: its number, and the sector that it tells of in the place of a start.
 fn refused(why: Refusal) -> u64
@@ -33,16 +28,6 @@ fn stop_sector(stop: Stop) -> usize
     match stop {
         Stop::Done => 0,
         Stop::Refused(why) => refusal::told_sector(why),
-    }
-}
-
-// The sector that the end of a walk tells of, 0 where it tells of none.
-pub fn end_sector(end: End) -> usize
-    ensures { λ r. ⌜ r ≡ endSector end ⌝ }
-{
-    match end {
-        End::Done => 0,
-        End::Refused(why) => refusal::told_sector(why),
     }
 }
 
@@ -78,16 +63,4 @@ pub fn fill<'a>(
     let sector = stop_sector(stop);
     *told = sector as u64;
     (fill::number(stop) as u64) + 256 * (filled.count as u64)
-}
-
-// Walks from a root score. The result is the number of the refusal, 0 for none, then the visits in 20 bits, then the first doubtful
-// sector for 12.
-pub fn walk<'a>(log: &'a [u8], waiting: &'a [u8], score: &[u8; 20], allowance: u64) -> u64
-    ensures { λ r. ⌜ r ≡ walkResult (walkOf (now (log .entry)) (now (waiting .entry)) (now (score .entry)) allowance) ⌝ }
-{
-    let walked = walk::walk(log, waiting, score, allowance);
-    let end = walked.end;
-    let number = walk::number(end);
-    let sector = end_sector(end);
-    number as u64 + 256 * (walked.visits as u64 + ABOVE_VISITS * (sector as u64))
 }

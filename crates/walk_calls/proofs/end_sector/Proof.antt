@@ -1,9 +1,9 @@
--- `tree_calls::end_sector` meets its contract, case by case.
+-- `walk_calls::end_sector` meets its contract, case by case.
 use mathlib.Core.Path.{sym, ap, _∙_}
 use Rattle.results.specs.Tree.{endSector}
 use borrow.Author.Needs.{needs}
-use Rattle.tree_calls.proofs.end_sector.Statement.{statement}
-use Rattle.tree_calls.proofs.end_sector.Tie as tie
+use Rattle.walk_calls.proofs.end_sector.Statement.{statement}
+use Rattle.walk_calls.proofs.end_sector.Tie as tie
 
 enum-told : tie.Need-enum-told
 enum-told c = search needs

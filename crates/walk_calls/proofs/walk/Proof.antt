@@ -1,9 +1,9 @@
--- `tree_calls::walk` meets its contract; the sum fits since the visits are few and the sector is one of the longest log and waiting part.
+-- `walk_calls::walk` meets its contract; the sum fits since the visits are few and the sector is one of the longest log and waiting part.
 use native.Mathlib.Omega.{arith}
 use Rattle.results.proofs.Visits.{walk-small, walked-so}
 use borrow.Author.Needs.{needs}
-use Rattle.tree_calls.proofs.walk.Statement.{statement}
-use Rattle.tree_calls.proofs.walk.Tie as tie
+use Rattle.walk_calls.proofs.walk.Statement.{statement}
+use Rattle.walk_calls.proofs.walk.Tie as tie
 
 -- what is answered is walked in these two parts
 returns : tie.Need-returns
