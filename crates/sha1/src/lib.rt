@@ -2,10 +2,7 @@
 use sha1_block::Hash;
 ghost use mathlib.Core.Path.{_≡_};
 ghost use mathlib.Core.List.{List, [], _++_};
-ghost use Prim.Native.Nat.{ℕ, _+_, _*_, _<_, min};
-ghost use lib.ListN.{length};
-ghost use lib.Seq.{sets};
-ghost use Rattle.word.specs.Number.{beBytes};
+ghost use Prim.Native.Nat.{ℕ, min};
 ghost use Rattle.sha1.specs.Sha1.{digestOf, sha1Of};
 ghost use Rattle.sha1.specs.Stream.{Holds};
 
@@ -73,51 +70,16 @@ pub fn absorb(s: Stream, more: &[u8]) -> Stream
     }
 }
 
-// The bytes of x, the highest first.
-fn be64(x: u64) -> [u8; 8]
-    ensures { λ r. ⌜ r ≡ beBytes 8 x ⌝ }
-{
-    let x1 = x / 256;
-    let x2 = x1 / 256;
-    let x3 = x2 / 256;
-    let x4 = x3 / 256;
-    let x5 = x4 / 256;
-    let x6 = x5 / 256;
-    let x7 = x6 / 256;
-    [
-        (x7 % 256) as u8,
-        (x6 % 256) as u8,
-        (x5 % 256) as u8,
-        (x4 % 256) as u8,
-        (x3 % 256) as u8,
-        (x2 % 256) as u8,
-        (x1 % 256) as u8,
-        (x % 256) as u8,
-    ]
-}
-
-// Stores the bytes of x as word `at`.
-fn put_word(d: &mut [u8; 20], at: usize, x: u32)
-    requires { ⌜ at < 5 ⌝ }
-    ensures { λ _. ⌜ now (d .exit) ≡ sets (now (d .entry)) (4 * at) (beBytes 4 x) ⌝ }
-{
-    let i = 4 * at;
-    d[i] = (x / 256 / 256 / 256 % 256) as u8;
-    d[i + 1] = (x / 256 / 256 % 256) as u8;
-    d[i + 2] = (x / 256 % 256) as u8;
-    d[i + 3] = (x % 256) as u8;
-}
-
 // The words of a hash value as bytes.
 fn digest_bytes(h: Hash) -> [u8; 20]
     ensures { λ r. ⌜ r ≡ digestOf h ⌝ }
 {
     let mut d = [0u8; 20];
-    put_word(&mut d, 0, h.a);
-    put_word(&mut d, 1, h.b);
-    put_word(&mut d, 2, h.c);
-    put_word(&mut d, 3, h.d);
-    put_word(&mut d, 4, h.e);
+    sha1_bytes::put_word(&mut d, 0, h.a);
+    sha1_bytes::put_word(&mut d, 1, h.b);
+    sha1_bytes::put_word(&mut d, 2, h.c);
+    sha1_bytes::put_word(&mut d, 3, h.d);
+    sha1_bytes::put_word(&mut d, 4, h.e);
     d
 }
 
@@ -131,7 +93,7 @@ pub fn finish(s: Stream) -> [u8; 20]
     let mut pad = [0u8; 64];
     pad[0] = 0x80;
     let t = absorb(s, &pad[..zeros + 1]);
-    let bits = be64(len % COUNTS * 8);
+    let bits = sha1_bytes::be64(len % COUNTS * 8);
     let u = absorb(t, &bits);
     digest_bytes(u.h)
 }

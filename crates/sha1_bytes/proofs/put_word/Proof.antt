@@ -1,11 +1,11 @@
--- `sha1::put_word` meets its contract. Assumes nothing.
+-- `sha1_bytes::put_word` meets its contract. Assumes nothing.
 use mathlib.Core.Path.{_≡_}
 use Prim.Native.Nat.{suc, _+_, _*_}
 use native.Mathlib.Omega.{arith}
 use borrow.Author.Needs.{needs}
 use Rattle.word.specs.Number.{digits}
-use Rattle.sha1.proofs.put_word.Statement.{statement}
-use Rattle.sha1.proofs.put_word.Tie as tie
+use Rattle.sha1_bytes.proofs.put_word.Statement.{statement}
+use Rattle.sha1_bytes.proofs.put_word.Tie as tie
 
 mul-i : tie.Need-mul-i
 mul-i c = search needs

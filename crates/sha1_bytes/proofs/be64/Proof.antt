@@ -1,9 +1,9 @@
--- `sha1::be64` meets its contract. Assumes nothing.
+-- `sha1_bytes::be64` meets its contract. Assumes nothing.
 use mathlib.Core.Path.{refl}
 use borrow.Author.Needs.{needs}
 use Rattle.word.specs.Number.{digits}
-use Rattle.sha1.proofs.be64.Statement.{statement}
-use Rattle.sha1.proofs.be64.Tie as tie
+use Rattle.sha1_bytes.proofs.be64.Statement.{statement}
+use Rattle.sha1_bytes.proofs.be64.Tie as tie
 
 cast-t10 : tie.Need-cast-t10
 cast-t10 c = search needs
