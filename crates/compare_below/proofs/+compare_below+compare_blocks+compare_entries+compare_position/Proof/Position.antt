@@ -1,14 +1,14 @@
--- `compare::compare_position` meets its contract: two entries, or two scores.
+-- `compare_below::compare_position` meets its contract: two entries, or two scores.
 use Prim.Native.Nat.{ℕ, _-_}
 use mathlib.Core.Path.{_∙_}
 use native.Mathlib.Omega.{arith}
 use borrow.Author.Needs.{needs}
 use Rattle.block.specs.Log.{joined}
 use Rattle.descent.proofs.EntryBlocks.{score-of-20}
-use Rattle.compare.proofs.Entries.{listed-of-40, in-leaves, above-leaves}
-use Rattle.compare.proofs.compare_position.Reads.{Post}
-use Rattle.compare.proofs.+compare_below+compare_blocks+compare_entries+compare_position.Lts-compare_position as lts
-use Rattle.compare.proofs.+compare_below+compare_blocks+compare_entries+compare_position.Proof.Calls.{position-at, position-calls}
+use Rattle.compare_below.proofs.Entries.{listed-of-40, in-leaves, above-leaves}
+use Rattle.compare_below.proofs.compare_position.Reads.{Post}
+use Rattle.compare_below.proofs.+compare_below+compare_blocks+compare_entries+compare_position.Lts-compare_position as lts
+use Rattle.compare_below.proofs.+compare_below+compare_blocks+compare_entries+compare_position.Proof.Calls.{position-at, position-calls}
 
 module _ (t : ℕ) where
   entry-bytes-requires : lts.Need-entry-bytes-requires (position-calls t) (position-at t) Post

@@ -1,4 +1,4 @@
--- `compare::compare_below` meets its contract: the positions of two blocks in order.
+-- `compare_below::compare_below` meets its contract: the positions of two blocks in order.
 use Prim.Native.Nat.{ℕ, _+_, _-_, _≤_}
 use mathlib.Core.Path.{sym, subst}
 use native.Mathlib.Omega.{arith}
@@ -7,11 +7,11 @@ use Rattle.kind.specs.Kind.{longest}
 use Rattle.block.specs.Log.{joined, bytesOf}
 use Rattle.comparison.specs.Compare.{comparePosition}
 use Rattle.comparison.proofs.Bounds.{Within, position-within, positions-few}
-use Rattle.compare.proofs.InOrder.{Rest, rest-at-first, all-done, rest-goes-on, refused-stops}
-use Rattle.compare.proofs.Pairs.{of-below}
-use Rattle.compare.proofs.compare_below.Reads.{Post}
-use Rattle.compare.proofs.+compare_below+compare_blocks+compare_entries+compare_position.Lts-compare_below as lts
-use Rattle.compare.proofs.+compare_below+compare_blocks+compare_entries+compare_position.Proof.Calls.{below-at, below-calls}
+use Rattle.compare_below.proofs.InOrder.{Rest, rest-at-first, all-done, rest-goes-on, refused-stops}
+use Rattle.compare_below.proofs.Entries.{of-below}
+use Rattle.compare_below.proofs.compare_below.Reads.{Post}
+use Rattle.compare_below.proofs.+compare_below+compare_blocks+compare_entries+compare_position.Lts-compare_below as lts
+use Rattle.compare_below.proofs.+compare_below+compare_blocks+compare_entries+compare_position.Proof.Calls.{below-at, below-calls}
 
 abbrev Inv : lts.InvT-loop
 Inv log end waiting e level nest b c left most count₀ units₀ i₀ count units i =

@@ -2,25 +2,23 @@
 use Prim.Native.Nat.{ℕ, _+_, _*_, _<_}
 use borrow.Fn.Kinds.{In}
 use borrow.Fn.PlainCycle.{Measures, is, falls, and}
-use Rattle.compare.proofs.compare_below.Reads as below
-use Rattle.compare.proofs.compare_below.Kinds as below-kinds
-use Rattle.compare.proofs.+compare_below+compare_blocks+compare_entries+compare_position.Lts-compare_below as below-lts
-use Rattle.compare.proofs.compare_blocks.Reads as blocks
-use Rattle.compare.proofs.compare_blocks.Kinds as blocks-kinds
-use Rattle.compare.proofs.+compare_below+compare_blocks+compare_entries+compare_position.Lts-compare_blocks as blocks-lts
-use Rattle.compare.proofs.compare_entries.Reads as entries
-use Rattle.compare.proofs.compare_entries.Kinds as entries-kinds
-use Rattle.compare.proofs.+compare_below+compare_blocks+compare_entries+compare_position.Lts-compare_entries as entries-lts
-use Rattle.compare.proofs.compare_position.Reads as position
-use Rattle.compare.proofs.compare_position.Kinds as position-kinds
-use Rattle.compare.proofs.+compare_below+compare_blocks+compare_entries+compare_position.Lts-compare_position as position-lts
-use Rattle.buffer.proofs.equal.Reads as equal
-use Rattle.compare.proofs.one_unit.Reads as one-unit
-use Rattle.compare.proofs.positions_of_both.Reads as positions-of-both
-use Rattle.compare.proofs.refused.Reads as refused
+use Rattle.compare_below.proofs.compare_below.Reads as below
+use Rattle.compare_below.proofs.compare_below.Kinds as below-kinds
+use Rattle.compare_below.proofs.+compare_below+compare_blocks+compare_entries+compare_position.Lts-compare_below as below-lts
+use Rattle.compare_below.proofs.compare_blocks.Reads as blocks
+use Rattle.compare_below.proofs.compare_blocks.Kinds as blocks-kinds
+use Rattle.compare_below.proofs.+compare_below+compare_blocks+compare_entries+compare_position.Lts-compare_blocks as blocks-lts
+use Rattle.compare_below.proofs.compare_entries.Reads as entries
+use Rattle.compare_below.proofs.compare_entries.Kinds as entries-kinds
+use Rattle.compare_below.proofs.+compare_below+compare_blocks+compare_entries+compare_position.Lts-compare_entries as entries-lts
+use Rattle.compare_below.proofs.compare_position.Reads as position
+use Rattle.compare_below.proofs.compare_position.Kinds as position-kinds
+use Rattle.compare_below.proofs.+compare_below+compare_blocks+compare_entries+compare_position.Lts-compare_position as position-lts
+use Rattle.open_pair.proofs.open.Reads as opening
+use Rattle.open_pair.proofs.one_unit.Reads as one-unit
+use Rattle.compare_below.proofs.positions_of_both.Reads as positions-of-both
 use Rattle.entry.proofs.entry_at.Reads as entry-at
 use Rattle.pair.proofs.judge.Reads as judge
-use Rattle.pair.proofs.read_block.Reads as read-block
 use Rattle.tree.proofs.score_at.Reads as score-at
 use Rattle.visit.proofs.entry_bytes.Reads as entry-bytes
 
@@ -67,18 +65,7 @@ abbrev pub below-calls : ℕ → below-lts.Claims
 below-calls t = (positions-of-both.Asked, positions-of-both.Learnt, position-under t, position.Post)
 
 abbrev pub blocks-calls : ℕ → blocks-lts.Claims
-blocks-calls t = (
-  equal.Asked,
-  equal.Learnt,
-  read-block.Asked,
-  read-block.Learnt,
-  below-under t,
-  below.Post,
-  one-unit.Asked,
-  one-unit.Learnt,
-  refused.Asked,
-  refused.Learnt,
-)
+blocks-calls t = (opening.Asked, opening.Learnt, below-under t, below.Post, one-unit.Asked, one-unit.Learnt)
 
 abbrev pub entries-calls : ℕ → entries-lts.Claims
 entries-calls t = (judge.Asked, judge.Learnt, entry-at.Asked, entry-at.Learnt, blocks-under t, blocks.Post)

@@ -1,6 +1,6 @@
--- Two entries by the program's steps, and one position of two blocks.
+-- Two entries by the program's steps, one position of two blocks, and all of them.
 use mathlib.Core.Path.{_≡_, sym, ap, ap₂, _∙_}
-use Prim.Native.Nat.{ℕ, _+_, _-_, _*_, _≤_}
+use Prim.Native.Nat.{ℕ, _+_, _-_, _*_, _≤_, _<_, max}
 use native.Mathlib.Omega.{arith}
 use lib.ListN.{length, take, drop, length-take, length-drop}
 use lib.Seq.{take-all}
@@ -8,14 +8,21 @@ use borrow.Author.Tests.{eq-eqb, ne-eqb}
 use Rattle.buffer.specs.Bytes.{Bytes}
 use Rattle.sector.specs.Sector.{filled}
 use Rattle.sector.proofs.Encode.{length-filled}
+use Rattle.block.specs.declared.Block.{Block}
+use Rattle.block.specs.Log.{bytesOf}
+use Rattle.reader.proofs.Pieces.{length-bytes}
 use Rattle.entry.specs.declared.Entry.{Entry}
 use Rattle.entry.specs.Entry.{entryOf, scoreOf}
 use Rattle.tree.specs.Tree.{pointer}
 use Rattle.pair.specs.declared.Verdict.{Verdict}
 use Rattle.pair.specs.declared.Verdict.the-variants.{Open}
 use Rattle.pair.specs.Verdict.{verdict}
-use Rattle.comparison.specs.Compare.{byVerdict, compareBlocks, compareEntries, mostLeaf, comparePosition}
+use Rattle.comparison.specs.declared.Compared.{Compared}
+use Rattle.comparison.specs.Compared.{inOrder}
+use Rattle.comparison.specs.Compare.{positions, byVerdict, compareBlocks, compareEntries, mostLeaf, comparePosition, compareBelow}
 use Rattle.comparison.proofs.Bounds.{open-leaf}
+use Rattle.open_pair.specs.Lies.{Lies}
+use Rattle.compare_below.proofs.InOrder.{OfAll}
 
 pub score-of-20 : (x : Bytes) → length x ≡ 40 → length (take (40 - 20) (drop 20 x)) ≡ 20
 score-of-20 x h = simp (length-take, length-drop) (omega arith)
@@ -64,3 +71,13 @@ module _ (f : ℕ) (log : Bytes) (e : Entry) (level nest : ℕ) (b c : Bytes) (i
   pub above-leaves : (level ≡ 0 → ⊥) → {s t : Bytes} → s ≡ pointer b i → t ≡ pointer c i
       → compareBlocks f log e (level - 1) nest s t left ≡ comparePosition f log e level nest b c i left
   above-leaves z es et = ap₂ (λ (s t : Bytes). compareBlocks f log e (level - 1) nest s t left) es et ∙ rw (ne-eqb level 0 z)
+
+-- all positions of two blocks in the log
+pub of-below : (log : Bytes) (e : Entry) (level nest : ℕ) (b c : Block) (end : ℕ) → Lies level b end → Lies level c end → (left : ℕ) {most : ℕ}
+    → most ≡ max (positions level (b .size)) (positions level (c .size)) → (v : Compared)
+    → OfAll (λ f i a. comparePosition f log e level nest (bytesOf log b) (bytesOf log c) i a) left most v
+    → (f : ℕ) → left < f → v ≡ compareBelow f log e level nest (bytesOf log b) (bytesOf log c) left
+of-below log e level nest b c end B C left {most} em v k f h =
+    k f h
+    ∙ ap (λ (x : ℕ). inOrder (λ i a. comparePosition f log e level nest (bytesOf log b) (bytesOf log c) i a) left x 0 0 0)
+    (em ∙ ap₂ (λ (x y : ℕ). max (positions level x) (positions level y)) (sym (length-bytes log b (B .before .1))) (sym (length-bytes log c (C .before .1))))

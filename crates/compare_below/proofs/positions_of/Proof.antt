@@ -1,9 +1,9 @@
--- `compare::positions_of` meets its contract.
+-- `compare_below::positions_of` meets its contract.
 use borrow.Author.Needs.{needs}
 use borrow.Author.Tests.{eq-eqb, ne-eqb}
 use Rattle.comparison.specs.Compare.{positions}
-use Rattle.compare.proofs.positions_of.Statement.{statement}
-use Rattle.compare.proofs.positions_of.Tie as tie
+use Rattle.compare_below.proofs.positions_of.Statement.{statement}
+use Rattle.compare_below.proofs.positions_of.Tie as tie
 
 leaf : tie.Need-returns
 unfolding positions

@@ -1,7 +1,7 @@
 -- A pair of blocks: skipped, refused, not read, or what is below it.
-use mathlib.Core.Path.{_≡_, sym, ap, ap₂, _∙_}
+use mathlib.Core.Path.{_≡_, sym, ap, _∙_}
 use mathlib.Core.Bool.{true, false}
-use Prim.Native.Nat.{ℕ, zero, suc, _+_, _-_, _≤_, _<_, max}
+use Prim.Native.Nat.{ℕ, zero, suc, _+_, _-_, _≤_, _<_}
 use native.Mathlib.Omega.{arith}
 use lib.ListN.{length}
 use borrow.Author.Tests.{lt-ltb, le-ltb, eq-eqb, ne-eqb}
@@ -11,16 +11,15 @@ use Rattle.refusal.specs.declared.Refusal.the-variants.{Nest, Spent}
 use Rattle.block.specs.declared.Block.{Block}
 use Rattle.block.specs.Log.{sectors, joined, bytesOf}
 use Rattle.log.specs.declared.Look.the-variants as look
-use Rattle.reader.proofs.Pieces.{length-bytes}
 use Rattle.entry.specs.declared.Entry.{Entry}
 use Rattle.visit.proofs.Visits.{in-both}
 use Rattle.pair.specs.Opened.{opened, placeAt}
 use Rattle.pair.proofs.Opened.{OpenedAt, refused-at, goes-on, in-log, not-many, whole-scores}
 use Rattle.comparison.specs.declared.Compared.{Compared}
-use Rattle.comparison.specs.Compared.{none, refused, oneUnit, inOrder}
-use Rattle.comparison.specs.Compare.{positions, spending, pairBy, compareBlocks, comparePosition, compareBelow}
-use Rattle.compare.specs.Parts.{Lies}
-use Rattle.compare.proofs.InOrder.{OfAll}
+use Rattle.comparison.specs.Compared.{none, refused, oneUnit}
+use Rattle.comparison.specs.Compare.{spending, pairBy, compareBlocks, compareBelow}
+use Rattle.open_pair.specs.Lies.{Lies}
+use Rattle.open_pair.specs.Opens.{OfBlocks}
 
 -- ---- what is spent
 
@@ -38,10 +37,6 @@ module _ (nest left : ℕ) (c : Compared) (h : nest ≤ 16) where
   one-spent p = rw (le-ltb 16 nest h, ne-eqb left 0 p)
 
 -- ---- by the program's tests
-
--- v is what the blocks of two entries give, by every bound on the calls that is enough
-abbrev pub OfBlocks : Bytes → Entry → ℕ → ℕ → Bytes → Bytes → ℕ → Compared → Type 0
-OfBlocks log e level nest s t left v = (f : ℕ) → left < f → v ≡ compareBlocks f log e level nest s t left
 
 module _ (log : Bytes) (e : Entry) (level nest : ℕ) (s t : Bytes) (left : ℕ) where
   by-pair : (v : Compared) → ((g : ℕ) → left ≤ g → v ≡ pairBy (λ e l n s t a. compareBlocks g log e l n s t a) log e level nest s t left) → OfBlocks log e level nest s t left v
@@ -88,13 +83,3 @@ module _ (log : Bytes) (e : Entry) (level nest : ℕ) (s t : Bytes) (left : ℕ)
 pub lies : (u : ℕ) (log waiting : Bytes) → u ≤ sectors (length log) → {e : Entry} {level : ℕ} {score : Bytes} {b : Block}
     → OpenedAt (joined u log waiting) e level score b → Lies level b (u + sectors (length waiting))
 lies u log waiting h {b = b} O = record { before = in-both u log waiting h b (in-log O); not-many = not-many O; full-scores = whole-scores O }
-
--- all positions of two blocks in the log
-pub of-below : (log : Bytes) (e : Entry) (level nest : ℕ) (b c : Block) (end : ℕ) → Lies level b end → Lies level c end → (left : ℕ) {most : ℕ}
-    → most ≡ max (positions level (b .size)) (positions level (c .size)) → (v : Compared)
-    → OfAll (λ f i a. comparePosition f log e level nest (bytesOf log b) (bytesOf log c) i a) left most v
-    → (f : ℕ) → left < f → v ≡ compareBelow f log e level nest (bytesOf log b) (bytesOf log c) left
-of-below log e level nest b c end B C left {most} em v k f h =
-    k f h
-    ∙ ap (λ (x : ℕ). inOrder (λ i a. comparePosition f log e level nest (bytesOf log b) (bytesOf log c) i a) left x 0 0 0)
-    (em ∙ ap₂ (λ (x y : ℕ). max (positions level x) (positions level y)) (sym (length-bytes log b (B .before .1))) (sym (length-bytes log c (C .before .1))))

@@ -1,14 +1,14 @@
--- `compare::compare_entries` meets its contract: by the verdict.
+-- `compare_below::compare_entries` meets its contract: by the verdict.
 use Prim.Native.Nat.{ℕ}
 use mathlib.Core.Path.{sym, _∙_}
 use native.Mathlib.Omega.{arith}
 use borrow.Author.Needs.{needs}
 use Rattle.buffer.specs.Bytes.{Bytes}
 use Rattle.block.specs.Log.{joined}
-use Rattle.compare.proofs.Entries.{EntryRead, entry-read, score-of-20, by-verdict, by-blocks}
-use Rattle.compare.proofs.compare_entries.Reads.{Post}
-use Rattle.compare.proofs.+compare_below+compare_blocks+compare_entries+compare_position.Lts-compare_entries as lts
-use Rattle.compare.proofs.+compare_below+compare_blocks+compare_entries+compare_position.Proof.Calls.{entries-at, entries-calls}
+use Rattle.compare_below.proofs.Entries.{EntryRead, entry-read, score-of-20, by-verdict, by-blocks}
+use Rattle.compare_below.proofs.compare_entries.Reads.{Post}
+use Rattle.compare_below.proofs.+compare_below+compare_blocks+compare_entries+compare_position.Lts-compare_entries as lts
+use Rattle.compare_below.proofs.+compare_below+compare_blocks+compare_entries+compare_position.Proof.Calls.{entries-at, entries-calls}
 
 module _ (t : ℕ) where
   -- where the function began: one `.before` for each lent slice

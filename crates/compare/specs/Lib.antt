@@ -1,2 +1,0 @@
--- What the clauses of `compare` cite besides the definition.
-pub mod Parts

@@ -1,0 +1,3 @@
+-- The laws of what is below two blocks.
+pub mod InOrder
+pub mod Entries

@@ -1,0 +1,2 @@
+-- The laws of a pair of blocks.
+pub mod Pairs
