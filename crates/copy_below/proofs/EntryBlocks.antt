@@ -1,14 +1,9 @@
 -- A block of an entry: refused, or kept behind what is below it.
 use mathlib.Core.Path.{_≡_, sym, ap, _∙_}
-use mathlib.Core.Bool.{Bool, true, false}
 use Prim.Native.Nat.{ℕ, zero, suc, _+_, _-_, _/_, _%_, _≤_, _<_}
 use native.Mathlib.Omega.{arith}
-use lib.Dec.{eqb}
-use borrow.Author.Tests.{eq-eqb, ne-eqb}
-use lib.ListN.{length}
 use Rattle.buffer.specs.Bytes.{Bytes}
 use Rattle.refusal.specs.declared.Refusal.{Refusal}
-use Rattle.refusal.specs.declared.Refusal.the-variants.{Pointers}
 use Rattle.block.specs.declared.Block.{Block}
 use Rattle.block.specs.Log.{bytesOf}
 use Rattle.reader.proofs.Pieces.{length-bytes}
@@ -17,11 +12,16 @@ use Rattle.log.specs.declared.Look.the-variants.{Found, Refused}
 use Rattle.entry.specs.declared.Entry.{Entry}
 use Rattle.visit.specs.declared.Walked.{Walked}
 use Rattle.visit.specs.declared.Met.{Met}
-use Rattle.visit.specs.declared.End.the-variants.{Done, Refused as Stopped}
+use Rattle.visit.specs.declared.End.{End}
+use Rattle.visit.specs.declared.End.the-variants.{Refused as Stopped}
 use Rattle.tree.specs.Tree.{piece, pointer, typeAt, countAt}
 use Rattle.tree.proofs.Pointers.{pointer-piece}
 use Rattle.visit.specs.Met.{metOf, endOf, answerOf}
-use Rattle.visit.proofs.Visits.{any-refused, any-found, Known, found-known, spent-within}
+use Rattle.visit.proofs.Visits.{any-refused, any-found, spent-within}
+use Rattle.descent.specs.declared.Below.{Below as Part}
+use Rattle.descent.specs.declared.Below.the-variants.{Ends, Entries, Scores}
+use Rattle.descent.specs.Parts.{belowOf, byBelow}
+use Rattle.descent.proofs.EntryBlocks.{by-part, block-known}
 use Rattle.copying.specs.Copy.{Copied, copied, stopped, kept, copyVisit, copyInOrder, copyDirectory, copyEntry}
 use Rattle.copying.specs.Parts.{copyScores, copyBelow}
 use Rattle.copy_below.proofs.InOrder.{OfAll}
@@ -70,44 +70,38 @@ module _ (log date : Bytes) (e : Entry) (level nest : ℕ) (score : Bytes) (left
     )
 
     module _ (b : Block) (d : m .look ≡ Found b) where
-      pub block-known : Known log nest left (typeAt e level) (countAt e level) score b (m .spent)
-      block-known = found-known log nest left (typeAt e level) (countAt e level) score m em b d
-
       pub kept-behind : (w : Walked) (s₁ : Bytes) → Below log date e level nest (left - 1) (bytesOf log b) s₀ w s₁
           → (kind : ℕ) → kind ≡ typeAt e level → (r : Walked) (s : Bytes) → r .visits ≡ w .visits + 1
           → copied r s ≡ kept date kind (bytesOf log b) (copied w s₁) → Entered log date e level nest score left s₀ r s
-      kept-behind w s₁ B kind ek r s v q = (
-        omega (arith, block-known .some-left, B .0),
+      kept-behind w s₁ B kind ek r s v q = let known = block-known (record { met = em }) d in (
+        omega (arith, known .some-left, B .0),
         visit-is-entry (copied r s)
             (λ g h. q ∙ ap (λ (t : ℕ). kept date t (bytesOf log b) (copied w s₁)) ek
-            ∙ ap (kept date (typeAt e level) (bytesOf log b)) (B .1 g (omega (arith, block-known .some-left)))
+            ∙ ap (kept date (typeAt e level) (bytesOf log b)) (B .1 g (omega (arith, known .some-left)))
             ∙ found-visit log date nest left (typeAt e level) (countAt e level) score m em (λ b′ s′. copyBelow g log date e level nest (left - 1) b′ s′) s₀ b d),
       )
 
 -- ---- what is below it
 
 module _ (log date : Bytes) (e : Entry) (level nest left : ℕ) (b : Block) (short : b .label < 499) (s₀ : Bytes) where
-  pub below-leaf : level ≡ 0 → e .directory ≡ false → Below log date e level nest left (bytesOf log b) s₀ (record { visits = 0; end = Done }) s₀
-  below-leaf z q = (omega arith, λ f h. rw (eq-eqb level 0 z, q))
+  part-below : {d : Part} → d ≡ belowOf e level (b .size) → (f : ℕ)
+      → copyBelow f log date e level nest left (bytesOf log b) s₀
+      ≡ byBelow d (λ x. stopped 0 x s₀) (copyDirectory f log date nest (bytesOf log b) left s₀) (copyScores f log date e (level - 1) nest (bytesOf log b) left s₀)
+  part-below q f = by-part e level log b short q (λ x. stopped 0 x s₀) _ _
 
-  pub below-directory : level ≡ 0 → e .directory ≡ true → (r : Walked) (s : Bytes)
-      → (r .visits ≤ left) × ((f : ℕ) → left + left + 2 ≤ f → copied r s ≡ copyDirectory f log date nest (bytesOf log b) left s₀)
-      → Below log date e level nest left (bytesOf log b) s₀ r s
-  below-directory z q r s k = (k .0, λ f h. rw (eq-eqb level 0 z, q) (k .1 f h))
+  module _ {d : Part} (q : d ≡ belowOf e level (b .size)) where
+    pub below-ended : (x : End) → d ≡ Ends x → Below log date e level nest left (bytesOf log b) s₀ (record { visits = 0; end = x }) s₀
+    below-ended x h = (omega arith, λ f l. sym (part-below (sym h ∙ q) f))
 
-  whole-scores : (t : Bool) → eqb (b .size % 20) 0 ≡ t → eqb (length (bytesOf log b) % 20) 0 ≡ t
-  whole-scores t q = ap (λ (x : ℕ). eqb (x % 20) 0) (length-bytes log b short) ∙ q
+    pub below-directory : d ≡ Entries → (r : Walked) (s : Bytes)
+        → (r .visits ≤ left) × ((f : ℕ) → left + left + 2 ≤ f → copied r s ≡ copyDirectory f log date nest (bytesOf log b) left s₀)
+        → Below log date e level nest left (bytesOf log b) s₀ r s
+    below-directory h r s k = (k .0, λ f l. k .1 f l ∙ sym (part-below (sym h ∙ q) f))
 
-  module _ (n : level ≡ 0 → ⊥) where
-    pub below-ragged : (b .size % 20 ≡ 0 → ⊥) → Below log date e level nest left (bytesOf log b) s₀ (record { visits = 0; end = Stopped Pointers }) s₀
-    below-ragged q = let y = whole-scores false (ne-eqb (b .size % 20) 0 q) in (omega arith, λ f h. rw (ne-eqb level 0 n, y))
-
-    pub below-scores : b .size % 20 ≡ 0 → (r : Walked) (s : Bytes)
+    pub below-scores : d ≡ Scores → (r : Walked) (s : Bytes)
         → (r .visits ≤ left) × ((f : ℕ) → left + left + 1 ≤ f → copied r s ≡ copyScores f log date e (level - 1) nest (bytesOf log b) left s₀)
         → Below log date e level nest left (bytesOf log b) s₀ r s
-    below-scores q r s k =
-        let y = whole-scores true (eq-eqb (b .size % 20) 0 q) in
-        (k .0, λ f h. rw (ne-eqb level 0 n, y) (k .1 f (omega arith)))
+    below-scores h r s k = (k .0, λ f l. k .1 f (omega arith) ∙ sym (part-below (sym h ∙ q) f))
 
 -- ---- the scores of a pointer block, at its place in the log
 

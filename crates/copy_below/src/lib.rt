@@ -1,9 +1,10 @@
 // What is below a block, copied into a second log: each block is stored there when all that is below it is.
 // The first log and the sectors that wait behind it are two runs that are read as one, as in `two_runs`.
 use block::Block;
+use descent::Below;
+use descent::Judged;
 use entry::Entry;
 use log::Look;
-use refusal::Refusal;
 use sector_number::SectorNumber;
 use visit::End;
 use visit::Walked;
@@ -72,30 +73,25 @@ fn copy_listed<'a>(
 {
     let bytes = visit::entry_bytes(log, end, waiting, b, i);
     let e = entry::entry_at(&bytes, 0);
-    if !e.active {
-        return Walked {
+    let judged = descent::judge(e);
+    match judged {
+        Judged::Ends(ended) => Walked {
             visits: 0,
-            end: End::Done,
-        };
+            end: ended,
+        },
+        Judged::Visited => copy_entry(
+            log,
+            end,
+            waiting,
+            second,
+            date,
+            e,
+            &bytes[20..],
+            e.depth,
+            descent::nest_of(e, nest),
+            left,
+        ),
     }
-    if !entry::is_well_formed(e) {
-        return Walked {
-            visits: 0,
-            end: End::Refused(Refusal::Entry),
-        };
-    }
-    copy_entry(
-        log,
-        end,
-        waiting,
-        second,
-        date,
-        e,
-        &bytes[20..],
-        e.depth,
-        descent::nest_of(e, nest),
-        left,
-    )
 }
 
 // Copies a block of an entry at a level, behind all that is below it.
@@ -142,22 +138,17 @@ fn copy_below<'a>(
     ensures within { λ r. ⌜ r .visits ≤ left ⌝ }
     ensures exact { λ r. ⌜ ((f : ℕ) → left + left + 2 ≤ f → copied r (now (second .exit)) ≡ copyBelow f (joined (end .0) (now (log .entry)) (now (waiting .entry))) (now (date .entry)) e level nest left (bytesOf (joined (end .0) (now (log .entry)) (now (waiting .entry))) b) (now (second .entry))) ⌝ }
 {
-    if level == 0 {
-        if !e.directory {
-            return Walked {
-                visits: 0,
-                end: End::Done,
-            };
-        }
-        return copy_directory(log, end, waiting, second, date, b, nest, left);
-    }
-    if b.size % 20 != 0 {
-        return Walked {
+    let below = descent::below_block(e, level, b.size);
+    match below {
+        Below::Ends(ended) => Walked {
             visits: 0,
-            end: End::Refused(Refusal::Pointers),
-        };
+            end: ended,
+        },
+        Below::Entries => copy_directory(log, end, waiting, second, date, b, nest, left),
+        Below::Scores => {
+            copy_scores(log, end, waiting, second, date, e, b, level - 1, nest, left)
+        }
     }
-    copy_scores(log, end, waiting, second, date, e, b, level - 1, nest, left)
 }
 
 // Copies what the scores of a pointer block name, one after the other: blocks of an entry at a level.

@@ -1,9 +1,10 @@
 // What is below a block: the entries of a directory, and the scores of a pointer block, are visited in order while the allowance lasts.
 // The blocks lie in two runs of sectors that are read as one, as in `two_runs`.
 use block::Block;
+use descent::Below;
+use descent::Judged;
 use entry::Entry;
 use log::Look;
-use refusal::Refusal;
 use sector_number::SectorNumber;
 use visit::End;
 use visit::Walked;
@@ -66,28 +67,23 @@ fn visit_listed<'a>(
 {
     let bytes = visit::entry_bytes(log, end, waiting, b, i);
     let e = entry::entry_at(&bytes, 0);
-    if !e.active {
-        return Walked {
+    let judged = descent::judge(e);
+    match judged {
+        Judged::Ends(ended) => Walked {
             visits: 0,
-            end: End::Done,
-        };
+            end: ended,
+        },
+        Judged::Visited => visit_entry(
+            log,
+            end,
+            waiting,
+            e,
+            &bytes[20..],
+            e.depth,
+            descent::nest_of(e, nest),
+            left,
+        ),
     }
-    if !entry::is_well_formed(e) {
-        return Walked {
-            visits: 0,
-            end: End::Refused(Refusal::Entry),
-        };
-    }
-    visit_entry(
-        log,
-        end,
-        waiting,
-        e,
-        &bytes[20..],
-        e.depth,
-        descent::nest_of(e, nest),
-        left,
-    )
 }
 
 // Visits a block of an entry at a level, and what is below it: a pointer block's scores, or the entries of a directory.
@@ -110,19 +106,17 @@ fn visit_entry<'a>(
     let Look::Found(b) = look else {
         return visit::answer(m);
     };
-    if level == 0 {
-        if !e.directory {
-            return visit::answer(m);
-        }
-        return visit::one_more(visit_directory(log, end, waiting, b, nest, left - 1));
-    }
-    if b.size % 20 != 0 {
-        return Walked {
+    let below = descent::below_block(e, level, b.size);
+    match below {
+        Below::Ends(ended) => Walked {
             visits: 1,
-            end: End::Refused(Refusal::Pointers),
-        };
+            end: ended,
+        },
+        Below::Entries => { visit::one_more(visit_directory(log, end, waiting, b, nest, left - 1)) }
+        Below::Scores => {
+            visit::one_more(visit_scores(log, end, waiting, e, b, level - 1, nest, left - 1))
+        }
     }
-    visit::one_more(visit_scores(log, end, waiting, e, b, level - 1, nest, left - 1))
 }
 
 // Visits the scores of a pointer block, one after the other: blocks of an entry at a level.

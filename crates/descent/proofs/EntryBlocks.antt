@@ -1,10 +1,10 @@
--- A block of an entry: refused, a leaf, a directory block, or a pointer block.
-use mathlib.Core.Path.{_≡_, sym, ap, ap₂, _∙_}
+-- A block of an entry: refused, or by the part that is below it.
+use mathlib.Core.Path.{_≡_, refl, sym, ap, _∙_}
 use mathlib.Core.Bool.{Bool, true, false, cond}
 use Prim.Native.Nat.{ℕ, zero, suc, _+_, _-_, _/_, _%_, _≤_, _<_}
 use native.Mathlib.Omega.{arith}
 use lib.Dec.{eqb}
-use borrow.Author.Tests.{eq-eqb, ne-eqb}
+use borrow.Author.Tests.{eqb-true, eqb-false}
 use lib.ListN.{length}
 use Rattle.buffer.specs.Bytes.{Bytes}
 use Rattle.refusal.specs.declared.Refusal.{Refusal}
@@ -16,17 +16,53 @@ use Rattle.log.specs.declared.Look.the-variants.{Found, Refused}
 use Rattle.entry.specs.declared.Entry.{Entry}
 use Rattle.visit.specs.declared.Walked.{Walked}
 use Rattle.visit.specs.declared.Met.{Met}
+use Rattle.visit.specs.declared.End.{End}
 use Rattle.visit.specs.declared.End.the-variants.{Done, Refused as Stopped}
 use Rattle.tree.specs.Tree.{piece, pointer, typeAt, countAt}
 use Rattle.tree.proofs.Pointers.{pointer-piece, length-pointer}
 use Rattle.visit.specs.Visit.{walked, more, visiting}
+use Rattle.descent.specs.declared.Below.{Below}
+use Rattle.descent.specs.declared.Below.the-variants.{Ends, Entries, Scores}
 use Rattle.descent.specs.Descent.{inOrder, visitDirectory, visitEntry}
-use Rattle.visit.specs.Met.{metOf, answerOf, endOf}
-use Rattle.descent.specs.Parts.{visitScores}
+use Rattle.visit.specs.Met.{metOf, answerOf}
+use Rattle.descent.specs.Parts.{visitScores, belowOf, byBelow}
 use Rattle.descent.proofs.InOrder.{OfAll}
 use Rattle.visit.proofs.Visits.{Known, found-known, refused-known, spent-within}
 
--- what goes on below a block of an entry, by its bytes b
+-- ---- which part is below a block
+
+-- by its bytes at its place in the log
+pub by-part : {A : Type 0} (e : Entry) (level : ℕ) (log : Bytes) (b : Block) → b .label < 499 → {d : Below} → d ≡ belowOf e level (b .size)
+    → (ends : End → A) (entries scores : A)
+    → cond (eqb level 0) (cond (e .directory) entries (ends Done)) (cond (eqb (length (bytesOf log b) % 20) 0) scores (ends (Stopped Pointers)))
+    ≡ byBelow d ends entries scores
+unfolding belowOf
+by-part {A} e level log b short q ends entries scores =
+    rw (length-bytes log b short, q) (by-tests (eqb level 0) (e .directory) (eqb (b .size % 20) 0))
+  where
+    by-tests : (x y z : Bool)
+        → cond x (cond y entries (ends Done)) (cond z scores (ends (Stopped Pointers)))
+        ≡ byBelow (cond x (cond y Entries (Ends Done)) (cond z Scores (Ends (Stopped Pointers)))) ends entries scores
+    by-tests true true z = refl
+    by-tests true false z = refl
+    by-tests false y true = refl
+    by-tests false y false = refl
+
+-- scores are whole, above the leaves
+pub whole-scores : (e : Entry) (level size : ℕ) {d : Below} → d ≡ belowOf e level size → d ≡ Scores → (0 < level) × (size % 20 ≡ 0)
+unfolding belowOf
+whole-scores e level size {d} q h = by-tests (eqb level 0) (e .directory) (eqb (size % 20) 0) refl refl (sym q ∙ h)
+  where
+    by-tests : (x y z : Bool) → eqb level 0 ≡ x → eqb (size % 20) 0 ≡ z
+        → cond x (cond y Entries (Ends Done)) (cond z Scores (Ends (Stopped Pointers))) ≡ Scores → (0 < level) × (size % 20 ≡ 0)
+    by-tests true true z p r s = let n : _≡_ {A = ℕ} 0 1 = cc in absurd (omega arith)
+    by-tests true false z p r s = let n : _≡_ {A = ℕ} 0 1 = cc in absurd (omega arith)
+    by-tests false y true p r s = (omega (arith, eqb-false level 0 p), eqb-true (size % 20) 0 r)
+    by-tests false y false p r s = let n : _≡_ {A = ℕ} 0 1 = cc in absurd (omega arith)
+
+-- ---- a block of an entry
+
+-- what goes on below it, by its bytes b
 abbrev belowBlock : ℕ → Bytes → Entry → ℕ → ℕ → ℕ → Bytes → Walked
 belowBlock f log e level nest left b =
     cond (eqb level 0)
@@ -68,32 +104,24 @@ module _ {log : Bytes} {e : Entry} {level nest : ℕ} {score : Bytes} {left : �
       visiting-is-entry log e level nest score left (more w) (λ g l. block-known .goes-on (belowBlock g log e level nest left) w (k g l)),
     )
 
-    pub leaf-ends : level ≡ 0 → e .directory ≡ false → (r : Walked) → r ≡ answerOf m → Visited log e level nest score left r
-    leaf-ends z q r er =
-        let y : r ≡ walked 1 Done = er ∙ ap₂ walked (block-known .one-spent) (ap endOf d) in
-        rw y (goes-on-below (walked 0 Done) (omega arith) (λ g l. rw (eq-eqb level 0 z, q)))
+    part-below : {d : Below} → d ≡ belowOf e level (b .size) → (g : ℕ)
+        → belowBlock g log e level nest left (bytesOf log b)
+        ≡ byBelow d (walked 0) (visitDirectory g log nest (bytesOf log b) (left - 1)) (visitScores g log e (level - 1) nest (bytesOf log b) (left - 1))
+    part-below q g = by-part e level log b (block-known .in-log .1) q (walked 0) _ _
 
-    pub directory-below : level ≡ 0 → e .directory ≡ true → (w : Walked)
+    pub ended-below : {d : Below} → d ≡ belowOf e level (b .size) → (x : End) → d ≡ Ends x → Visited log e level nest score left (walked 1 x)
+    ended-below q x h = goes-on-below (walked 0 x) (omega arith) (λ g l. sym (part-below (sym h ∙ q) g))
+
+    pub directory-below : {d : Below} → d ≡ belowOf e level (b .size) → d ≡ Entries → (w : Walked)
         → (w .visits ≤ left - 1) × ((g : ℕ) → (left - 1) + (left - 1) + 2 ≤ g → w ≡ visitDirectory g log nest (bytesOf log b) (left - 1))
         → Visited log e level nest score left (more w)
-    directory-below z q w k = goes-on-below w (k .0) (λ g l. rw (eq-eqb level 0 z, q) (k .1 g (omega (arith, block-known .some-left))))
+    directory-below q h w k = goes-on-below w (k .0) (λ g l. k .1 g (omega (arith, block-known .some-left)) ∙ sym (part-below (sym h ∙ q) g))
 
-    whole-scores : (t : Bool) → eqb (b .size % 20) 0 ≡ t → eqb (length (bytesOf log b) % 20) 0 ≡ t
-    whole-scores t q = ap (λ (x : ℕ). eqb (x % 20) 0) (length-bytes log b (block-known .in-log .1)) ∙ q
-
-    module _ (n : level ≡ 0 → ⊥) where
-      pub ragged-is-refused : (b .size % 20 ≡ 0 → ⊥) → Visited log e level nest score left (walked 1 (Stopped Pointers))
-      ragged-is-refused q =
-          let y = whole-scores false (ne-eqb (b .size % 20) 0 q) in
-          goes-on-below (walked 0 (Stopped Pointers)) (omega arith) (λ g l. rw (ne-eqb level 0 n, y))
-
-      pub scores-below : b .size % 20 ≡ 0 → (w : Walked)
-          → (w .visits ≤ left - 1)
-          × ((g : ℕ) → (left - 1) + (left - 1) + 1 ≤ g → w ≡ visitScores g log e (level - 1) nest (bytesOf log b) (left - 1))
-          → Visited log e level nest score left (more w)
-      scores-below q w k =
-          let y = whole-scores true (eq-eqb (b .size % 20) 0 q) in
-          goes-on-below w (k .0) (λ g l. rw (ne-eqb level 0 n, y) (k .1 g (omega (arith, block-known .some-left))))
+    pub scores-below : {d : Below} → d ≡ belowOf e level (b .size) → d ≡ Scores → (w : Walked)
+        → (w .visits ≤ left - 1)
+        × ((g : ℕ) → (left - 1) + (left - 1) + 1 ≤ g → w ≡ visitScores g log e (level - 1) nest (bytesOf log b) (left - 1))
+        → Visited log e level nest score left (more w)
+    scores-below q h w k = goes-on-below w (k .0) (λ g l. k .1 g (omega (arith, block-known .some-left)) ∙ sym (part-below (sym h ∙ q) g))
 
 -- ---- the scores of a pointer block, at its place in the log
 

@@ -1,6 +1,6 @@
--- An entry of a directory block: skipped, refused or visited.
-use mathlib.Core.Path.{_≡_, sym, ap, ap₂, _∙_}
-use mathlib.Core.Bool.{Bool, true, false}
+-- An entry of a directory block: not visited, or visited.
+use mathlib.Core.Path.{_≡_, refl, sym, ap, ap₂, _∙_}
+use mathlib.Core.Bool.{Bool, true, false, cond}
 use Prim.Native.Nat.{ℕ, zero, suc, _+_, _-_, _*_, _≤_, _<_}
 use native.Mathlib.Omega.{arith}
 use lib.ListN.{length, take, drop, length-take, length-drop}
@@ -13,12 +13,15 @@ use Rattle.block.specs.declared.Block.{Block}
 use Rattle.block.specs.Log.{bytesOf}
 use Rattle.reader.proofs.Pieces.{length-bytes}
 use Rattle.entry.specs.declared.Entry.{Entry}
-use Rattle.entry.specs.Entry.{entryOf, wellFormed, entryAllowed, scoreOf}
+use Rattle.entry.specs.Entry.{entryOf, entryAllowed, scoreOf}
 use Rattle.visit.specs.declared.Walked.{Walked}
+use Rattle.visit.specs.declared.End.{End}
 use Rattle.visit.specs.declared.End.the-variants.{Done, Refused as Stopped}
 use Rattle.visit.specs.Visit.{walked}
+use Rattle.descent.specs.declared.Judged.{Judged}
+use Rattle.descent.specs.declared.Judged.the-variants.{Ends, Visited}
 use Rattle.descent.specs.Descent.{paddedTo, inOrder, nestOf, entriesOf, judged, visitDirectory, visitEntry}
-use Rattle.descent.specs.Parts.{entryIn, visitListed}
+use Rattle.descent.specs.Parts.{entryIn, visitListed, judgedOf, byJudged}
 use Rattle.descent.proofs.Padded.{entry-piece}
 use Rattle.descent.proofs.InOrder.{OfAll}
 
@@ -49,21 +52,6 @@ pub entry-read : (log : Bytes) (b : Block) → b .label < 499 → (i : ℕ) {x :
     → x ≡ filled 40 (drop (40 * i) (bytesOf log b)) → e ≡ entryOf (take 40 (drop 0 x)) → EntryRead (bytesOf log b) i x e
 entry-read log b short i h x e = record { within = omega (arith, length-bytes log b short); bytes = x; read = e }
 
--- what an entry's bytes say: not active, ill-formed, or to be visited
-module _ (x : Bytes) (w : Walked) where
-  not-active : entryOf x .active ≡ false → judged x w ≡ walked 0 Done
-  unfolding judged
-  not-active p = rw p
-
-  module _ (p : entryOf x .active ≡ true) where
-    ill-formed : entryAllowed x ≡ false → judged x w ≡ walked 0 (Stopped IllFormed)
-    unfolding judged
-    ill-formed q = rw (q, p)
-
-    well-formed : entryAllowed x ≡ true → judged x w ≡ w
-    unfolding judged
-    well-formed q = rw (q, p)
-
 module _ {b : Bytes} {i : ℕ} {x : Bytes} {e : Entry} (R : EntryRead b i x e) where
   pub bytes-are-piece : x ≡ entryIn b i
   bytes-are-piece = R .bytes ∙ sym (entry-piece b i (R .within))
@@ -74,11 +62,17 @@ module _ {b : Bytes} {i : ℕ} {x : Bytes} {e : Entry} (R : EntryRead b i x e) w
   pub entry-of-piece : e ≡ entryOf (entryIn b i)
   entry-of-piece = R .read ∙ ap entryOf (take-all 40 x (omega (arith, length-40)) ∙ bytes-are-piece)
 
-  pub active-of-piece : (a : Bool) → e .active ≡ a → entryOf (entryIn b i) .active ≡ a
-  active-of-piece a h = ap (λ (y : Entry). y .active) (sym entry-of-piece) ∙ h
-
-  pub allowed-of-piece : (f : Bool) → wellFormed e ≡ f → entryAllowed (entryIn b i) ≡ f
-  allowed-of-piece f h = ap wellFormed (sym entry-of-piece) ∙ h
+  -- what is done with it, by its bytes
+  pub by-entry : {A : Type 0} {d : Judged} → d ≡ judgedOf e → (ends : End → A) (visited : A)
+      → byJudged d ends visited ≡ cond (entryOf (entryIn b i) .active) (cond (entryAllowed (entryIn b i)) visited (ends (Stopped IllFormed))) (ends Done)
+  unfolding judgedOf
+  by-entry q ends visited = rw (q, entry-of-piece) (by-tests (entryOf (entryIn b i) .active) (entryAllowed (entryIn b i)))
+    where
+      by-tests : (y z : Bool)
+          → byJudged (cond y (cond z Visited (Ends (Stopped IllFormed))) (Ends Done)) ends visited ≡ cond y (cond z visited (ends (Stopped IllFormed))) (ends Done)
+      by-tests true true = refl
+      by-tests true false = refl
+      by-tests false z = refl
 
   pub depth-at-most-7 : e .depth ≤ 7
   unfolding entryOf
@@ -87,17 +81,14 @@ module _ {b : Bytes} {i : ℕ} {x : Bytes} {e : Entry} (R : EntryRead b i x e) w
   pub score-of-20 : length (take (40 - 20) (drop 20 x)) ≡ 20
   score-of-20 = simp (length-take, length-drop) (omega (arith, length-40))
 
-  pub inactive-is-skipped : e .active ≡ false → (f : ℕ) (log : Bytes) (nest left : ℕ) → walked 0 Done ≡ visitListed f log nest (entryIn b i) left
-  inactive-is-skipped a f log nest left = sym (not-active (entryIn b i) _ (active-of-piece false a))
+  pub ends-unvisited : (y : End) → Ends y ≡ judgedOf e → (f : ℕ) (log : Bytes) (nest left : ℕ) → walked 0 y ≡ visitListed f log nest (entryIn b i) left
+  unfolding judged
+  ends-unvisited y q f log nest left = by-entry q (walked 0) _
 
-  module _ (a : e .active ≡ true) where
-    pub ill-formed-is-refused : wellFormed e ≡ false → (f : ℕ) (log : Bytes) (nest left : ℕ)
-        → walked 0 (Stopped IllFormed) ≡ visitListed f log nest (entryIn b i) left
-    ill-formed-is-refused w f log nest left = sym (ill-formed (entryIn b i) _ (active-of-piece true a) (allowed-of-piece false w))
-
-    pub well-formed-is-visited : wellFormed e ≡ true → (log : Bytes) (nest left : ℕ) {deep : ℕ} → deep ≡ nestOf e nest → (f : ℕ) {r : Walked}
-        → r ≡ visitEntry f log e (e .depth) deep (take (40 - 20) (drop 20 x)) left → r ≡ visitListed f log nest (entryIn b i) left
-    well-formed-is-visited w log nest left d f v =
-        v ∙ ap (λ (y : ℕ). visitEntry f log e (e .depth) y (scoreOf x) left) d
-        ∙ ap₂ (λ (y : Entry) (u : Bytes). visitEntry f log y (y .depth) (nestOf y nest) u left) entry-of-piece (ap scoreOf bytes-are-piece)
-        ∙ sym (well-formed (entryIn b i) _ (active-of-piece true a) (allowed-of-piece true w))
+  pub is-visited : Visited ≡ judgedOf e → (log : Bytes) (nest left : ℕ) {deep : ℕ} → deep ≡ nestOf e nest → (f : ℕ) {r : Walked}
+      → r ≡ visitEntry f log e (e .depth) deep (take (40 - 20) (drop 20 x)) left → r ≡ visitListed f log nest (entryIn b i) left
+  unfolding judged
+  is-visited q log nest left d f v =
+      v ∙ ap (λ (y : ℕ). visitEntry f log e (e .depth) y (scoreOf x) left) d
+      ∙ ap₂ (λ (y : Entry) (u : Bytes). visitEntry f log y (y .depth) (nestOf y nest) u left) entry-of-piece (ap scoreOf bytes-are-piece)
+      ∙ by-entry q (walked 0) _

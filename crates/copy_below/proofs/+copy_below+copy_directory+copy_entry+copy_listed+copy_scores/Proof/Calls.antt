@@ -18,9 +18,10 @@ use Rattle.copy_below.proofs.copy_scores.Reads as scores
 use Rattle.copy_below.proofs.copy_scores.Kinds as scores-kinds
 use Rattle.copy_below.proofs.+copy_below+copy_directory+copy_entry+copy_listed+copy_scores.Lts-copy_scores as scores-lts
 use Rattle.keep.proofs.keep.Reads as keep
+use Rattle.descent.proofs.judge.Reads as judge
 use Rattle.descent.proofs.nest_of.Reads as nest-of
+use Rattle.descent.proofs.below_block.Reads as below-block
 use Rattle.entry.proofs.entry_at.Reads as entry-read
-use Rattle.entry.proofs.is_well_formed.Reads as is-well-formed
 use Rattle.tree.proofs.score_at.Reads as score-at
 use Rattle.tree.proofs.type_at.Reads as type-at
 use Rattle.visit.proofs.answer.Reads as answer
@@ -76,7 +77,7 @@ scores-below t = and 3 scores-kinds.ps (falls 3 scores-kinds.ps _<_ μ-scores t)
 
 -- the functions that each calls
 abbrev pub below-calls : ℕ → below-lts.Claims
-below-calls t = (directory-below t, directory.Post, scores-below t, scores.Post)
+below-calls t = (below-block.Asked, below-block.Learnt, directory-below t, directory.Post, scores-below t, scores.Post)
 
 abbrev pub directory-calls : ℕ → directory-lts.Claims
 directory-calls t = (listed-below t, listed.Post)
@@ -101,8 +102,8 @@ listed-calls t = (
   entry-bytes.Learnt,
   entry-read.Asked,
   entry-read.Learnt,
-  is-well-formed.Asked,
-  is-well-formed.Learnt,
+  judge.Asked,
+  judge.Learnt,
   nest-of.Asked,
   nest-of.Learnt,
   entry-below t,

@@ -9,7 +9,8 @@ use Rattle.visit.proofs.Visits.{Known, in-both}
 use Rattle.tree.specs.Tree.{typeAt, countAt}
 use Rattle.buffer.specs.Bytes.{Bytes}
 use mathlib.Core.Path.{_≡_}
-use Rattle.copy_below.proofs.EntryBlocks.{block-known, refused-ends, kept-behind}
+use Rattle.descent.proofs.EntryBlocks.{block-known}
+use Rattle.copy_below.proofs.EntryBlocks.{refused-ends, kept-behind}
 use Rattle.copy_below.proofs.copy_entry.Reads.{Post}
 use Rattle.copy_below.proofs.+copy_below+copy_directory+copy_entry+copy_listed+copy_scores.Lts-copy_entry as lts
 use Rattle.copy_below.proofs.+copy_below+copy_directory+copy_entry+copy_listed+copy_scores.Proof.Calls.{entry-at, entry-calls}
@@ -26,9 +27,7 @@ module _ (t : ℕ) where
   -- what is known of the block that was found
   known : (c : lts.After-visit-level (entry-calls t) (entry-at t) Post) (p : Block) → c .visit-level .result .look ≡ Found p
       → let a = start c .args in Known (both c) (a .nest) (a .left) (typeAt (a .e) (a .level)) (countAt (a .e) (a .level)) (a .score .now) p (c .visit-level .result .spent)
-  known c p d =
-      let a = start c .args in
-      block-known (both c) (a .date .now) (a .e) (a .level) (a .nest) (a .score .now) (a .left) (a .second .now) _ (c .visit-level .ensures) p d
+  known c p d = block-known (record { met = c .visit-level .ensures }) d
 
   refused : lts.Need-returns (entry-calls t) (entry-at t) Post
   refused c =

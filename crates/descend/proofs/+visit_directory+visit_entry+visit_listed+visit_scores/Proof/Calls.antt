@@ -15,10 +15,11 @@ use Rattle.descend.proofs.visit_scores.Reads as scores
 use Rattle.descend.proofs.visit_scores.Kinds as scores-kinds
 use Rattle.descend.proofs.+visit_directory+visit_entry+visit_listed+visit_scores.Lts-visit_scores as scores-lts
 use Rattle.entry.proofs.entry_at.Reads as entry-at
-use Rattle.entry.proofs.is_well_formed.Reads as is-well-formed
 use Rattle.visit.proofs.answer.Reads as answer
 use Rattle.visit.proofs.entry_bytes.Reads as entry-bytes
+use Rattle.descent.proofs.judge.Reads as judge
 use Rattle.descent.proofs.nest_of.Reads as nest-of
+use Rattle.descent.proofs.below_block.Reads as below-block
 use Rattle.visit.proofs.one_more.Reads as one-more
 use Rattle.tree.proofs.score_at.Reads as score-at
 use Rattle.visit.proofs.visit_level.Reads as visit-level
@@ -71,6 +72,8 @@ entry-calls t = (
   visit-level.Learnt,
   answer.Asked,
   answer.Learnt,
+  below-block.Asked,
+  below-block.Learnt,
   directory-below t,
   directory.Post,
   one-more.Asked,
@@ -85,8 +88,8 @@ listed-calls t = (
   entry-bytes.Learnt,
   entry-at.Asked,
   entry-at.Learnt,
-  is-well-formed.Asked,
-  is-well-formed.Learnt,
+  judge.Asked,
+  judge.Learnt,
   nest-of.Asked,
   nest-of.Learnt,
   entry-below t,

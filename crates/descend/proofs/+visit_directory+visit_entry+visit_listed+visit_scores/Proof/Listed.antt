@@ -1,11 +1,12 @@
 -- `descend::visit_listed` meets its contract: by what the entry says.
 use Prim.Native.Nat.{ℕ}
-use mathlib.Core.Path.{sym, _∙_}
+use mathlib.Core.Path.{_≡_, sym, _∙_}
 use native.Mathlib.Omega.{arith}
 use borrow.Author.Needs.{needs}
-use borrow.Author.Tests.{not-true, not-false}
 use Rattle.block.specs.Log.{joined, bytesOf}
-use Rattle.descent.proofs.Listed.{EntryRead, entry-read, depth-at-most-7, score-of-20, inactive-is-skipped, ill-formed-is-refused, well-formed-is-visited}
+use Rattle.descent.specs.declared.Judged.{Judged}
+use Rattle.descent.specs.Parts.{judgedOf}
+use Rattle.descent.proofs.Listed.{EntryRead, entry-read, depth-at-most-7, score-of-20, ends-unvisited, is-visited}
 use Rattle.descend.proofs.visit_listed.Reads.{Post}
 use Rattle.descend.proofs.+visit_directory+visit_entry+visit_listed+visit_scores.Lts-visit_listed as lts
 use Rattle.descend.proofs.+visit_directory+visit_entry+visit_listed+visit_scores.Proof.Calls.{listed-at, listed-calls}
@@ -23,26 +24,24 @@ module _ (t : ℕ) where
       let q = start (c .before .before) .pre .1 in
       entry-read _ _ (q .1 .1) _ (q .4) (c .before .before .entry-bytes .ensures) (c .entry-at .ensures)
 
-  skipped : lts.Need-returns (listed-calls t) (listed-at t) Post
-  skipped c = (omega arith, λ f l. inactive-is-skipped (here (c .before .before)) (not-true _ (c .if1 .taken)) f _ _ _)
+  -- what it says, as it was found
+  says : (c : lts.After-judge (listed-calls t) (listed-at t) Post) (d : Judged) → c .judge .result ≡ d → d ≡ judgedOf (c .before .entry-at .result)
+  says c d q = sym q ∙ c .judge .ensures
 
-  refused : lts.Need-returns-2 (listed-calls t) (listed-at t) Post
-  refused c =
-      let i = c .before .before in
-      (omega arith, λ f l. ill-formed-is-refused (here (i .before .before)) (not-false _ (i .if1 .left)) (sym (c .before .is-well-formed .ensures) ∙ not-true _ (c .if2 .taken)) f _ _ _)
+  unvisited : lts.Need-returns (listed-calls t) (listed-at t) Post
+  unvisited c = let k = c .before in (omega arith, λ f l. ends-unvisited (here (k .before .before .before)) _ (says (k .before .before) _ (k .judged .given .1)) f _ _ _)
 
   visit-entry-requires : lts.Need-visit-entry-requires (listed-calls t) (listed-at t) Post
   visit-entry-requires c κs =
-      let r = here (c .before .before .before .before .before .before .before) in
-      (omega arith, (start (c .before .before .before .before .before .before .before .before .before) .pre .1 .0, score-of-20 r, depth-at-most-7 r))
+      let r = here (c .before .before .before .before .before .before) in
+      (omega arith, (start (c .before .before .before .before .before .before .before .before) .pre .1 .0, score-of-20 r, depth-at-most-7 r))
 
-  visited : lts.Need-returns-3 (listed-calls t) (listed-at t) Post
+  visited : lts.Need-returns-2 (listed-calls t) (listed-at t) Post
   visited c =
       let y = c .before .before .before .before in
-      let i = y .before .before in (
+      let k = y .before .before in (
         c .visit-entry .ensures .0,
-        λ f l. well-formed-is-visited (here (i .before .before)) (not-false _ (i .if1 .left)) (sym (y .before .is-well-formed .ensures) ∙ not-false _ (y .if2 .left)) _ _ _
-            (c .before .nest-of .ensures) f (c .visit-entry .ensures .1 f l),
+        λ f l. is-visited (here (k .before)) (says k _ (y .enum-told .given .1)) _ _ _ (c .before .nest-of .ensures) f (c .visit-entry .ensures .1 f l),
       )
 
 pub listed-meets : {M : Type 1} (t : ℕ) → lts.Closed (listed-calls t) (listed-at t) Post M
@@ -51,12 +50,13 @@ listed-meets t =
     (λ c κs. search needs)  -- entry-bytes-requires
     (λ c. search needs)  -- slice-aggregate-entry-at
     (λ c κs. search needs)  -- entry-at-requires
-    (skipped t)
-    (λ c κs. search needs)  -- is-well-formed-requires
-    (refused t)
+    (λ c κs. search needs)  -- judge-requires
+    (λ c. search needs)  -- enum-known-judged
+    (λ c. search needs)  -- enum-told
     (λ c. search needs)  -- sub-visit-entry
     (λ c. search needs)  -- part-visit-entry-start
     (λ c. search needs)  -- part-visit-entry-end
     (λ c κs. search needs)  -- nest-of-requires
     (visit-entry-requires t)
+    (unvisited t)
     (visited t)
