@@ -1,7 +1,8 @@
 -- What falls with each call, and what each function asks of those that it calls.
-use Prim.Native.Nat.{ℕ, _+_, _*_, _<_}
+use Prim.Native.Nat.{ℕ, _+_, _*_}
 use borrow.Fn.Kinds.{In}
-use borrow.Fn.PlainCycle.{Measures, is, falls, and}
+use borrow.Fn.PlainCycle.{Measures}
+use Rattle.cycle.proofs.Measured.{at-measure, below-measure}
 use Rattle.compare_below.proofs.compare_below.Reads as below
 use Rattle.compare_below.proofs.compare_below.Kinds as below-kinds
 use Rattle.compare_below.proofs.+compare_below+compare_blocks+compare_entries+compare_position.Lts-compare_below as below-lts
@@ -35,49 +36,37 @@ abbrev pub μ-entries : Measures 3 entries-kinds.ps ℕ
 abbrev pub μ-blocks : Measures 3 blocks-kinds.ps ℕ
 μ-blocks κs a = 4 * (a .1 .1 .1 .1 .1 .1 .1 .1 .0)
 
--- a function at a measure t, and below it
+-- a function at a measure
 abbrev pub below-at : ℕ → In 1 below-kinds.ps
-below-at t = and 1 below-kinds.ps (is 1 below-kinds.ps μ-below t) below.Pre
-
-abbrev below-under : ℕ → In 1 below-kinds.ps
-below-under t = and 1 below-kinds.ps (falls 1 below-kinds.ps _<_ μ-below t) below.Pre
+below-at = at-measure 1 below-kinds.ps μ-below below.Pre
 
 abbrev pub position-at : ℕ → In 1 position-kinds.ps
-position-at t = and 1 position-kinds.ps (is 1 position-kinds.ps μ-position t) position.Pre
-
-abbrev position-under : ℕ → In 1 position-kinds.ps
-position-under t = and 1 position-kinds.ps (falls 1 position-kinds.ps _<_ μ-position t) position.Pre
+position-at = at-measure 1 position-kinds.ps μ-position position.Pre
 
 abbrev pub entries-at : ℕ → In 3 entries-kinds.ps
-entries-at t = and 3 entries-kinds.ps (is 3 entries-kinds.ps μ-entries t) entries.Pre
-
-abbrev entries-under : ℕ → In 3 entries-kinds.ps
-entries-under t = and 3 entries-kinds.ps (falls 3 entries-kinds.ps _<_ μ-entries t) entries.Pre
+entries-at = at-measure 3 entries-kinds.ps μ-entries entries.Pre
 
 abbrev pub blocks-at : ℕ → In 3 blocks-kinds.ps
-blocks-at t = and 3 blocks-kinds.ps (is 3 blocks-kinds.ps μ-blocks t) blocks.Pre
-
-abbrev blocks-under : ℕ → In 3 blocks-kinds.ps
-blocks-under t = and 3 blocks-kinds.ps (falls 3 blocks-kinds.ps _<_ μ-blocks t) blocks.Pre
+blocks-at = at-measure 3 blocks-kinds.ps μ-blocks blocks.Pre
 
 -- the functions that each calls
 abbrev pub below-calls : ℕ → below-lts.Claims
-below-calls t = (positions-of-both.Asked, positions-of-both.Learnt, position-under t, position.Post)
+below-calls t = (positions-of-both.Asked, positions-of-both.Learnt, below-measure 1 position-kinds.ps μ-position position.Pre t, position.Post)
 
 abbrev pub blocks-calls : ℕ → blocks-lts.Claims
-blocks-calls t = (opening.Asked, opening.Learnt, below-under t, below.Post, one-unit.Asked, one-unit.Learnt)
+blocks-calls t = (opening.Asked, opening.Learnt, below-measure 1 below-kinds.ps μ-below below.Pre t, below.Post, one-unit.Asked, one-unit.Learnt)
 
 abbrev pub entries-calls : ℕ → entries-lts.Claims
-entries-calls t = (judge.Asked, judge.Learnt, entry-at.Asked, entry-at.Learnt, blocks-under t, blocks.Post)
+entries-calls t = (judge.Asked, judge.Learnt, entry-at.Asked, entry-at.Learnt, below-measure 3 blocks-kinds.ps μ-blocks blocks.Pre t, blocks.Post)
 
 abbrev pub position-calls : ℕ → position-lts.Claims
 position-calls t = (
   entry-bytes.Asked,
   entry-bytes.Learnt,
-  entries-under t,
+  below-measure 3 entries-kinds.ps μ-entries entries.Pre t,
   entries.Post,
   score-at.Asked,
   score-at.Learnt,
-  blocks-under t,
+  below-measure 3 blocks-kinds.ps μ-blocks blocks.Pre t,
   blocks.Post,
 )

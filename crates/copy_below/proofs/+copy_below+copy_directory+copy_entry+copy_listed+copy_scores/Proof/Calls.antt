@@ -1,7 +1,8 @@
 -- What falls with each call, and what each function asks of those that it calls.
-use Prim.Native.Nat.{ℕ, _+_, _*_, _<_}
+use Prim.Native.Nat.{ℕ, _+_, _*_}
 use borrow.Fn.Kinds.{In}
-use borrow.Fn.PlainCycle.{Measures, is, falls, and}
+use borrow.Fn.PlainCycle.{Measures}
+use Rattle.cycle.proofs.Measured.{at-measure, below-measure}
 use Rattle.copy_below.proofs.copy_below.Reads as below
 use Rattle.copy_below.proofs.copy_below.Kinds as below-kinds
 use Rattle.copy_below.proofs.+copy_below+copy_directory+copy_entry+copy_listed+copy_scores.Lts-copy_below as below-lts
@@ -44,43 +45,28 @@ abbrev pub μ-listed : Measures 3 listed-kinds.ps ℕ
 abbrev pub μ-scores : Measures 3 scores-kinds.ps ℕ
 μ-scores κs a = 4 * (a .1 .1 .1 .1 .1 .1 .1 .1 .1 .0) + 1
 
--- a function at a measure t, and below it
+-- a function at a measure
 abbrev pub below-at : ℕ → In 3 below-kinds.ps
-below-at t = and 3 below-kinds.ps (is 3 below-kinds.ps μ-below t) below.Pre
-
-abbrev below-below : ℕ → In 3 below-kinds.ps
-below-below t = and 3 below-kinds.ps (falls 3 below-kinds.ps _<_ μ-below t) below.Pre
+below-at = at-measure 3 below-kinds.ps μ-below below.Pre
 
 abbrev pub directory-at : ℕ → In 3 directory-kinds.ps
-directory-at t = and 3 directory-kinds.ps (is 3 directory-kinds.ps μ-directory t) directory.Pre
-
-abbrev directory-below : ℕ → In 3 directory-kinds.ps
-directory-below t = and 3 directory-kinds.ps (falls 3 directory-kinds.ps _<_ μ-directory t) directory.Pre
+directory-at = at-measure 3 directory-kinds.ps μ-directory directory.Pre
 
 abbrev pub entry-at : ℕ → In 4 entry-kinds.ps
-entry-at t = and 4 entry-kinds.ps (is 4 entry-kinds.ps μ-entry t) entry.Pre
-
-abbrev entry-below : ℕ → In 4 entry-kinds.ps
-entry-below t = and 4 entry-kinds.ps (falls 4 entry-kinds.ps _<_ μ-entry t) entry.Pre
+entry-at = at-measure 4 entry-kinds.ps μ-entry entry.Pre
 
 abbrev pub listed-at : ℕ → In 3 listed-kinds.ps
-listed-at t = and 3 listed-kinds.ps (is 3 listed-kinds.ps μ-listed t) listed.Pre
-
-abbrev listed-below : ℕ → In 3 listed-kinds.ps
-listed-below t = and 3 listed-kinds.ps (falls 3 listed-kinds.ps _<_ μ-listed t) listed.Pre
+listed-at = at-measure 3 listed-kinds.ps μ-listed listed.Pre
 
 abbrev pub scores-at : ℕ → In 3 scores-kinds.ps
-scores-at t = and 3 scores-kinds.ps (is 3 scores-kinds.ps μ-scores t) scores.Pre
-
-abbrev scores-below : ℕ → In 3 scores-kinds.ps
-scores-below t = and 3 scores-kinds.ps (falls 3 scores-kinds.ps _<_ μ-scores t) scores.Pre
+scores-at = at-measure 3 scores-kinds.ps μ-scores scores.Pre
 
 -- the functions that each calls
 abbrev pub below-calls : ℕ → below-lts.Claims
-below-calls t = (below-block.Asked, below-block.Learnt, directory-below t, directory.Post, scores-below t, scores.Post)
+below-calls t = (below-block.Asked, below-block.Learnt, below-measure 3 directory-kinds.ps μ-directory directory.Pre t, directory.Post, below-measure 3 scores-kinds.ps μ-scores scores.Pre t, scores.Post)
 
 abbrev pub directory-calls : ℕ → directory-lts.Claims
-directory-calls t = (listed-below t, listed.Post)
+directory-calls t = (below-measure 3 listed-kinds.ps μ-listed listed.Pre t, listed.Post)
 
 abbrev pub entry-calls : ℕ → entry-lts.Claims
 entry-calls t = (
@@ -88,7 +74,7 @@ entry-calls t = (
   visit-level.Learnt,
   answer.Asked,
   answer.Learnt,
-  below-below t,
+  below-measure 3 below-kinds.ps μ-below below.Pre t,
   below.Post,
   type-at.Asked,
   type-at.Learnt,
@@ -106,9 +92,9 @@ listed-calls t = (
   judge.Learnt,
   nest-of.Asked,
   nest-of.Learnt,
-  entry-below t,
+  below-measure 4 entry-kinds.ps μ-entry entry.Pre t,
   entry.Post,
 )
 
 abbrev pub scores-calls : ℕ → scores-lts.Claims
-scores-calls t = (score-at.Asked, score-at.Learnt, entry-below t, entry.Post)
+scores-calls t = (score-at.Asked, score-at.Learnt, below-measure 4 entry-kinds.ps μ-entry entry.Pre t, entry.Post)

@@ -1,7 +1,8 @@
 -- What falls with each call, and what each function asks of those that it calls.
-use Prim.Native.Nat.{ℕ, _+_, _*_, _<_}
+use Prim.Native.Nat.{ℕ, _+_, _*_}
 use borrow.Fn.Kinds.{In}
-use borrow.Fn.PlainCycle.{Measures, is, falls, and}
+use borrow.Fn.PlainCycle.{Measures}
+use Rattle.cycle.proofs.Measured.{at-measure, below-measure}
 use Rattle.descend.proofs.visit_directory.Reads as directory
 use Rattle.descend.proofs.visit_directory.Kinds as directory-kinds
 use Rattle.descend.proofs.+visit_directory+visit_entry+visit_listed+visit_scores.Lts-visit_directory as directory-lts
@@ -37,34 +38,22 @@ abbrev pub μ-scores : Measures 1 scores-kinds.ps ℕ
 abbrev pub μ-entry : Measures 2 entry-kinds.ps ℕ
 μ-entry κs a = 3 * (a .1 .1 .1 .1 .1 .1 .1 .0)
 
--- a function at a measure t, and below it
+-- a function at a measure
 abbrev pub directory-at : ℕ → In 1 directory-kinds.ps
-directory-at t = and 1 directory-kinds.ps (is 1 directory-kinds.ps μ-directory t) directory.Pre
-
-abbrev directory-below : ℕ → In 1 directory-kinds.ps
-directory-below t = and 1 directory-kinds.ps (falls 1 directory-kinds.ps _<_ μ-directory t) directory.Pre
+directory-at = at-measure 1 directory-kinds.ps μ-directory directory.Pre
 
 abbrev pub entry-at-measure : ℕ → In 2 entry-kinds.ps
-entry-at-measure t = and 2 entry-kinds.ps (is 2 entry-kinds.ps μ-entry t) entry.Pre
-
-abbrev entry-below : ℕ → In 2 entry-kinds.ps
-entry-below t = and 2 entry-kinds.ps (falls 2 entry-kinds.ps _<_ μ-entry t) entry.Pre
+entry-at-measure = at-measure 2 entry-kinds.ps μ-entry entry.Pre
 
 abbrev pub listed-at : ℕ → In 1 listed-kinds.ps
-listed-at t = and 1 listed-kinds.ps (is 1 listed-kinds.ps μ-listed t) listed.Pre
-
-abbrev listed-below : ℕ → In 1 listed-kinds.ps
-listed-below t = and 1 listed-kinds.ps (falls 1 listed-kinds.ps _<_ μ-listed t) listed.Pre
+listed-at = at-measure 1 listed-kinds.ps μ-listed listed.Pre
 
 abbrev pub scores-at : ℕ → In 1 scores-kinds.ps
-scores-at t = and 1 scores-kinds.ps (is 1 scores-kinds.ps μ-scores t) scores.Pre
-
-abbrev scores-below : ℕ → In 1 scores-kinds.ps
-scores-below t = and 1 scores-kinds.ps (falls 1 scores-kinds.ps _<_ μ-scores t) scores.Pre
+scores-at = at-measure 1 scores-kinds.ps μ-scores scores.Pre
 
 -- the functions that each calls
 abbrev pub directory-calls : ℕ → directory-lts.Claims
-directory-calls t = (listed-below t, listed.Post)
+directory-calls t = (below-measure 1 listed-kinds.ps μ-listed listed.Pre t, listed.Post)
 
 abbrev pub entry-calls : ℕ → entry-lts.Claims
 entry-calls t = (
@@ -74,11 +63,11 @@ entry-calls t = (
   answer.Learnt,
   below-block.Asked,
   below-block.Learnt,
-  directory-below t,
+  below-measure 1 directory-kinds.ps μ-directory directory.Pre t,
   directory.Post,
   one-more.Asked,
   one-more.Learnt,
-  scores-below t,
+  below-measure 1 scores-kinds.ps μ-scores scores.Pre t,
   scores.Post,
 )
 
@@ -92,9 +81,9 @@ listed-calls t = (
   judge.Learnt,
   nest-of.Asked,
   nest-of.Learnt,
-  entry-below t,
+  below-measure 2 entry-kinds.ps μ-entry entry.Pre t,
   entry.Post,
 )
 
 abbrev pub scores-calls : ℕ → scores-lts.Claims
-scores-calls t = (score-at.Asked, score-at.Learnt, entry-below t, entry.Post)
+scores-calls t = (score-at.Asked, score-at.Learnt, below-measure 2 entry-kinds.ps μ-entry entry.Pre t, entry.Post)

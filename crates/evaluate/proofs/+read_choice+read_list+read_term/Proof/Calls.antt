@@ -1,8 +1,9 @@
 -- What falls with each call, and what each function asks of those that it calls.
-use Prim.Native.Nat.{ℕ, _+_, _-_, _*_, _<_}
+use Prim.Native.Nat.{ℕ, _+_, _-_, _*_}
 use lib.ListN.{length}
 use borrow.Fn.Kinds.{In}
-use borrow.Fn.PlainCycle.{Measures, is, falls, and}
+use borrow.Fn.PlainCycle.{Measures}
+use Rattle.cycle.proofs.Measured.{at-measure, below-measure}
 use Rattle.evaluate.proofs.read_choice.Reads as choice
 use Rattle.evaluate.proofs.read_choice.Kinds as choice-kinds
 use Rattle.evaluate.proofs.+read_choice+read_list+read_term.Lts-read_choice as choice-lts
@@ -29,41 +30,32 @@ abbrev pub μ-choice : Measures 2 choice-kinds.ps ℕ
 abbrev pub μ-term : Measures 2 term-kinds.ps ℕ
 μ-term κs a = 3 * (length (a .1 .0 .now) + 1 - a .1 .1 .0) + 1
 
--- a function at a measure t, and below it
+-- a function at a measure
 abbrev pub list-at : ℕ → In 2 list-kinds.ps
-list-at t = and 2 list-kinds.ps (is 2 list-kinds.ps μ-list t) list.Pre
-
-abbrev list-below : ℕ → In 2 list-kinds.ps
-list-below t = and 2 list-kinds.ps (falls 2 list-kinds.ps _<_ μ-list t) list.Pre
+list-at = at-measure 2 list-kinds.ps μ-list list.Pre
 
 abbrev pub choice-at : ℕ → In 2 choice-kinds.ps
-choice-at t = and 2 choice-kinds.ps (is 2 choice-kinds.ps μ-choice t) choice.Pre
-
-abbrev choice-below : ℕ → In 2 choice-kinds.ps
-choice-below t = and 2 choice-kinds.ps (falls 2 choice-kinds.ps _<_ μ-choice t) choice.Pre
+choice-at = at-measure 2 choice-kinds.ps μ-choice choice.Pre
 
 abbrev pub term-at : ℕ → In 2 term-kinds.ps
-term-at t = and 2 term-kinds.ps (is 2 term-kinds.ps μ-term t) term.Pre
-
-abbrev term-below : ℕ → In 2 term-kinds.ps
-term-below t = and 2 term-kinds.ps (falls 2 term-kinds.ps _<_ μ-term t) term.Pre
+term-at = at-measure 2 term-kinds.ps μ-term term.Pre
 
 -- the functions that each calls
 abbrev pub list-calls : ℕ → list-lts.Claims
-list-calls t = (choice-below t, choice.Post, next-is.Asked, next-is.Learnt, list-below t, list.Post, either.Asked, either.Learnt)
+list-calls t = (below-measure 2 choice-kinds.ps μ-choice choice.Pre t, choice.Post, next-is.Asked, next-is.Learnt, below-measure 2 list-kinds.ps μ-list list.Pre t, list.Post, either.Asked, either.Learnt)
 
 abbrev pub choice-calls : ℕ → choice-lts.Claims
-choice-calls t = (term-below t, term.Post, next-is.Asked, next-is.Learnt, choice-below t, choice.Post, both.Asked, both.Learnt)
+choice-calls t = (below-measure 2 term-kinds.ps μ-term term.Pre t, term.Post, next-is.Asked, next-is.Learnt, below-measure 2 choice-kinds.ps μ-choice choice.Pre t, choice.Post, both.Asked, both.Learnt)
 
 abbrev pub term-calls : ℕ → term-lts.Claims
 term-calls t = (
   next-is.Asked,
   next-is.Learnt,
-  term-below t,
+  below-measure 2 term-kinds.ps μ-term term.Pre t,
   term.Post,
   negated.Asked,
   negated.Learnt,
-  list-below t,
+  below-measure 2 list-kinds.ps μ-list list.Pre t,
   list.Post,
   closed.Asked,
   closed.Learnt,

@@ -1,0 +1,2 @@
+-- Contracts in a cycle of calls.
+pub mod Measured
