@@ -79,41 +79,47 @@ closed-behind s (Done w n) = go (nextIs closeWord (wordsFrom s n)) refl
     go false q = after-other closeWord (wordsFrom s n) _ _ (another-next closeWord (wordsFrom s n) q)
 closed-behind s Ill = refl
 
--- ---- parts that are joined by a word t: inner is read first, outer is it with all that t joins to it
+-- ---- parts that are joined by a word: inner is read first, outer is it with all that the word joins to it
 
-module _ (s t : Bytes) (op : Value → Value → Value) (inner outer : ℕ → List Bytes → Valued)
-    (step : (f : ℕ) (ws : List Bytes) → outer (suc f) ws ≡ joinStep t op (inner f ws) (outer f)) (at k : ℕ) {r : Read}
-    (R : Reads s at k (λ f. inner f (wordsFrom s at)) r) where
+pub record Joining : Type 0 where
+  pub word : Bytes
+  pub op : Value → Value → Value
+  pub place : ℕ
+  pub inner : ℕ → List Bytes → Valued
+  pub outer : ℕ → List Bytes → Valued
+  pub step : (f : ℕ) (ws : List Bytes) → outer (suc f) ws ≡ joinStep word op (inner f ws) (outer f)
+
+module _ (J : Joining) (s : Bytes) (at : ℕ) {r : Read} (R : Reads s at (J .place) (λ f. J .inner f (wordsFrom s at)) r) where
   -- one step
-  outer-by : (o : Valued) (f : ℕ) → 3 * (length s + 1 - at) + k ≤ f → behind s r ≡ o → outer (suc f) (wordsFrom s at) ≡ joinStep t op o (outer f)
-  outer-by o f h e = step f (wordsFrom s at) ∙ ap (λ (x : Valued). joinStep t op x (outer f)) (sym (R .exact f h) ∙ e)
+  outer-by : (o : Valued) (f : ℕ) → 3 * (length s + 1 - at) + J .place ≤ f → behind s r ≡ o → J .outer (suc f) (wordsFrom s at) ≡ joinStep (J .word) (J .op) o (J .outer f)
+  outer-by o f h e = J .step f (wordsFrom s at) ∙ ap (λ (x : Valued). joinStep (J .word) (J .op) x (J .outer f)) (sym (R .exact f h) ∙ e)
 
-  pub join-ill : r ≡ Ill → Reads s at (suc k) (λ f. outer f (wordsFrom s at)) r
+  pub join-ill : r ≡ Ill → Reads s at (suc (J .place)) (λ f. J .outer f (wordsFrom s at)) r
   join-ill d = record { ahead = R .ahead; exact = go }
     where
-      go : (f : ℕ) → 3 * (length s + 1 - at) + suc k ≤ f → behind s r ≡ outer f (wordsFrom s at)
+      go : (f : ℕ) → 3 * (length s + 1 - at) + suc (J .place) ≤ f → behind s r ≡ J .outer f (wordsFrom s at)
       go zero h = absurd (omega arith)
       go (suc f) h = ap (behind s) d ∙ sym (outer-by none f (omega arith) (ap (behind s) d))
 
   module _ {v : Value} {n : ℕ} (d : r ≡ Done v n) where
-    pub join-alone : nextIs t (wordsFrom s n) ≡ false → Reads s at (suc k) (λ f. outer f (wordsFrom s at)) (Done v n)
+    pub join-alone : nextIs (J .word) (wordsFrom s n) ≡ false → Reads s at (suc (J .place)) (λ f. J .outer f (wordsFrom s at)) (Done v n)
     join-alone q = record { ahead = ahead-done at (R .ahead) d; exact = go }
       where
-        go : (f : ℕ) → 3 * (length s + 1 - at) + suc k ≤ f → some (v, wordsFrom s n) ≡ outer f (wordsFrom s at)
+        go : (f : ℕ) → 3 * (length s + 1 - at) + suc (J .place) ≤ f → some (v, wordsFrom s n) ≡ J .outer f (wordsFrom s at)
         go zero h = absurd (omega arith)
         go (suc f) h =
-            sym (outer-by (some (v, wordsFrom s n)) f (omega arith) (ap (behind s) d) ∙ after-other t (wordsFrom s n) _ _ (another-next t (wordsFrom s n) q))
+            sym (outer-by (some (v, wordsFrom s n)) f (omega arith) (ap (behind s) d) ∙ after-other (J .word) (wordsFrom s n) _ _ (another-next (J .word) (wordsFrom s n) q))
 
-    pub join-more : nextIs t (wordsFrom s n) ≡ true → {m : ℕ} → m ≡ n + (length t + 1) → {r₂ x : Read} → Reads s m (suc k) (λ f. outer f (wordsFrom s m)) r₂
-        → x ≡ joinedBy op v r₂ → Reads s at (suc k) (λ f. outer f (wordsFrom s at)) x
-    join-more q {m} z {r₂} {x} R₂ e = rw e (record { ahead = ahead-joined op v m at (omega (arith, ahead-done at (R .ahead) d)) r₂ (R₂ .ahead); exact = go })
+    pub join-more : nextIs (J .word) (wordsFrom s n) ≡ true → {m : ℕ} → m ≡ n + (length (J .word) + 1) → {r₂ x : Read}
+        → Reads s m (suc (J .place)) (λ f. J .outer f (wordsFrom s m)) r₂ → x ≡ joinedBy (J .op) v r₂ → Reads s at (suc (J .place)) (λ f. J .outer f (wordsFrom s at)) x
+    join-more q {m} z {r₂} {x} R₂ e = rw e (record { ahead = ahead-joined (J .op) v m at (omega (arith, ahead-done at (R .ahead) d)) r₂ (R₂ .ahead); exact = go })
       where
-        go : (f : ℕ) → 3 * (length s + 1 - at) + suc k ≤ f → behind s (joinedBy op v r₂) ≡ outer f (wordsFrom s at)
+        go : (f : ℕ) → 3 * (length s + 1 - at) + suc (J .place) ≤ f → behind s (joinedBy (J .op) v r₂) ≡ J .outer f (wordsFrom s at)
         go zero h = absurd (omega arith)
         go (suc f) h = sym (
             outer-by (some (v, wordsFrom s n)) f (omega arith) (ap (behind s) d)
-            ∙ ap (λ (ws : List Bytes). joinStep t op (some (v, ws)) (outer f)) (next-known s n t q .words)
-            ∙ after-word t (wordsFrom s (n + (length t + 1))) _ _
-            ∙ ap (λ (i : ℕ). on (outer f (wordsFrom s i)) none (λ p. some (op v (p .0), p .1))) (sym z)
-            ∙ ap (λ (o : Valued). on o none (λ p. some (op v (p .0), p .1))) (sym (R₂ .exact f (omega (arith, ahead-done at (R .ahead) d, next-known s n t q .inside))))
-            ∙ joined-behind s op v r₂)
+            ∙ ap (λ (ws : List Bytes). joinStep (J .word) (J .op) (some (v, ws)) (J .outer f)) (next-known s n (J .word) q .words)
+            ∙ after-word (J .word) (wordsFrom s (n + (length (J .word) + 1))) _ _
+            ∙ ap (λ (i : ℕ). on (J .outer f (wordsFrom s i)) none (λ p. some (J .op v (p .0), p .1))) (sym z)
+            ∙ ap (λ (o : Valued). on o none (λ p. some (J .op v (p .0), p .1))) (sym (R₂ .exact f (omega (arith, ahead-done at (R .ahead) d, next-known s n (J .word) q .inside))))
+            ∙ joined-behind s (J .op) v r₂)

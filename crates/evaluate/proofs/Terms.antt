@@ -1,12 +1,11 @@
--- A list and a choice by what stands behind their first part, a term by its first word.
-use mathlib.Core.Path.{_≡_, refl, sym, ap, _∙_}
+-- A list and a choice as parts that a word joins, a term by its first word.
+use mathlib.Core.Path.{_≡_, sym, ap, _∙_}
 use mathlib.Core.Bool.{true, false}
 use mathlib.Core.List.{List, _∷_}
 use Prim.Native.Nat.{ℕ, zero, suc, _+_, _-_, _*_, _≤_}
 use native.Mathlib.Omega.{arith}
 use lib.ListN.{length}
 use Rattle.buffer.specs.Bytes.{Bytes}
-use Rattle.kleene.specs.declared.Value.{Value}
 use Rattle.kleene.specs.Kleene.{andOf, orOf}
 use Rattle.card.specs.Card.{valueIn}
 use Rattle.query.specs.Reading.{orWord, andWord, notWord, openWord}
@@ -16,53 +15,31 @@ use Rattle.query.specs.Value.{valueOf, choiceValue, termValue, Valued, valued}
 use Rattle.query.proofs.Places.{another-next, Next, next-known}
 use Rattle.query.proofs.Fused.{notStep, closeStep, list-step, choice-step, not-step, no-room, open-step, name-step}
 use Rattle.evaluate.specs.declared.Read.{Read}
-use Rattle.evaluate.specs.declared.Read.the-variants.{Done, Ill}
-use Rattle.evaluate.specs.Read.{behind, joinedBy, negatedOf, closedOf, OfList, OfChoice, OfTerm, OfName}
-use Rattle.evaluate.proofs.Steps.{ahead-negated, ahead-closed, negated-behind, closed-behind, join-ill, join-alone, join-more}
+use Rattle.evaluate.specs.declared.Read.the-variants.{Ill}
+use Rattle.evaluate.specs.Read.{behind, negatedOf, closedOf, OfList, OfTerm, OfName}
+use Rattle.evaluate.proofs.Steps.{ahead-negated, ahead-closed, negated-behind, closed-behind, Joining}
 
--- ---- a list, by its first choice
+-- ---- a list of choices, a choice of terms
 
-module _ (card s : Bytes) (at room : ℕ) {r : Read} (R : OfChoice card s at room r) where
-  choices : ℕ → List Bytes → Valued
-  choices f ws = valued (choiceValue (valueIn card)) (choiceAt f room ws)
+abbrev pub list-joins : Bytes → ℕ → Joining
+list-joins card room = record {
+  word = orWord;
+  op = orOf;
+  place = 2;
+  inner = λ f ws. valued (choiceValue (valueIn card)) (choiceAt f room ws);
+  outer = λ f ws. valued (valueOf (valueIn card)) (listAt f room ws);
+  step = λ f ws. list-step (valueIn card) f room ws;
+}
 
-  lists : ℕ → List Bytes → Valued
-  lists f ws = valued (valueOf (valueIn card)) (listAt f room ws)
-
-  pub list-ill : r ≡ Ill → OfList card s at room r
-  unfolding choices lists
-  list-ill = join-ill s orWord orOf choices lists (λ f ws. list-step (valueIn card) f room ws) at 2 R
-
-  pub list-alone : {v : Value} {n : ℕ} → r ≡ Done v n → nextIs orWord (wordsFrom s n) ≡ false → OfList card s at room (Done v n)
-  unfolding choices lists
-  list-alone d = join-alone s orWord orOf choices lists (λ f ws. list-step (valueIn card) f room ws) at 2 R d
-
-  pub list-more : {v : Value} {n : ℕ} → r ≡ Done v n → nextIs orWord (wordsFrom s n) ≡ true → {r₂ x : Read} → OfList card s (n + 3) room r₂ → x ≡ joinedBy orOf v r₂
-      → OfList card s at room x
-  unfolding choices lists
-  list-more d q R₂ = join-more s orWord orOf choices lists (λ f ws. list-step (valueIn card) f room ws) at 2 R d q refl R₂
-
--- ---- a choice, by its first term
-
-module _ (card s : Bytes) (at room : ℕ) {r : Read} (R : OfTerm card s at room r) where
-  terms : ℕ → List Bytes → Valued
-  terms f ws = valued (termValue (valueIn card)) (termAt f room ws)
-
-  chosen : ℕ → List Bytes → Valued
-  chosen f ws = valued (choiceValue (valueIn card)) (choiceAt f room ws)
-
-  pub choice-ill : r ≡ Ill → OfChoice card s at room r
-  unfolding terms chosen
-  choice-ill = join-ill s andWord andOf terms chosen (λ f ws. choice-step (valueIn card) f room ws) at 1 R
-
-  pub choice-alone : {v : Value} {n : ℕ} → r ≡ Done v n → nextIs andWord (wordsFrom s n) ≡ false → OfChoice card s at room (Done v n)
-  unfolding terms chosen
-  choice-alone d = join-alone s andWord andOf terms chosen (λ f ws. choice-step (valueIn card) f room ws) at 1 R d
-
-  pub choice-more : {v : Value} {n : ℕ} → r ≡ Done v n → nextIs andWord (wordsFrom s n) ≡ true → {r₂ x : Read} → OfChoice card s (n + 4) room r₂ → x ≡ joinedBy andOf v r₂
-      → OfChoice card s at room x
-  unfolding terms chosen
-  choice-more d q R₂ = join-more s andWord andOf terms chosen (λ f ws. choice-step (valueIn card) f room ws) at 1 R d q refl R₂
+abbrev pub choice-joins : Bytes → ℕ → Joining
+choice-joins card room = record {
+  word = andWord;
+  op = andOf;
+  place = 1;
+  inner = λ f ws. valued (termValue (valueIn card)) (termAt f room ws);
+  outer = λ f ws. valued (choiceValue (valueIn card)) (choiceAt f room ws);
+  step = λ f ws. choice-step (valueIn card) f room ws;
+}
 
 -- ---- a term, by its first word
 

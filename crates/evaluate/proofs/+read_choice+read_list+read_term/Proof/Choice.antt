@@ -1,25 +1,25 @@
 -- `evaluate::read_choice` meets its contract: by its first term, and by the word behind it.
 use Prim.Native.Nat.{ℕ}
-use mathlib.Core.Path.{sym, _∙_}
+use mathlib.Core.Path.{refl, sym, _∙_}
 use native.Mathlib.Omega.{arith}
 use borrow.Author.Needs.{needs}
 use borrow.Author.Tests.{not-true, not-false}
 use Rattle.query.specs.Reading.{andWord}
 use Rattle.query.proofs.Places.{next-known}
-use Rattle.evaluate.proofs.Steps.{ahead-done}
-use Rattle.evaluate.proofs.Terms.{choice-ill, choice-alone, choice-more}
+use Rattle.evaluate.proofs.Steps.{ahead-done, join-ill, join-alone, join-more}
+use Rattle.evaluate.proofs.Terms.{choice-joins}
 use Rattle.evaluate.proofs.read_choice.Reads.{Post}
 use Rattle.evaluate.proofs.+read_choice+read_list+read_term.Lts-read_choice as lts
 use Rattle.evaluate.proofs.+read_choice+read_list+read_term.Proof.Calls.{choice-at, choice-calls}
 
 module _ (t : ℕ) where
   ill : lts.Need-returns (choice-calls t) (choice-at t) Post
-  ill c = let a = c .before .before .before .before .before .args in choice-ill (a .card .now) (a .text .now) (a .at) (a .room) (c .before .before .read-term .ensures) (c .enum-told .given .1)
+  ill c = let a = c .before .before .before .before .before .args in join-ill (choice-joins (a .card .now) (a .room)) (a .text .now) (a .at) (c .before .before .read-term .ensures) (c .enum-told .given .1)
 
   alone : lts.Need-returns-2 (choice-calls t) (choice-at t) Post
   alone c =
       let a = c .before .before .before .before .before .before .before .before .before .args in
-      choice-alone (a .card .now) (a .text .now) (a .at) (a .room) (c .before .before .before .before .before .before .read-term .ensures) (c .before .before .before .before .term .given .1)
+      join-alone (choice-joins (a .card .now) (a .room)) (a .text .now) (a .at) (c .before .before .before .before .before .before .read-term .ensures) (c .before .before .before .before .term .given .1)
       (sym (c .before .next-is .ensures) ∙ not-true _ (c .if1 .taken))
 
   add-fits : lts.Need-add-read-choice (choice-calls t) (choice-at t) Post
@@ -38,8 +38,8 @@ module _ (t : ℕ) where
   more c =
       let k = c .before .before in
       let a = k .before .before .before .before .before .before .before .before .before .args in
-      choice-more (a .card .now) (a .text .now) (a .at) (a .room) (k .before .before .before .before .before .before .read-term .ensures) (k .before .before .before .before .term .given .1)
-      (sym (k .before .next-is .ensures) ∙ not-false _ (k .if1 .left)) (c .before .read-choice .ensures) (c .both .ensures)
+      join-more (choice-joins (a .card .now) (a .room)) (a .text .now) (a .at) (k .before .before .before .before .before .before .read-term .ensures) (k .before .before .before .before .term .given .1)
+      (sym (k .before .next-is .ensures) ∙ not-false _ (k .if1 .left)) refl (c .before .read-choice .ensures) (c .both .ensures)
 
 pub choice-meets : {M : Type 1} (t : ℕ) → lts.Closed (choice-calls t) (choice-at t) Post M
 choice-meets t =

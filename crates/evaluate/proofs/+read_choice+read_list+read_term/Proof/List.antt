@@ -1,25 +1,25 @@
 -- `evaluate::read_list` meets its contract: by its first choice, and by the word behind it.
 use Prim.Native.Nat.{ℕ}
-use mathlib.Core.Path.{sym, _∙_}
+use mathlib.Core.Path.{refl, sym, _∙_}
 use native.Mathlib.Omega.{arith}
 use borrow.Author.Needs.{needs}
 use borrow.Author.Tests.{not-true, not-false}
 use Rattle.query.specs.Reading.{orWord}
 use Rattle.query.proofs.Places.{next-known}
-use Rattle.evaluate.proofs.Steps.{ahead-done}
-use Rattle.evaluate.proofs.Terms.{list-ill, list-alone, list-more}
+use Rattle.evaluate.proofs.Steps.{ahead-done, join-ill, join-alone, join-more}
+use Rattle.evaluate.proofs.Terms.{list-joins}
 use Rattle.evaluate.proofs.read_list.Reads.{Post}
 use Rattle.evaluate.proofs.+read_choice+read_list+read_term.Lts-read_list as lts
 use Rattle.evaluate.proofs.+read_choice+read_list+read_term.Proof.Calls.{list-at, list-calls}
 
 module _ (t : ℕ) where
   ill : lts.Need-returns (list-calls t) (list-at t) Post
-  ill c = let a = c .before .before .before .before .before .args in list-ill (a .card .now) (a .text .now) (a .at) (a .room) (c .before .before .read-choice .ensures) (c .enum-told .given .1)
+  ill c = let a = c .before .before .before .before .before .args in join-ill (list-joins (a .card .now) (a .room)) (a .text .now) (a .at) (c .before .before .read-choice .ensures) (c .enum-told .given .1)
 
   alone : lts.Need-returns-2 (list-calls t) (list-at t) Post
   alone c =
       let a = c .before .before .before .before .before .before .before .before .before .args in
-      list-alone (a .card .now) (a .text .now) (a .at) (a .room) (c .before .before .before .before .before .before .read-choice .ensures) (c .before .before .before .before .choice .given .1)
+      join-alone (list-joins (a .card .now) (a .room)) (a .text .now) (a .at) (c .before .before .before .before .before .before .read-choice .ensures) (c .before .before .before .before .choice .given .1)
       (sym (c .before .next-is .ensures) ∙ not-true _ (c .if1 .taken))
 
   add-fits : lts.Need-add-read-list (list-calls t) (list-at t) Post
@@ -38,8 +38,8 @@ module _ (t : ℕ) where
   more c =
       let k = c .before .before in
       let a = k .before .before .before .before .before .before .before .before .before .args in
-      list-more (a .card .now) (a .text .now) (a .at) (a .room) (k .before .before .before .before .before .before .read-choice .ensures) (k .before .before .before .before .choice .given .1)
-      (sym (k .before .next-is .ensures) ∙ not-false _ (k .if1 .left)) (c .before .read-list .ensures) (c .either .ensures)
+      join-more (list-joins (a .card .now) (a .room)) (a .text .now) (a .at) (k .before .before .before .before .before .before .read-choice .ensures) (k .before .before .before .before .choice .given .1)
+      (sym (k .before .next-is .ensures) ∙ not-false _ (k .if1 .left)) refl (c .before .read-list .ensures) (c .either .ensures)
 
 pub list-meets : {M : Type 1} (t : ℕ) → lts.Closed (list-calls t) (list-at t) Post M
 list-meets t =
