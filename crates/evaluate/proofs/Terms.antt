@@ -11,7 +11,7 @@ use Rattle.card.specs.Card.{valueIn}
 use Rattle.query.specs.Reading.{orWord, andWord, notWord, openWord}
 use Rattle.query.specs.Grammar.{listAt, choiceAt, termAt}
 use Rattle.query.specs.Place.{wordsFrom, nextIs}
-use Rattle.query.specs.Value.{valueOf, choiceValue, termValue, Valued, valued}
+use Rattle.query.specs.Value.{valueOf, choiceValue, termValue, valued}
 use Rattle.query.proofs.Places.{another-next, Next, next-known}
 use Rattle.query.proofs.Fused.{notStep, closeStep, list-step, choice-step, not-step, no-room, open-step, name-step}
 use Rattle.evaluate.specs.declared.Read.{Read}

@@ -9,11 +9,13 @@ ghost use mathlib.Core.Path.{_≡_};
 ghost use mathlib.Core.Bool.{true};
 ghost use Prim.Native.Nat.{_+_, _*_, _/_, _%_, _≤_, _<_, min};
 ghost use lib.ListN.{length, take};
+ghost use Rattle.buffer.specs.Bytes.{put};
 ghost use Rattle.kind.specs.Kind.{lawful, isPointer, longest};
 ghost use Rattle.block.specs.Block.{partsOf};
 ghost use Rattle.log.specs.Parts.{beside};
 ghost use Rattle.log.specs.Store.{afterStore};
 ghost use Rattle.log.specs.Store.{store as storeOf};
+ghost use Rattle.tree.specs.Tree.{piece};
 ghost use Rattle.cut.specs.Cut.{unitOf, cutLength, wholeUnits};
 ghost use Rattle.entry.specs.Made.{madeEntry};
 ghost use Rattle.writer.specs.Blocks.{cutBlock, level, leaves, scoresOf, scoresAt, pointerBlocks, widthOf, fileBlocks, topOf, topScore};
@@ -73,6 +75,40 @@ fn end_of(stored: Stored) -> End
     }
 }
 
+// Stores piece i of a width of a source as a block of a type, cut.
+fn store_piece(
+    log: &[u8],
+    waiting: &mut [u8],
+    date: &[u8],
+    kind: u8,
+    width: usize,
+    source: &[u8],
+    i: usize,
+) -> Receipt
+    requires { ⌜ (length (now date) ≡ 8) × (lawful kind ≡ true) × (1 ≤ width) × (width ≤ longest) × (length (now source) ≤ 20 * longest) × (i < partsOf width (length (now source))) × (wholeUnits (unitOf kind) (length (piece width i (now source))) ≡ true) ⌝ }
+    ensures { λ r. ⌜ afterStore r (beside (now (log .entry)) (now (waiting .exit))) ≡ storeOf (beside (now (log .entry)) (now (waiting .entry))) (now (date .entry)) kind (cutBlock kind (piece width i (now (source .entry)))) ⌝ }
+{
+    let at = width * i;
+    let to = smaller(at + width, source.len());
+    store_cut(log, waiting, date, kind, &source[at..to])
+}
+
+// How it goes on: the score of a block that was stored goes to place i of the lent buffer.
+fn keep_score(receipt: Receipt, scores: &mut [u8], i: usize) -> End
+    requires { ⌜ (20 * i + 20 ≤ length (now scores)) × (length (receipt .score) ≡ 20) ⌝ }
+    ensures end { λ r. ⌜ r ≡ endOf (receipt .stored) ⌝ }
+    ensures score { λ r. ⌜ (r ≡ Done → now (scores .exit) ≡ put (now (scores .entry)) (20 * i) (receipt .score)) ⌝ }
+{
+    let score = receipt.score;
+    let stored = receipt.stored;
+    let ended = end_of(stored);
+    let End::Done = ended else {
+        return ended;
+    };
+    buffer::copy_at(scores, 20 * i, &score);
+    End::Done
+}
+
 // Stores the leaves of a slice, from the left. Their scores fill the lent buffer.
 fn write_leaves(
     log: &[u8],
@@ -89,16 +125,11 @@ fn write_leaves(
     let count = pieces(dsize, slice.len());
     let mut i: usize = 0;
     while i < count {
-        let at = dsize * i;
-        let to = smaller(at + dsize, slice.len());
-        let receipt = store_cut(log, waiting, date, 13, &slice[at..to]);
-        let score = receipt.score;
-        let stored = receipt.stored;
-        let ended = end_of(stored);
+        let receipt = store_piece(log, waiting, date, 13, dsize, slice, i);
+        let ended = keep_score(receipt, scores, i);
         let End::Done = ended else {
             return ended;
         };
-        buffer::copy_at(scores, 20 * i, &score);
         i += 1;
     }
     End::Done
@@ -121,16 +152,11 @@ fn write_level(
     let count = pieces(width, scores.len());
     let mut i: usize = 0;
     while i < count {
-        let at = width * i;
-        let to = smaller(at + width, scores.len());
-        let receipt = store_cut(log, waiting, date, kind, &scores[at..to]);
-        let score = receipt.score;
-        let stored = receipt.stored;
-        let ended = end_of(stored);
+        let receipt = store_piece(log, waiting, date, kind, width, scores, i);
+        let ended = keep_score(receipt, scores, i);
         let End::Done = ended else {
             return ended;
         };
-        buffer::copy_at(scores, 20 * i, &score);
         i += 1;
     }
     End::Done

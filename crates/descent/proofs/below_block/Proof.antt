@@ -1,5 +1,4 @@
 -- `descent::below_block` meets its contract, case by case.
-use borrow.Author.Needs.{needs}
 use borrow.Author.Tests.{eq-eqb, ne-eqb}
 use Rattle.descent.specs.Parts.{belowOf}
 use Rattle.descent.proofs.below_block.Statement.{statement}

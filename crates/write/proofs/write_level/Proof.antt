@@ -1,22 +1,21 @@
-use mathlib.Core.Path.{_≡_, refl, sym, ap, _∙_}
-use Prim.Native.Nat.{ℕ, _+_, _-_, _*_, _%_, _≤_, _<_, min}
+-- `write::write_level` meets its contract: the pointer blocks of a level one after the other.
+use mathlib.Core.Path.{_≡_, refl, sym, ap, subst, _∙_}
+use Prim.Native.Nat.{ℕ, _+_, _-_, _*_, _≤_, _<_}
 use native.Mathlib.Omega.{arith}
 use lib.ListN.{length, drop}
 use lib.Seq.{drop-drop}
+use borrow.Author.Needs.{needs}
 use Rattle.buffer.specs.Bytes.{Bytes}
 use Rattle.kind.proofs.Types.{pointer-lawful}
 use Rattle.block.specs.Block.{partsOf}
-use Rattle.append.proofs.Images.{part-start}
 use Rattle.log.specs.Parts.{beside}
 use Rattle.log.specs.Store.{store}
 use Rattle.writer.specs.Blocks.{cutBlock}
 use Rattle.writer.proofs.Cutting.{pointers-whole}
-use Rattle.write.proofs.OnePiece.{part-unchanged, piece-whole, score-room}
-use Rattle.write.proofs.Level.{Going, going-start, going-end, going-stopped, going-next, not-done, score-length}
-use borrow.Author.Needs.{needs}
+use Rattle.write.proofs.OnePiece.{piece-unchanged, piece-whole, score-room}
+use Rattle.write.proofs.Level.{refused-not-done, Going, going-start, going-end, Turn, score-length, going-stopped, going-next}
 use Rattle.write.proofs.write_level.Statement.{statement}
 use Rattle.write.proofs.write_level.Tie as tie
-use Rattle.buffer.proofs.Parts.{part-length}
 
 abbrev Inv-loop : tie.InvT-loop
 Inv-loop log waiting₀ date kind width scores₀ count i₀ waiting scores i = Going kind width scores₀ date (beside log waiting₀) (partsOf width (length scores₀)) (beside log waiting) scores i
@@ -25,204 +24,82 @@ Inv-loop log waiting₀ date kind width scores₀ count i₀ waiting scores i = 
 abbrev μ-loop : tie.MeasureT-loop
 μ-loop log waiting₀ date kind width scores₀ count i₀ waiting scores i = count - i
 
--- src/lib.rt:131:9
-pieces-requires : tie.Need-pieces-requires Inv-loop μ-loop
-pieces-requires c κs = search needs
+-- where the function began: one `.before` for each lent slice
+abbrev start : tie.At-loop Inv-loop μ-loop → tie.Start Inv-loop μ-loop
+start l = l .before .before .before .before .before .before
 
--- src/lib.rt:133:5
 loop-holds : tie.Need-loop-holds Inv-loop μ-loop
-loop-holds c = let a = c .before .before .before .before .before .args in
+loop-holds c =
+    let a = c .before .before .before .before .before .args in
     (going-start (a .kind) (a .width) (a .scores .now) (a .date .now) (beside (a .log .now) (a .waiting .now)) (partsOf (a .width) (length (a .scores .now))) (a .scores .now), refl, refl, refl)
 
--- src/lib.rt:134:18
-mul-at : tie.Need-mul-at Inv-loop μ-loop
-mul-at c = let a = c .before .before .before .before .before .before .before .args in
-    let given = c .before .before .before .before .before .before .before .pre in
-    omega (
-      arith,
-      part-start (a .width) (length (a .scores .now)) ((c .before .loop .i)) (omega (arith, (given .2))) (omega (arith, ((c .loop-test .taken)), ((c .before .before .pieces .ensures)))),
-      (given .6),
+-- there is a block left
+one-left : (c : tie.In-loop Inv-loop μ-loop) → let a = start (c .before) .args in c .before .loop .i < partsOf (a .width) (length (a .scores .now))
+one-left c = omega (arith, c .loop-test .taken, c .before .before .pieces .ensures)
+
+store-piece-requires : tie.Need-store-piece-requires Inv-loop μ-loop
+store-piece-requires c κs =
+    let h = c .before .before in
+    let l = h .before in
+    let a = start l .args in
+    let p = start l .pre in (
+      p .0,
+      pointer-lawful (a .kind) (p .1),
+      omega (arith, p .2),
+      p .3,
+      omega (arith, p .6, l .loop .inv .1),
+      subst (λ (n : ℕ). l .loop .i < partsOf (a .width) n) (sym (l .loop .inv .1)) (one-left h),
+      pointers-whole (a .kind) _ (p .1) (piece-whole (a .width) (l .loop .i) (length (a .scores .now)) (p .4) (p .5) (l .loop .scores) (l .loop .inv .1)),
     )
 
--- src/lib.rt:135:26
-add-smaller : tie.Need-add-smaller Inv-loop μ-loop
-add-smaller c = let a = c .before .before .before .before .before .before .before .args in
-    let given = c .before .before .before .before .before .before .before .pre in
-    omega (
-      arith,
-      part-start (a .width) (length (a .scores .now)) ((c .before .loop .i)) (omega (arith, (given .2))) (omega (arith, ((c .loop-test .taken)), ((c .before .before .pieces .ensures)))),
-      (given .3),
-      (given .6),
-    )
+-- it is stored
+turn : (k : tie.After-store-piece Inv-loop μ-loop)
+    → let l = k .before .before .before .before in
+    let a = start l .args in
+    Turn (a .kind) (a .width) (a .scores .now) (a .date .now) (beside (a .log .now) (a .waiting .now)) (partsOf (a .width) (length (a .scores .now))) (beside (a .log .now) (l .loop .waiting))
+    (l .loop .scores) (l .loop .i) (k .store-piece .result) (beside (a .log .now) (k .store-piece .last .1 .0))
+turn k =
+    let l = k .before .before .before .before in
+    let a = start l .args in
+    record {
+      one-left = one-left (k .before .before .before);
+      going = l .loop .inv .0;
+      stored = k .store-piece .ensures
+          ∙ ap (λ (x : Bytes). store (beside (a .log .now) (l .loop .waiting)) (a .date .now) (a .kind) (cutBlock (a .kind) x))
+          (piece-unchanged (a .width) (l .loop .i) (a .scores .now) (l .loop .scores) (start l .pre .2) (l .loop .inv .3));
+    }
 
--- src/lib.rt:135:13
-smaller-requires : tie.Need-smaller-requires Inv-loop μ-loop
-smaller-requires c κs = search needs
+-- its score has room
+room : (c : tie.In-loop Inv-loop μ-loop) → 20 * c .before .loop .i + 20 ≤ length (c .before .loop .scores)
+room c =
+    let s = start (c .before) in
+    omega (arith, score-room (s .args .width) (c .before .loop .i) (length (s .args .scores .now)) (s .pre .4) (s .pre .5) (s .pre .2) (one-left c), c .before .loop .inv .1)
 
--- src/lib.rt:136:59
-sub-store-cut : tie.Need-sub-store-cut Inv-loop μ-loop
-sub-store-cut c = let a = c .before .before .before .before .before .before .before .before .before .args in
-    let turn = c .before .before .before .loop in
-    let pieces = c .before .before .before .before .pieces in
-    let given = c .before .before .before .before .before .before .before .before .before .pre in
-    omega (
-      arith,
-      part-start (a .width) (length (a .scores .now)) (turn .i) (omega (arith, (given .2))) (omega (arith, ((c .before .before .loop-test .taken)), (pieces .ensures))),
-      ((c .before .smaller .ensures)),
-      (turn .inv .1),
-    )
+keep-score-requires : tie.Need-keep-score-requires Inv-loop μ-loop
+keep-score-requires c κs = let k = c .before .before .before in (room (k .before .before .before), score-length (turn k))
 
--- src/lib.rt:136:59
-part-store-cut-start : tie.Need-part-store-cut-start Inv-loop μ-loop
-part-store-cut-start c = let a = c .before .before .before .before .before .before .before .before .before .before .args in
-    let turn = c .before .before .before .before .loop in
-    let loop-test = c .before .before .before .loop-test in
-    let pieces = c .before .before .before .before .before .pieces in
-    let given = c .before .before .before .before .before .before .before .before .before .before .pre in
-    omega (
-      arith,
-      part-start (a .width) (length (a .scores .now)) (turn .i) (omega (arith, (given .2))) (omega (arith, (loop-test .taken), (pieces .ensures))),
-      ((c .before .before .smaller .ensures)),
-      (turn .inv .1),
-    )
+refused : tie.Need-returns Inv-loop μ-loop
+refused c =
+    let w = c .before .before .before .before in
+    (going-stopped (turn (w .before .before .before .before)) (w .keep-score .ensures .0) _ (c .enum-told2 .given .1), refused-not-done _ (c .enum-told2 .given .1))
 
--- src/lib.rt:136:59
-part-store-cut-end : tie.Need-part-store-cut-end Inv-loop μ-loop
-part-store-cut-end c = omega (arith, ((c .before .before .smaller .ensures)))
-
--- src/lib.rt:136:13
-store-cut-requires : tie.Need-store-cut-requires Inv-loop μ-loop
-store-cut-requires c κs = let a = c .before .before .before .before .before .before .before .before .before .before .before .args in
-    let turn = c .before .before .before .before .before .loop in
-    let loop-test = c .before .before .before .before .loop-test in
-    let pieces = c .before .before .before .before .before .before .pieces in
-    let given = c .before .before .before .before .before .before .before .before .before .before .before .pre in
-    let smaller = c .before .before .before .smaller in
-    let st = part-start (a .width) (length (a .scores .now)) (turn .i) (omega (arith, (given .2))) (omega (arith, (loop-test .taken), (pieces .ensures))) in
-    let e = (smaller .ensures) ∙ ap (λ (k : ℕ). min ((a .width) * (turn .i) + (a .width)) k) (turn .inv .1) in
-    let l = part-length (turn .scores) ((a .width) * (turn .i)) (smaller .result) (omega (arith, (smaller .ensures))) in
-    let most : (smaller .result) - (a .width) * (turn .i) ≤ (a .width) = omega (arith, e) in (
-      omega (arith, l, most, (given .3)),
-      (given .0),
-      pointer-lawful (a .kind) (given .1),
-      pointers-whole (a .kind) _ (given .1) (ap (λ (n : ℕ). n % 20) l ∙ piece-whole (a .width) (turn .i) (length (a .scores .now)) (given .4) (given .5) (smaller .result) e),
-    )
-
--- src/lib.rt:139:13
-end-of-requires : tie.Need-end-of-requires Inv-loop μ-loop
-end-of-requires c κs = search needs
-
-enum-told : tie.Need-enum-told Inv-loop μ-loop
-enum-told c = search needs
-
--- src/lib.rt:141:13
-enum-told-2 : tie.Need-enum-told-2 Inv-loop μ-loop
-enum-told-2 c = search needs
-
--- src/lib.rt:141:13
-same-length : tie.Need-same-length Inv-loop μ-loop
-same-length c = search needs
-
--- src/lib.rt:141:13
-same-length-2 : tie.Need-same-length-2 Inv-loop μ-loop
-same-length-2 c = search needs
-
--- src/lib.rt:141:13
-returns : tie.Need-returns Inv-loop μ-loop
-returns c = let a = c .before .before .before .before .before .before .before .before .before .before .before .before .before .before .before .before .before .before .args in
-    let end-of = c .before .before .end-of in
-    let turn = c .before .before .before .before .before .before .before .before .before .before .before .before .loop in
-    let loop-test = c .before .before .before .before .before .before .before .before .before .before .before .loop-test in
-    let pieces = c .before .before .before .before .before .before .before .before .before .before .before .before .before .pieces in
-    let given = c .before .before .before .before .before .before .before .before .before .before .before .before .before .before .before .before .before .before .pre in
-    let smaller = c .before .before .before .before .before .before .before .before .before .before .smaller in
-    let store-cut = c .before .before .before .before .before .before .store-cut in
-    let s = (store-cut .ensures) ∙ ap (λ (x : Bytes). store (beside (a .log .now) (turn .waiting)) (a .date .now) (a .kind) (cutBlock (a .kind) x))
-    (part-unchanged (a .width) (turn .i) (smaller .result) (a .scores .now) (turn .scores) (given .2)
-    ((smaller .ensures) ∙ ap (λ (k : ℕ). min ((a .width) * (turn .i) + (a .width)) k) (turn .inv .1)) (turn .inv .3)) in
-    let lt : (turn .i) < partsOf (a .width) (length (a .scores .now)) = omega (arith, (loop-test .taken), (pieces .ensures)) in (
-      going-stopped (a .kind) (a .width) (a .scores .now) (a .date .now) (beside (a .log .now) (a .waiting .now)) _ (beside (a .log .now) (turn .waiting)) (turn .scores) (turn .i) lt (turn .inv .0) _
-          _ s _ (end-of .ensures) _ ((c .enum-told2 .given .1)),
-      λ q. not-done (a .kind) (a .width) (a .scores .now) (a .date .now) (beside (a .log .now) (a .waiting .now)) _ (beside (a .log .now) (turn .waiting)) (turn .scores) (turn .i) lt (turn .inv .0) _
-          _ s _ (end-of .ensures) _ ((c .enum-told2 .given .1)) q,
-    )
-
--- src/lib.rt:143:33
-mul-copy-at : tie.Need-mul-copy-at Inv-loop μ-loop
-mul-copy-at c = let a = c .before .before .before .before .before .before .before .before .before .before .before .before .before .before .before .before .before .before .before .args in
-    let turn = c .before .before .before .before .before .before .before .before .before .before .before .before .before .loop in
-    let loop-test = c .before .before .before .before .before .before .before .before .before .before .before .before .loop-test in
-    let pieces = c .before .before .before .before .before .before .before .before .before .before .before .before .before .before .pieces in
-    let given = c .before .before .before .before .before .before .before .before .before .before .before .before .before .before .before .before .before .before .before .pre in
-    omega (arith, score-room (a .width) (turn .i) (length (a .scores .now)) (given .4) (given .5) (given .2) (omega (arith, (loop-test .taken), (pieces .ensures))), (given .6))
-
--- src/lib.rt:143:41
-slice-aggregate-copy-at : tie.Need-slice-aggregate-copy-at Inv-loop μ-loop
-slice-aggregate-copy-at c = search needs
-
--- src/lib.rt:143:9
-copy-at-requires : tie.Need-copy-at-requires Inv-loop μ-loop
-copy-at-requires c κs = let a = c .before .before .before .before .before .before .before .before .before .before .before .before .before .before .before .before .before .before .before .before .args
-    in
-    let end-of = c .before .before .before .before .end-of in
-    let turn = c .before .before .before .before .before .before .before .before .before .before .before .before .before .before .loop in
-    let loop-test = c .before .before .before .before .before .before .before .before .before .before .before .before .before .loop-test in
-    let pieces = c .before .before .before .before .before .before .before .before .before .before .before .before .before .before .before .pieces in
-    let given = c .before .before .before .before .before .before .before .before .before .before .before .before .before .before .before .before .before .before .before .before .pre in
-    let smaller = c .before .before .before .before .before .before .before .before .before .before .before .before .smaller in
-    let store-cut = c .before .before .before .before .before .before .before .before .store-cut in
-    let s = (store-cut .ensures) ∙ ap (λ (x : Bytes). store (beside (a .log .now) (turn .waiting)) (a .date .now) (a .kind) (cutBlock (a .kind) x))
-    (part-unchanged (a .width) (turn .i) (smaller .result) (a .scores .now) (turn .scores) (given .2)
-    ((smaller .ensures) ∙ ap (λ (k : ℕ). min ((a .width) * (turn .i) + (a .width)) k) (turn .inv .1)) (turn .inv .3)) in
-    let lt : (turn .i) < partsOf (a .width) (length (a .scores .now)) = omega (arith, (loop-test .taken), (pieces .ensures)) in
-    let l = score-length (a .kind) (a .width) (a .scores .now) (a .date .now) (beside (a .log .now) (a .waiting .now)) _ (beside (a .log .now) (turn .waiting)) (turn .scores) (turn .i) lt
-    (turn .inv .0) _ _ s _ (end-of .ensures) in
-    omega (arith, score-room (a .width) (turn .i) (length (a .scores .now)) (given .4) (given .5) (given .2) lt, (turn .inv .1), l)
-
--- src/lib.rt:144:9
-add-i : tie.Need-add-i Inv-loop μ-loop
-add-i c = search needs
-
--- src/lib.rt:133:5
-loop-less : tie.Need-loop-less Inv-loop μ-loop
-loop-less c = search needs
-
--- src/lib.rt:133:5
 loop-again : tie.Need-loop-again Inv-loop μ-loop
-loop-again c = let a = c .before .before .before .before .before .before .before .before .before .before .before .before .before .before .before .before .before .before .before .before .before .before .before .args in
-    let end-of = c .before .before .before .before .before .before .before .end-of in
-    let enum-told-here = c .before .before .before .before .before .enum-told in
-    let turn = c .before .before .before .before .before .before .before .before .before .before .before .before .before .before .before .before .before .loop in
-    let loop-test = c .before .before .before .before .before .before .before .before .before .before .before .before .before .before .before .before .loop-test in
-    let pieces = c .before .before .before .before .before .before .before .before .before .before .before .before .before .before .before .before .before .before .pieces in
-    let given = c .before .before .before .before .before .before .before .before .before .before .before .before .before .before .before .before .before .before .before .before .before .before .before .pre in
-    let smaller = c .before .before .before .before .before .before .before .before .before .before .before .before .before .before .before .smaller in
-    let store-cut = c .before .before .before .before .before .before .before .before .before .before .before .store-cut in
-    let s = (store-cut .ensures) ∙ ap (λ (x : Bytes). store (beside (a .log .now) (turn .waiting)) (a .date .now) (a .kind) (cutBlock (a .kind) x))
-    (part-unchanged (a .width) (turn .i) (smaller .result) (a .scores .now) (turn .scores) (given .2)
-    ((smaller .ensures) ∙ ap (λ (k : ℕ). min ((a .width) * (turn .i) + (a .width)) k) (turn .inv .1)) (turn .inv .3)) in
-    let lt : (turn .i) < partsOf (a .width) (length (a .scores .now)) = omega (arith, (loop-test .taken), (pieces .ensures)) in
-    let room : 20 * (turn .i) + 20 ≤ length (turn .scores) = omega (arith, score-room (a .width) (turn .i) (length (a .scores .now)) (given .4) (given .5) (given .2) lt, (turn .inv .1)) in
-    let g = going-next (a .kind) (a .width) (a .scores .now) (a .date .now) (beside (a .log .now) (a .waiting .now)) _ (beside (a .log .now) (turn .waiting)) (turn .scores) (turn .i) lt
-    (turn .inv .0) _ _ s _ (end-of .ensures) (enum-told-here .given .1) _ ((c .before .before .copy-at .ensures)) room in
-    let step : 20 * ((turn .i) + 1) ≡ 20 * (turn .i) + 20 = omega arith in
-    let behind : (x : Bytes) → drop (20 * ((turn .i) + 1)) x ≡ drop 20 (drop (20 * (turn .i)) x) = λ x. ap (λ (k : ℕ). drop k x) step ∙ sym (drop-drop 20 (20 * (turn .i)) x) in
-    (g .0, search needs, search needs, g .1 ∙ behind (turn .scores) ∙ ap (drop 20) (turn .inv .3) ∙ sym (behind (a .scores .now)))
+loop-again c =
+    let w = c .before .before .before .before in
+    let k = w .before .before .before .before in
+    let l = k .before .before .before .before in
+    let d = c .enum-told .given .1 in
+    let g = going-next (turn k) (w .keep-score .ensures .0) d (w .keep-score .ensures .1 d) (room (k .before .before .before)) in
+    let step : 20 * (l .loop .i + 1) ≡ 20 * l .loop .i + 20 = omega arith in
+    let behind : (x : Bytes) → drop (20 * (l .loop .i + 1)) x ≡ drop 20 (drop (20 * l .loop .i) x) = λ x. ap (λ (m : ℕ). drop m x) step ∙ sym (drop-drop 20 (20 * l .loop .i) x) in
+    (g .0, search needs, search needs, g .1 ∙ behind (l .loop .scores) ∙ ap (drop 20) (l .loop .inv .3) ∙ sym (behind (start l .args .scores .now)))
 
--- src/lib.rt:119:1
-same-length-3 : tie.Need-same-length-3 Inv-loop μ-loop
-same-length-3 c = search needs
-
--- src/lib.rt:119:1
-same-length-4 : tie.Need-same-length-4 Inv-loop μ-loop
-same-length-4 c = search needs
-
--- src/lib.rt:119:1
-returns-2 : tie.Need-returns-2 Inv-loop μ-loop
-returns-2 c = let a = c .before .before .before .before .before .before .before .args in
+ended : tie.Need-returns-2 Inv-loop μ-loop
+ended c =
+    let a = start (c .before) .args in
     let turn = c .before .loop in
     let g = going-end (a .kind) (a .width) (a .scores .now) (a .date .now) (beside (a .log .now) (a .waiting .now)) (partsOf (a .width) (length (a .scores .now)))
-    (beside (a .log .now) (turn .waiting)) (turn .scores) (turn .i) (omega (arith, ((c .loop-test .left)), ((c .before .before .pieces .ensures)))) (turn .inv .0) in
+    (beside (a .log .now) (turn .waiting)) (turn .scores) (turn .i) (omega (arith, c .loop-test .left, c .before .before .pieces .ensures)) (turn .inv .0) in
     (g .0, λ _. g .1)
 
 pub write-level-spec : {M : Type 1} → statement M
@@ -231,27 +108,18 @@ write-level-spec =
     (tie.spec
     Inv-loop
     μ-loop
-    pieces-requires
+    (λ c κs. search needs)  -- pieces-requires
     loop-holds
-    mul-at
-    add-smaller
-    smaller-requires
-    sub-store-cut
-    part-store-cut-start
-    part-store-cut-end
-    store-cut-requires
-    end-of-requires
-    enum-told
-    enum-told-2
-    same-length
-    same-length-2
-    returns
-    mul-copy-at
-    slice-aggregate-copy-at
-    copy-at-requires
-    add-i
-    loop-less
+    store-piece-requires
+    keep-score-requires
+    (λ c. search needs)  -- enum-told
+    (λ c. search needs)  -- enum-told-2
+    (λ c. search needs)  -- same-length
+    (λ c. search needs)  -- same-length-2
+    refused
+    (λ c. search needs)  -- add-i
+    (λ c. search needs)  -- loop-less
     loop-again
-    same-length-3
-    same-length-4
-    returns-2)
+    (λ c. search needs)  -- same-length-3
+    (λ c. search needs)  -- same-length-4
+    ended)
