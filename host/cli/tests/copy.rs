@@ -332,12 +332,6 @@ fn several_rounds() {
     assert_eq!(listed(&place, "log2").len(), 5);
 }
 
-/// The first 320 bytes of the two files with one SHA-1, published in 2017.
-fn collision() -> [Vec<u8>; 2] {
-    let mut lines = include_str!("common/collision.txt").lines();
-    [0, 1].map(|_| saved::unhex(lines.next().expect("two lines")))
-}
-
 /// A block of the same score with other bytes in the second log: 15 there, and --all goes on with the rest,
 /// but is not done.
 #[test]

@@ -338,3 +338,29 @@ fn a_reader_follows() {
     assert_eq!(reader.end().0, 0);
     assert_eq!(writer.end().0, 0);
 }
+
+/// Two sound blocks of one score, as the archive would never store them: `get` answers as a server does that has
+/// the same index, with the block that the index leads to, and without one with the first.
+#[test]
+fn get_where_blocks_clash() {
+    let [one, other] = collision();
+    let place = Place::with_log(8);
+    let name = place.put(b"filler");
+    assert_ne!(place.put(&other), name);
+    let second = (place.file("log"), place.file("log.index"));
+    let place = Place::with_log(8);
+    let name = place.put(&one);
+    assert_eq!(name, score(&other));
+    let first = place.file("log.index");
+    place.damage(|log| log[SECTOR..2 * SECTOR].copy_from_slice(&second.0[SECTOR..2 * SECTOR]));
+    place.write("log.mark", mark(8, 2));
+    for (index, expected) in [(&first, &one), (&second.1, &other)] {
+        place.write("log.index", index);
+        assert!(place.get(&name).with(0).out == *expected);
+        let mut server = place.greeted(&["--read-only"]);
+        assert!(server.ask(&read_message(7, &one)) == message(13, 7, expected));
+        server.end();
+    }
+    fs::remove_file(place.path("log.index")).unwrap();
+    assert!(place.get(&name).with(0).out == one);
+}

@@ -398,6 +398,12 @@ pub fn block(seed: usize, length: usize) -> Vec<u8> {
     (0..length).map(|_| next()).collect()
 }
 
+/// The first 320 bytes of the two files with one SHA-1, published in 2017.
+pub fn collision() -> [Vec<u8>; 2] {
+    let mut lines = include_str!("collision.txt").lines();
+    [0, 1].map(|_| saved::unhex(lines.next().expect("two lines")))
+}
+
 /// A mark's file: its lines at the front and at byte 4,096.
 pub fn mark(sectors: usize, used: usize) -> String {
     let lines = mark_lines(sectors, used);
