@@ -113,7 +113,8 @@ unfolding visitLast
 stood log nest left role count score B d =
     last-by role count score (ltb 16 nest) (eqb left 0) (held log (typeOf role) score) (absence log) B (λ p. p .answer .end ≡ Done → Stood log left role score B (p .visits))
     (λ n y d. not-done y d)
-    (λ r F d. itself-there r (eqb-false left 0 (F .not-spent)) (F .passes .row-held) (B (r .bytes) .answer .end) (map (later 1) (B (r .bytes) .visits)) _ refl (under-later 1 (B (r .bytes) .visits)) d) d
+    (λ r F d. itself-there r (eqb-false left 0 (F .not-spent)) (F .passes .row-held) (B (r .bytes) .answer .end) (map (later 1) (B (r .bytes) .visits)) _ refl (under-later 1 (B
+    (r .bytes) .visits)) d) d
   where
     itself-there : (r : Row) → (left ≡ 0 → ⊥) → held log (typeOf role) score ≡ some r → (e : End) (vs : List Visit) (n : ℕ) → B (r .bytes) .answer .end ≡ e
         → let k : ℕ → PostOrder = λ m. postOrder (record { role = role; score = score; bytes = r .bytes; spent = m } ∷ []) (walked m Done) in

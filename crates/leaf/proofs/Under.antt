@@ -14,7 +14,8 @@ use Rattle.leaf.specs.declared.Extent.{Extent}
 use Rattle.leaf.specs.declared.Extent.the-variants.{Refused}
 use Rattle.leaf.specs.Leaf.{zeroRun, leafRun, fetched, under}
 
-module _ (log : Bytes) (page : ℕ) (e : Entry) (offset : ℕ) (P : Extent → Type 0) (missing : P (Refused (absence log))) (long : P (Refused OverCount)) (uneven : P (Refused Pointers)) (zeros : P (zeroRun page e offset))
+module _ (log : Bytes) (page : ℕ) (e : Entry) (offset : ℕ) (P : Extent → Type 0) (missing : P (Refused (absence log))) (long : P (Refused OverCount)) (uneven : P (Refused Pointers))
+    (zeros : P (zeroRun page e offset))
     (leaf : (r : Row) → Stands log r → P (leafRun page e offset (placeOf r))) where
   fetched-ind : (t : ℕ) (s : Bytes) (count : ℕ) (f : Row → Extent) → ((r : Row) → Stands log r → P (f r)) → P (fetched log t s count f)
   fetched-ind t s count f g =

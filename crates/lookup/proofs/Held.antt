@@ -30,7 +30,13 @@ pub record Stands (log : Bytes) (r : Row) : Type 0 where
 pub sound-stands : (log : Bytes) (r : Row) → sound log (r .first) ≡ some r → Stands log r
 sound-stands log r e =
     let p = sound-reads log (r .first) r e in
-    record { bytes-there = sound-bytes log (r .first) r e; in-used = sound-used log (r .first) r e; within = inside r (p .0) (sectors (length log)) (omega (arith, p .2)); not-many = (valid-facts r (p .0)) .not-many }
+    record {
+      bytes-there = sound-bytes log (r .first) r e;
+      in-used = sound-used log (r .first) r e;
+      within = inside r (p .0) (sectors (length log)) (omega (arith, p .2));
+      not-many =
+          (valid-facts r (p .0)) .not-many;
+    }
 
 pub empty-stands : (log : Bytes) (t : ℕ) → Stands log (emptyRow t)
 unfolding partsOf

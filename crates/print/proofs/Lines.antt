@@ -115,6 +115,7 @@ text-written d d₁ d₂ d₃ d₄ d₅ count end s a b c e r h w₁ w₂ w₃ w
     let k₂ = line-short usedName end (h .2) in
     let k₃ = line-short recordsName (s .records) (h .3) in
     let k₄ = line-short doubtfulName (s .doubtful) (h .4) in
-    let w = wrote-five-lines d d₁ d₂ d₃ d₄ d₅ (line sectorsName (decimal count)) (line usedName (decimal end)) (line recordsName (decimal (s .records))) (line doubtfulName (decimal (s .doubtful))) (line verdictName (verdict (s .doubtful))) a b c e r
+    let w = wrote-five-lines d d₁ d₂ d₃ d₄ d₅ (line sectorsName (decimal count)) (line usedName (decimal end)) (line recordsName (decimal (s .records))) (line doubtfulName (decimal
+    (s .doubtful))) (line verdictName (verdict (s .doubtful))) a b c e r
     (omega (arith, verdict-length (s .doubtful))) w₁ w₂ w₃ w₄ w₅ in
     (w .0, w .1 ∙ zero-add (length (textOf count end s)))

@@ -100,7 +100,8 @@ find-nowhere log n t s a b inv =
     ap placed (sym (ap (λ (x : ℕ). firstOf t s (foundFrom (sound log) x n)) z) ∙ inv)
 
 -- what look-up finds
-pub held-zero : (log : Bytes) (t : ℕ) (s : Bytes) (a b : Bool) → a ≡ lawful t → a ≡ true → b ≡ same s zeroScore → b ≡ true → At (record { first = record { 0 = 0 }; size = 0; label = 96 }) ≡ placed (held log t s)
+pub held-zero : (log : Bytes) (t : ℕ) (s : Bytes) (a b : Bool) → a ≡ lawful t → a ≡ true → b ≡ same s zeroScore → b ≡ true → At
+    (record { first = record { 0 = 0 }; size = 0; label = 96 }) ≡ placed (held log t s)
 unfolding held
 held-zero log t s a b p q u v = rw (sym p ∙ q, sym u ∙ v)
 

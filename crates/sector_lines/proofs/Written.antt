@@ -192,7 +192,8 @@ module _ (d d₀ yl d₂ ys d₄ front lines piece : Bytes) (crc : ℕ) (h : len
     three =
         put-mid d₂ ys end 499 (omega arith) (omega (arith, ap length zeroed, length-replicate {A = ℕ} (499 - end) 0))
         ∙ ap₂ (λ (x y : Bytes). put x end y) two zeroed
-        ∙ put-next d 0 end (label ++ piece) (replicate (499 - end) 0) (omega (arith, length-append label piece, length-whole-label)) (omega (arith, length-append label piece, length-whole-label, length-replicate {A = ℕ} (499 - end) 0))
+        ∙ put-next d 0 end (label ++ piece) (replicate (499 - end) 0) (omega (arith, length-append label piece, length-whole-label)) (omega
+        (arith, length-append label piece, length-whole-label, length-replicate {A = ℕ} (499 - end) 0))
         ∙ ap (put d 0) whole
 
     pub length-three : length d₃ ≡ 512

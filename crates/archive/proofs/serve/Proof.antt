@@ -168,15 +168,17 @@ same-length-5 : tie.Need-same-length-5
 same-length-5 c = search needs
 
 returns-8 : tie.Need-returns-8
-returns-8 c = let are-allowed = c .before .before .before .before .before .before .before .before .before .before .before .before .before .before .before .before .before .before .are-allowed in
-    let args = c .before .before .before .before .before .before .before .before .before .before .before .before .before .before .before .before .before .before .before .before .before .before .before .before .before .before .before .before .args in
-    let enum-told3 = c .before .before .before .before .before .before .before .before .before .before .before .before .before .before .before .enum-told3 in
-    let if1 = c .before .before .before .before .before .before .before .before .before .before .before .before .before .before .before .before .before .before .before .before .if1 in
-    let if2 = c .before .before .before .before .before .before .before .before .before .before .before .before .before .before .before .before .before .before .before .if2 in
-    let if3 = c .before .before .before .before .before .before .before .before .before .before .before .before .before .before .before .before .before .if3 in
-    let if5 = c .before .before .before .before .before .before .before .before .before .before .before .before .before .if5 in
-    let is-date2 = c .before .before .before .before .before .before .before .before .before .before .before .before .before .before .is-date2 in
-    let is-framed = c .before .before .before .before .before .before .before .before .before .before .before .before .before .before .before .before .before .before .before .before .before .is-framed in
+returns-8 c =
+    let u = c .before .before .before .before .before .before .before .before .before .before in
+    let are-allowed = u .before .before .before .before .before .before .before .before .are-allowed in
+    let args = u .before .before .before .before .before .before .before .before .before .before .before .before .before .before .before .before .before .before .args in
+    let enum-told3 = u .before .before .before .before .before .enum-told3 in
+    let if1 = u .before .before .before .before .before .before .before .before .before .before .if1 in
+    let if2 = u .before .before .before .before .before .before .before .before .before .if2 in
+    let if3 = u .before .before .before .before .before .before .before .if3 in
+    let if5 = u .before .before .before .if5 in
+    let is-date2 = u .before .before .before .before .is-date2 in
+    let is-framed = u .before .before .before .before .before .before .before .before .before .before .before .is-framed in
     let serve-greeted = c .before .before .before .before .before .before .before .before .serve-greeted in
     let a = args in
     let L = beside (a .log .now) (a .waiting .now) in

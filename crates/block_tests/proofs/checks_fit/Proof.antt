@@ -43,8 +43,12 @@ has-check-requires : tie.Need-has-check-requires Inv-loop μ-loop
 has-check-requires c κs =
     let a = c .before .before .before .before .before .before .before .before .before .args in
     let log = joined (a .end .0) (a .log .now) (a .waiting .now) in
-    let l = c .before .before .before .before .loop in
-    (c .before .before .before .before .before .before .low .ensures, c .before .before .before .before .before .high .ensures, ap length (c .before .before .sector-at .ensures) ∙ length-at log (l .n))
+    let l = c .before .before .before .before .loop in (
+      c .before .before .before .before .before .before .low .ensures,
+      c .before .before .before .before .before .high .ensures,
+      ap length (c .before .before .sector-at .ensures)
+          ∙ length-at log (l .n),
+    )
 
 returns : tie.Need-returns Inv-loop μ-loop
 unfolding checked

@@ -185,9 +185,11 @@ same-length-15 c = search needs
 
 returns-8 : tie.Need-returns-8
 unfolding greetedBy greeted
-returns-8 c = let args = c .before .before .before .before .before .before .before .before .before .before .before .before .before .before .before .before .before .before .before .before .before .before .args in
-    let parse = c .before .before .before .before .before .before .before .before .before .before .before .before .before .before .parse in
-    let request2 = c .before .before .before .before .before .before .before .before .before .before .before .before .request2 in
+returns-8 c =
+    let u = c .before .before .before .before .before .before .before .before .before .before in
+    let args = u .before .before .before .before .before .before .before .before .before .before .before .before .args in
+    let parse = u .before .before .before .before .parse in
+    let request2 = u .before .before .request2 in
     let serve-write = c .before .before .before .before .before .before .serve-write in
     let a = args in
     greeted-as _ (a .date .now) (a .index .now) (beside (a .log .now) (a .waiting .now)) _ _ _ _ _ (parse .ensures) (request2 .given .1) refl

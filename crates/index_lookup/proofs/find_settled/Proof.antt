@@ -57,7 +57,8 @@ returns-3 c =
     let n = c .before .before .before .before .sector-at .result .0 in
     let more = c .before .before .before .before .before .before .before .if2 .taken in
     let told =
-    tell-here (a .index .now) (a .kind) (a .score .now) n (l .p) (b .result .to) more (l .inv .1 n) _ (c .before .before .before .before .before .before .names .ensures) n (c .before .before .before .before .before .if3 .taken) (c .before .before .before .before .sector-at .ensures) in
+    tell-here (a .index .now) (a .kind) (a .score .now) n (l .p) (b .result .to) more (l .inv .1 n) _ (c .before .before .before .before .before .before .names .ensures) n
+    (c .before .before .before .before .before .if3 .taken) (c .before .before .before .before .sector-at .ensures) in
     told-settled (a .log .now) (a .index .now) (a .kind) (a .score .now) _ (u .before .before .is-zero-score .ensures) (u .before .if1 .left) n (sym told ∙ eq-eqb n n refl) _ (c .sound-as .ensures)
 
 add-p : tie.Need-add-p Inv-loop μ-loop
@@ -87,7 +88,8 @@ returns-4 c =
     let b = c .before .before .before .before .before .bucket-of in
     let ends = c .before .before .if2 .left in
     let zero = sym (c .before .before .before .before .before .before .before .is-zero-score .ensures) ∙ c .before .before .before .before .before .before .if1 .left in
-    scanned-settled (a .log .now) (a .index .now) (a .kind) (a .score .now) zero (λ n. sym (tell-ends (a .index .now) (a .kind) (a .score .now) n (l .p) (b .result .to) ends (l .inv .1 n))) _ (c .find-held .ensures)
+    scanned-settled (a .log .now) (a .index .now) (a .kind) (a .score .now) zero (λ n. sym (tell-ends (a .index .now) (a .kind) (a .score .now) n (l .p) (b .result .to) ends
+    (l .inv .1 n))) _ (c .find-held .ensures)
 
 pub find-settled-spec : {M : Type 1} → statement M
 find-settled-spec =

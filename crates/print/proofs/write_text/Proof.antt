@@ -67,12 +67,14 @@ same-length : tie.Need-same-length
 same-length c = search needs
 
 returns : tie.Need-returns
-returns c = let write-line = c .before .before .before .before .before .before .before .before .before .before .before .before .before .before .before .before .before .before .before .before .before .write-line in
-    let write-line2 = c .before .before .before .before .before .before .before .before .before .before .before .before .before .before .before .before .write-line2 in
-    let write-line3 = c .before .before .before .before .before .before .before .before .before .before .before .write-line3 in
+returns c =
+    let u = c .before .before .before .before .before .before .before .before .before .before in
+    let write-line = u .before .before .before .before .before .before .before .before .before .before .before .write-line in
+    let write-line2 = u .before .before .before .before .before .before .write-line2 in
+    let write-line3 = u .before .write-line3 in
     let write-line4 = c .before .before .before .before .before .before .write-line4 in
     let write-verdict = c .before .before .write-verdict in
-    let s = c .before .before .before .before .before .before .before .before .before .before .before .before .before .before .before .before .before .before .before .before .before .before .before .before .before in
+    let s = u .before .before .before .before .before .before .before .before .before .before .before .before .before .before .before in
     text-written (s .args .d .now) _ _ _ _ _ (s .args .count) (s .args .end) (s .args .s) _ _ _ _ _ (s .pre)
     (write-line .ensures)
     (write-line2 .ensures)

@@ -12,7 +12,8 @@ serve-requires c κs = search needs
 
 write-known-requires : tie.Need-write-known-requires
 write-known-requires c κs =
-    let start = c .before .before .before .before .before .before .before .before .before .before .before .before .before .before .before .before .before .before .before .before .before .before .before .before in
+    let u = c .before .before .before .before .before .before .before .before .before .before in
+    let start = u .before .before .before .before .before .before .before .before .before .before .before .before .before .before in
     start .pre
 
 same-length : tie.Need-same-length

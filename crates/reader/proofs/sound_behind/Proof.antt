@@ -220,8 +220,15 @@ rest-is-zero-requires c κs =
     let a = start .args in
     let q = start .pre in
     let log = joined (a .end .0) (a .log .now) (a .waiting .now) in
-    let short : length (a .front .now) + 96 < 499 = omega (arith, ap length (q .2), front-most (at log (a .first .0))) in
-    (q .0, omega (arith, c .before .before .before .before .before .before .before .before .before .before .before .before .before .before .before .if1 .left), (omega (arith, c .before .before .before .before .before .before .before .before .before .before .before .parts-of .ensures), short))
+    let short : length (a .front .now) + 96 < 499 = omega (arith, ap length (q .2), front-most (at log (a .first .0))) in (
+      q .0,
+      omega (arith, c .before .before .before .before .before .before .before .before .before .before .before .before .before .before .before .if1 .left),
+      (
+        omega
+            (arith, c .before .before .before .before .before .before .before .before .before .before .before .parts-of .ensures),
+        short,
+      ),
+    )
 
 returns-9 : tie.Need-returns-9
 returns-9 c =
@@ -267,7 +274,8 @@ returns-10 c =
     let number-at = u .before .before .before .before .before .before .before .before .before .before .before .before .number-at in
     let size = number-at .result in
     let label = ap (λ (x : Bytes). length x + 96) (q .2) in
-    let sized = number-value _ size (number-at .ensures ∙ ap numberOf (field-at s k 44 4 (ap length (q .2)))) (u .before .before .before .before .before .before .before .before .before .before .before .if1 .left) in
+    let sized = number-value _ size (number-at .ensures ∙ ap numberOf (field-at s k 44 4 (ap length (q .2))))
+    (u .before .before .before .before .before .before .before .before .before .before .before .if1 .left) in
     unsound log (a .first .0) (a .kind) (a .score .now) (k + 96) size 9 label sized
     (ap (λ (x : Bytes). same x (a .score .now)) (sym (c .before .before .before .digest .ensures)) ∙ sym (c .before .equal .ensures) ∙ not-true _ (c .if10 .taken))
 
@@ -283,7 +291,8 @@ returns-11 c =
     let number-at = u .before .before .before .before .before .before .before .before .before .before .before .before .number-at in
     let size = number-at .result in
     let label = ap (λ (x : Bytes). length x + 96) (q .2) in
-    let sized = number-value _ size (number-at .ensures ∙ ap numberOf (field-at s k 44 4 (ap length (q .2)))) (u .before .before .before .before .before .before .before .before .before .before .before .if1 .left) in
+    let sized = number-value _ size (number-at .ensures ∙ ap numberOf (field-at s k 44 4 (ap length (q .2))))
+    (u .before .before .before .before .before .before .before .before .before .before .before .if1 .left) in
     let known = u .before .before .before .before .before .before .before .before .before .before .before .before .before .before .before .before .shared-slice-known in
     let known2 = u .before .before .before .before .before .before .before .before .before .before .before .before .before .before .before .shared-slice-known2 in
     let parts-of = u .before .before .before .before .before .before .before .parts-of in

@@ -30,7 +30,8 @@ answer-settled-requires c κs =
     let start = u .before .before .before .before in
     let a = start .args in
     let place = c .before .before .before .place .given in
-    let w = settled-within (a .kind) (c .before .before .before .before .before .before .score-of .result .now) (a .index .now) (a .log .now) _ (c .before .before .before .before .before .find-settled .ensures _ (place .1)) in
+    let w = settled-within (a .kind) (c .before .before .before .before .before .before .score-of .result .now) (a .index .now) (a .log .now) _
+    (c .before .before .before .before .before .find-settled .ensures _ (place .1)) in
     (w .0, w .1, start .pre .1)
 
 same-length : tie.Need-same-length
@@ -46,7 +47,8 @@ returns c =
     let told = c .before .before .answer-settled .ensures (a .waiting .now) in
     let found = c .before .before .before .before .before .before .before .before .find-settled .ensures _ (place .1) in
     read-as (a .message .now) (a .index .now) (beside (a .log .now) (a .waiting .now)) _ _ (tag .ensures) (a .kind) (a .count) _ _ (score .ensures)
-    (read-settled (a .kind) (score .result .now) (a .index .now) (a .log .now) _ found (a .count) _ (a .waiting .now) _ _ (u .before .is-lawful .ensures) (c .before .before .before .before .before .before .before .before .before .before .if1 .taken) _ told)
+    (read-settled (a .kind) (score .result .now) (a .index .now) (a .log .now) _ found (a .count) _ (a .waiting .now) _ _ (u .before .is-lawful .ensures)
+    (c .before .before .before .before .before .before .before .before .before .before .if1 .taken) _ told)
 
 enum-told : tie.Need-enum-told
 enum-told c = search needs

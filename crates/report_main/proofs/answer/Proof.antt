@@ -33,8 +33,10 @@ same-length-2 c = search needs
 
 returns-2 : tie.Need-returns-2
 returns-2 c =
-    let s = c .before .before .before .before .before .before .before .before .before .before .before .before .before in
-    print-refused (s .args .log .now) (s .args .d .now) _ (c .before .before .before .before .before .before .before .before .report .result) (omega (arith, c .before .before .before .before .before .before .before .before .before .before .if1 .left)) (s .pre) (c .before .before .before .before .before .before .before .before .report .ensures)
+    let u = c .before .before .before .before .before .before .before .before .before .before in
+    let s = u .before .before .before in
+    print-refused (s .args .log .now) (s .args .d .now) _ (c .before .before .before .before .before .before .before .before .report .result) (omega (arith, u .if1 .left)) (s .pre)
+    (c .before .before .before .before .before .before .before .before .report .ensures)
     _ _ (c .before .before .refuse2 .result) (c .before .before .before .before .enum-told .given .1) (c .before .before .refuse2 .ensures)
 
 same-length-3 : tie.Need-same-length-3
@@ -43,7 +45,8 @@ same-length-3 c = search needs
 returns-3 : tie.Need-returns-3
 returns-3 c =
     let s = c .before .before .before .before .before .before .before .before .before .before in
-    print-report (s .args .log .now) (s .args .d .now) _ (c .before .before .before .before .before .report .result) (omega (arith, c .before .before .before .before .before .before .before .if1 .left)) (s .pre) (c .before .before .before .before .before .report .ensures)
+    print-report (s .args .log .now) (s .args .d .now) _ (c .before .before .before .before .before .report .result) (omega
+    (arith, c .before .before .before .before .before .before .before .if1 .left)) (s .pre) (c .before .before .before .before .before .report .ensures)
     _ (c .before .told .given .1)
 
 pub answer-spec : {M : Type 1} → statement M

@@ -41,12 +41,14 @@ write-line-requires-5 : tie.Need-write-line-requires-5
 write-line-requires-5 c κs = search needs
 
 write-score-requires : tie.Need-write-score-requires
-write-score-requires c κs = let a =
-    c .before .before .before .before .before .before .before .before .before .before .before .before .before .before .before .before .before .before .before .before .before .before .before .before .before .before .before .before .before .before .args in
-    let given = c .before .before .before .before .before .before .before .before .before .before .before .before .before .before .before .before .before .before .before .before .before .before .before .before .before .before .before .before .before .before .pre in
-    let write-line = c .before .before .before .before .before .before .before .before .before .before .before .before .before .before .before .before .before .before .before .before .before .before .before .before .write-line in
-    let write-line2 = c .before .before .before .before .before .before .before .before .before .before .before .before .before .before .before .before .before .before .before .write-line2 in
-    let write-line3 = c .before .before .before .before .before .before .before .before .before .before .before .before .before .before .write-line3 in
+write-score-requires c κs =
+    let u = c .before .before .before .before .before .before .before .before .before .before in
+    let a =
+    u .before .before .before .before .before .before .before .before .before .before .before .before .before .before .before .before .before .before .before .before .args in
+    let given = u .before .before .before .before .before .before .before .before .before .before .before .before .before .before .before .before .before .before .before .before .pre in
+    let write-line = u .before .before .before .before .before .before .before .before .before .before .before .before .before .before .write-line in
+    let write-line2 = u .before .before .before .before .before .before .before .before .before .write-line2 in
+    let write-line3 = u .before .before .before .before .write-line3 in
     let write-line4 = c .before .before .before .before .before .before .before .before .write-line4 in
     let write-line5 = c .before .before .before .write-line5 in
     let k₁ : length (write-line .last .0) ≡ length (a .d .now) = (write-line .kept .0) in
@@ -62,12 +64,14 @@ same-length : tie.Need-same-length
 same-length c = search needs
 
 returns : tie.Need-returns
-returns c = let a = c .before .before .before .before .before .before .before .before .before .before .before .before .before .before .before .before .before .before .before .before .before .before .before .before .before .before .before .before .before .before .before .before .before .args in
-    let given = c .before .before .before .before .before .before .before .before .before .before .before .before .before .before .before .before .before .before .before .before .before .before .before .before .before .before .before .before .before .before .before .before .before .pre in
-    let write-line = c .before .before .before .before .before .before .before .before .before .before .before .before .before .before .before .before .before .before .before .before .before .before .before .before .before .before .before .write-line in
-    let write-line2 = c .before .before .before .before .before .before .before .before .before .before .before .before .before .before .before .before .before .before .before .before .before .before .write-line2 in
-    let write-line3 = c .before .before .before .before .before .before .before .before .before .before .before .before .before .before .before .before .before .write-line3 in
-    let write-line4 = c .before .before .before .before .before .before .before .before .before .before .before .write-line4 in
+returns c =
+    let u = c .before .before .before .before .before .before .before .before .before .before in
+    let a = u .before .before .before .before .before .before .before .before .before .before .before .before .before .before .before .before .before .before .before .before .before .before .before .args in
+    let given = u .before .before .before .before .before .before .before .before .before .before .before .before .before .before .before .before .before .before .before .before .before .before .before .pre in
+    let write-line = u .before .before .before .before .before .before .before .before .before .before .before .before .before .before .before .before .before .write-line in
+    let write-line2 = u .before .before .before .before .before .before .before .before .before .before .before .before .write-line2 in
+    let write-line3 = u .before .before .before .before .before .before .before .write-line3 in
+    let write-line4 = u .before .write-line4 in
     let write-line5 = c .before .before .before .before .before .before .write-line5 in
     let write-score = c .before .before .write-score in
     label-written (a .d .now) _ _ _ _ _ _ (a .l) (a .score .now) (given .0) (given .1) (write-line .ensures) (write-line2 .ensures) (write-line3 .ensures) (write-line4 .ensures)

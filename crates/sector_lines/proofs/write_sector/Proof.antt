@@ -93,13 +93,15 @@ same-length c = search needs
 
 -- src/lib.rt:145:1
 returns : tie.Need-returns
-returns c = let a = c .before .before .before .before .before .before .before .before .before .before .before .before .before .before .before .before .before .before .before .before .before .before .before .before .before .before .before .args in
+returns c =
+    let u = c .before .before .before .before .before .before .before .before .before .before in
+    let a = u .before .before .before .before .before .before .before .before .before .before .before .before .before .before .before .before .before .args in
     let clear = c .before .before .before .before .before .before .before .before .before .clear in
-    let copy-at = c .before .before .before .before .before .before .before .before .before .before .before .before .before .before .before .before .before .before .before .before .before .copy-at in
-    let copy-at2 = c .before .before .before .before .before .before .before .before .before .before .before .before .before .copy-at2 in
+    let copy-at = u .before .before .before .before .before .before .before .before .before .before .before .copy-at in
+    let copy-at2 = u .before .before .before .copy-at2 in
     let crc32 = c .before .before .before .before .before .crc32 in
-    let given = c .before .before .before .before .before .before .before .before .before .before .before .before .before .before .before .before .before .before .before .before .before .before .before .before .before .before .before .pre in
-    let write-label = c .before .before .before .before .before .before .before .before .before .before .before .before .before .before .before .before .before .write-label in
+    let given = u .before .before .before .before .before .before .before .before .before .before .before .before .before .before .before .before .before .pre in
+    let write-label = u .before .before .before .before .before .before .before .write-label in
     sector-written (a .d .now) _ _ _ _ _ (a .front .now) (labelOf (a .l) (a .score .now)) (a .piece .now) (crc32 .result) (omega arith) (length-label (a .l) (a .score .now) (given .1)) (given .2)
     (copy-at .ensures) (write-label .ensures) (copy-at2 .ensures) (clear .ensures) (crc32 .ensures) ((c .before .before .write-line .ensures))
 

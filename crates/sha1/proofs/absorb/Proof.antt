@@ -108,7 +108,8 @@ loop-again-2 c =
     let more = c .before .before .before .before .before .before .before .before .before .before .before .before .before .before .before .args .more .now in
     let k = c .before .before .before .before .before .before .before .before .fewer in
     let t = taken (l .n) (l .i) (length more) (k .result) (l .inv .1) (c .before .before .before .before .before .before .before .before .before .loop-test .taken) (k .ensures) in
-    let b = copied {h = l .h} (l .buf) (c .before .before .before .before .copy-at .last .0) (l .n) more (l .i) (k .result) (l .inv .0) (t .0) (t .1) (c .before .before .before .before .copy-at .ensures) in
+    let b = copied {h = l .h} (l .buf) (c .before .before .before .before .copy-at .last .0) (l .n) more (l .i) (k .result) (l .inv .0) (t .0) (t .1)
+    (c .before .before .before .before .copy-at .ensures) in
     (b .0, omega arith, t .1, λ m f. rw (c .compress2 .ensures) (block (b .0) (c .before .before .if2 .taken) (b .1 m (l .inv .3 m f))))
 
 loop-less-3 : tie.Need-loop-less-3 Inv-loop μ-loop

@@ -70,7 +70,8 @@ loop-less c = let args = c .before .before .before .before .before .before .befo
     let place = c .before .before .place in
     let given = c .before .before .before .before .before .before .before .before .before .before .pre in
     let sound-at = c .before .before .before .before .sound-at in
-    let on = counted-some (args .log .now) (l .n) (l .records) (l .doubtful) (sound-at .result) _ (l .inv) ((sound-at .ensures) ∙ placed-alone (args .log .now) (l .n)) (place .given .1) _ (c .parts-of .ensures) in
+    let on = counted-some (args .log .now) (l .n) (l .records) (l .doubtful) (sound-at .result) _ (l .inv) ((sound-at .ensures) ∙ placed-alone (args .log .now) (l .n))
+    (place .given .1) _ (c .parts-of .ensures) in
     let pos = parts-some (args .log .now) (l .n) (sound-at .result) _ ((sound-at .ensures) ∙ placed-alone (args .log .now) (l .n)) (place .given .1) in
     omega (arith, on .inside, (c .parts-of .ensures), pos, given)
 

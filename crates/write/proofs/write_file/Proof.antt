@@ -96,16 +96,18 @@ same-length-3 c = search needs
 
 -- src/lib.rt:281:1
 returns-7 : tie.Need-returns-7
-returns-7 c = let are-allowed = c .before .before .before .before .before .before .before .before .before .before .before .before .before .before .before .before .are-allowed in
-    let a = c .before .before .before .before .before .before .before .before .before .before .before .before .before .before .before .before .before .before .before .before .before .before .before .before .before .args in
-    let depth-of = c .before .before .before .before .before .before .before .before .before .before .before .depth-of in
-    let if1 = c .before .before .before .before .before .before .before .before .before .before .before .before .before .before .before .before .before .before .if1 in
-    let if2 = c .before .before .before .before .before .before .before .before .before .before .before .before .before .before .before .before .before .if2 in
-    let if3 = c .before .before .before .before .before .before .before .before .before .before .before .before .before .before .before .if3 in
-    let if4 = c .before .before .before .before .before .before .before .before .before .before .before .before .before .if4 in
-    let if5 = c .before .before .before .before .before .before .before .before .before .before .before .before .if5 in
-    let if6 = c .before .before .before .before .before .before .before .before .before .before .if6 in
-    let is-date = c .before .before .before .before .before .before .before .before .before .before .before .before .before .before .is-date in
+returns-7 c =
+    let u = c .before .before .before .before .before .before .before .before .before .before in
+    let are-allowed = u .before .before .before .before .before .before .are-allowed in
+    let a = u .before .before .before .before .before .before .before .before .before .before .before .before .before .before .before .args in
+    let depth-of = u .before .depth-of in
+    let if1 = u .before .before .before .before .before .before .before .before .if1 in
+    let if2 = u .before .before .before .before .before .before .before .if2 in
+    let if3 = u .before .before .before .before .before .if3 in
+    let if4 = u .before .before .before .if4 in
+    let if5 = u .before .before .if5 in
+    let if6 = u .if6 in
+    let is-date = u .before .before .before .before .is-date in
     let write-tested = c .before .before .before .before .before .before .write-tested in
     (write-tested .ensures) ∙ tests-passed (a .log .now) (a .waiting .now) (a .date .now) (a .slice .now) (a .dsize) (a .psize) (a .entry .now) (a .scores .now) (if1 .left) (if2 .left) _
     (are-allowed .ensures) (not-false _ (if3 .left)) _ (is-date .ensures) (not-false _ (if4 .left)) (if5 .left) _

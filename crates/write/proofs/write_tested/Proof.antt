@@ -100,12 +100,14 @@ same-length-2 c = search needs
 
 -- src/lib.rt:274:9
 returns : tie.Need-returns
-returns c = let a = c .before .before .before .before .before .before .before .before .before .before .before .before .before .before .before .before .before .before .before .before .before .before .args in
+returns c =
+    let u = c .before .before .before .before .before .before .before .before .before .before in
+    let a = u .before .before .before .before .before .before .before .before .before .before .before .before .args in
     let clear = c .before .before .before .before .clear in
-    let pieces = c .before .before .before .before .before .before .before .before .before .before .before .before .before .before .before .pieces in
-    let given = c .before .before .before .before .before .before .before .before .before .before .before .before .before .before .before .before .before .before .before .before .before .before .pre
+    let pieces = u .before .before .before .before .before .pieces in
+    let given = u .before .before .before .before .before .before .before .before .before .before .before .before .pre
     in
-    let write-blocks = c .before .before .before .before .before .before .before .before .before .before .before .before .write-blocks in
+    let write-blocks = u .before .before .write-blocks in
     let f : 20 * (pieces .result) ≤ length (a .scores .now) = omega (arith, few-pieces (a .dsize) (length (a .slice .now)) (given .2), (pieces .ensures), (given .1), (given .8)) in
     tested-refused (a .log .now) (a .waiting .now) (a .date .now) (a .slice .now) (a .dsize) (a .psize) (a .entry .now) (a .scores .now) (a .depth) _ _ (write-blocks .ensures .0) _
     (write-blocks .ensures .1) (20 * (pieces .result)) (ap (λ (k : ℕ). 20 * k) (pieces .ensures)) f _ (clear .ensures) _ ((c .enum-told2 .given .1)) (search needs)
@@ -132,13 +134,15 @@ same-length-5 c = search needs
 
 -- src/lib.rt:255:1
 returns-2 : tie.Need-returns-2
-returns-2 c = let a = c .before .before .before .before .before .before .before .before .before .before .before .before .before .before .before .before .before .before .before .before .before .before .before .before .before .before .before .args in
+returns-2 c =
+    let u = c .before .before .before .before .before .before .before .before .before .before in
+    let a = u .before .before .before .before .before .before .before .before .before .before .before .before .before .before .before .before .before .args in
     let clear = c .before .before .before .before .before .before .before .before .before .clear in
     let enum-told-here = c .before .before .before .before .before .enum-told in
-    let make-entry = c .before .before .before .before .before .before .before .before .before .before .before .make-entry in
-    let pieces = c .before .before .before .before .before .before .before .before .before .before .before .before .before .before .before .before .before .before .before .before .pieces in
-    let given = c .before .before .before .before .before .before .before .before .before .before .before .before .before .before .before .before .before .before .before .before .before .before .before .before .before .before .before .pre in
-    let write-blocks = c .before .before .before .before .before .before .before .before .before .before .before .before .before .before .before .before .before .write-blocks in
+    let make-entry = u .before .make-entry in
+    let pieces = u .before .before .before .before .before .before .before .before .before .before .pieces in
+    let given = u .before .before .before .before .before .before .before .before .before .before .before .before .before .before .before .before .before .pre in
+    let write-blocks = u .before .before .before .before .before .before .before .write-blocks in
     let f : 20 * (pieces .result) ≤ length (a .scores .now) = omega (arith, few-pieces (a .dsize) (length (a .slice .now)) (given .2), (pieces .ensures), (given .1), (given .8)) in
     tested-done (a .log .now) (a .waiting .now) (a .date .now) (a .slice .now) (a .dsize) (a .psize) (a .entry .now) (a .scores .now) (a .depth) _ _ (write-blocks .ensures .0) _
     (write-blocks .ensures .1) (20 * (pieces .result)) (ap (λ (k : ℕ). 20 * k) (pieces .ensures)) f _ (clear .ensures) (enum-told-here .given .1) _ (make-entry .ensures) _

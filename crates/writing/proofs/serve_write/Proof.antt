@@ -71,15 +71,17 @@ same-length-5 : tie.Need-same-length-5
 same-length-5 c = search needs
 
 returns-3 : tie.Need-returns-3
-returns-3 c = let answer-store = c .before .before .answer-store in
-    let args = c .before .before .before .before .before .before .before .before .before .before .before .before .before .before .before .before .before .before .before .before .before .before .before .before .before .before .args in
-    let data-of = c .before .before .before .before .before .before .before .before .before .before .before .before .before .before .before .before .data-of in
+returns-3 c =
+    let u = c .before .before .before .before .before .before .before .before .before .before in
+    let answer-store = c .before .before .answer-store in
+    let args = u .before .before .before .before .before .before .before .before .before .before .before .before .before .before .before .before .args in
+    let data-of = u .before .before .before .before .before .before .data-of in
     let enter-stored = c .before .before .before .before .before .before .enter-stored in
-    let if1 = c .before .before .before .before .before .before .before .before .before .before .before .before .before .before .before .before .before .if1 in
-    let if2 = c .before .before .before .before .before .before .before .before .before .before .before .before .before .before .before .if2 in
-    let is-lawful = c .before .before .before .before .before .before .before .before .before .before .before .before .before .before .before .before .before .before .is-lawful in
-    let store = c .before .before .before .before .before .before .before .before .before .before .before .before .before .store in
-    let tag-of = c .before .before .before .before .before .before .before .before .before .before .before .before .before .before .before .before .before .before .before .tag-of in
+    let if1 = u .before .before .before .before .before .before .before .if1 in
+    let if2 = u .before .before .before .before .before .if2 in
+    let is-lawful = u .before .before .before .before .before .before .before .before .is-lawful in
+    let store = u .before .before .before .store in
+    let tag-of = u .before .before .before .before .before .before .before .before .before .tag-of in
     let a = args in
     write-as (a .message .now) (a .index .now) (beside (a .log .now) (a .waiting .now)) _ _ (tag-of .ensures) (a .date .now) (a .kind) _ _ (data-of .ensures)
     (write-stored _ _ _ _ _ _ _ _ (is-lawful .ensures) (not-false _ (if1 .left)) _ _ _ _ (if2 .left) (store .ensures) ((answer-store .ensures) _ _) (enter-stored .ensures))

@@ -14,12 +14,14 @@ use Rattle.evaluate.proofs.+read_choice+read_list+read_term.Proof.Calls
 
 module _ (t : ℕ) where
   ill : lts.Need-returns (choice-calls t) (choice-at t) Post
-  ill c = let a = c .before .before .before .before .before .args in join-ill (choice-joins (a .card .now) (a .room)) (a .text .now) (a .at) (c .before .before .read-term .ensures) (c .enum-told .given .1)
+  ill c = let a = c .before .before .before .before .before .args in
+      join-ill (choice-joins (a .card .now) (a .room)) (a .text .now) (a .at) (c .before .before .read-term .ensures) (c .enum-told .given .1)
 
   alone : lts.Need-returns-2 (choice-calls t) (choice-at t) Post
   alone c =
       let a = c .before .before .before .before .before .before .before .before .before .args in
-      join-alone (choice-joins (a .card .now) (a .room)) (a .text .now) (a .at) (c .before .before .before .before .before .before .read-term .ensures) (c .before .before .before .before .term .given .1)
+      join-alone (choice-joins (a .card .now) (a .room)) (a .text .now) (a .at) (c .before .before .before .before .before .before .read-term .ensures)
+      (c .before .before .before .before .term .given .1)
       (sym (c .before .next-is .ensures) ∙ not-true _ (c .if1 .taken))
 
   add-fits : lts.Need-add-read-choice (choice-calls t) (choice-at t) Post
@@ -38,7 +40,8 @@ module _ (t : ℕ) where
   more c =
       let k = c .before .before in
       let a = k .before .before .before .before .before .before .before .before .before .args in
-      join-more (choice-joins (a .card .now) (a .room)) (a .text .now) (a .at) (k .before .before .before .before .before .before .read-term .ensures) (k .before .before .before .before .term .given .1)
+      join-more (choice-joins (a .card .now) (a .room)) (a .text .now) (a .at) (k .before .before .before .before .before .before .read-term .ensures)
+      (k .before .before .before .before .term .given .1)
       (sym (k .before .next-is .ensures) ∙ not-false _ (k .if1 .left)) refl (c .before .read-choice .ensures) (c .both .ensures)
 
 pub choice-meets : {M : Type 1} (t : ℕ) → lts.Closed (choice-calls t) (choice-at t) Post M

@@ -14,12 +14,14 @@ use Rattle.evaluate.proofs.+read_choice+read_list+read_term.Proof.Calls
 
 module _ (t : ℕ) where
   ill : lts.Need-returns (list-calls t) (list-at t) Post
-  ill c = let a = c .before .before .before .before .before .args in join-ill (list-joins (a .card .now) (a .room)) (a .text .now) (a .at) (c .before .before .read-choice .ensures) (c .enum-told .given .1)
+  ill c = let a = c .before .before .before .before .before .args in
+      join-ill (list-joins (a .card .now) (a .room)) (a .text .now) (a .at) (c .before .before .read-choice .ensures) (c .enum-told .given .1)
 
   alone : lts.Need-returns-2 (list-calls t) (list-at t) Post
   alone c =
       let a = c .before .before .before .before .before .before .before .before .before .args in
-      join-alone (list-joins (a .card .now) (a .room)) (a .text .now) (a .at) (c .before .before .before .before .before .before .read-choice .ensures) (c .before .before .before .before .choice .given .1)
+      join-alone (list-joins (a .card .now) (a .room)) (a .text .now) (a .at) (c .before .before .before .before .before .before .read-choice .ensures)
+      (c .before .before .before .before .choice .given .1)
       (sym (c .before .next-is .ensures) ∙ not-true _ (c .if1 .taken))
 
   add-fits : lts.Need-add-read-list (list-calls t) (list-at t) Post
@@ -38,7 +40,8 @@ module _ (t : ℕ) where
   more c =
       let k = c .before .before in
       let a = k .before .before .before .before .before .before .before .before .before .args in
-      join-more (list-joins (a .card .now) (a .room)) (a .text .now) (a .at) (k .before .before .before .before .before .before .read-choice .ensures) (k .before .before .before .before .choice .given .1)
+      join-more (list-joins (a .card .now) (a .room)) (a .text .now) (a .at) (k .before .before .before .before .before .before .read-choice .ensures)
+      (k .before .before .before .before .choice .given .1)
       (sym (k .before .next-is .ensures) ∙ not-false _ (k .if1 .left)) refl (c .before .read-list .ensures) (c .either .ensures)
 
 pub list-meets : {M : Type 1} (t : ℕ) → lts.Closed (list-calls t) (list-at t) Post M
