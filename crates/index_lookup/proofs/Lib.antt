@@ -1,3 +1,2 @@
 pub mod Turns
 pub mod Held
-pub mod Settled

@@ -10,10 +10,7 @@ ghost use lib.ListN.{length};
 ghost use Rattle.block.specs.Log.{sectors, joined};
 ghost use Rattle.log.specs.LookUp.{counted};
 ghost use Rattle.reader.specs.Reader.{placed};
-ghost use Rattle.reader.specs.declared.Place.the-variants.{At};
-ghost use Rattle.block.specs.declared.Block.{Block};
 ghost use Rattle.hint.specs.Hint.{trueAt, hint, heldBy, lookUpBy, lookUpByAsked};
-ghost use Rattle.index_lookup.specs.Settled.{FoundSettled};
 
 // The block that the entry at a place is true of: it names the score and type, and such a block starts at its sector.
 fn true_at<'a>(
@@ -60,31 +57,6 @@ pub fn find_hint<'a>(
         p += 1;
     }
     Place::Nowhere
-}
-
-// The block to which the first entry leads that names the score and type, or where none does the first by scan, if it is among the log's own sectors: then nobody
-// needs to look at those that wait.
-pub fn find_settled(log: &[u8], index: &[u8], kind: u8, score: &[u8]) -> Place
-    requires { ⌜ length (now score) ≡ 20 ⌝ }
-    ensures { λ r. ⌜ ((b : Block) → r ≡ At b → FoundSettled (now (log .entry)) (now (index .entry)) kind (now (score .entry)) b) ⌝ }
-{
-    if kind::is_zero_score(score) {
-        return Place::Nowhere;
-    }
-    let end = log.len() / SECTOR;
-    let b = index::bucket_of(index, score);
-    let mut p: usize = b.from;
-    while p < b.to {
-        if index::names(index, p, kind, score) {
-            let first = index::sector_at(index, p);
-            if end <= first.0 {
-                return Place::Nowhere;
-            }
-            return reader::sound_as(log, SectorNumber(end), &log[..0], first, kind, score);
-        }
-        p += 1;
-    }
-    lookup::find_held(log, SectorNumber(end), &log[..0], kind, score)
 }
 
 // What look-up by index finds: the empty block for the zero score, else the hint's, else the scan's.

@@ -25,7 +25,7 @@ use Rattle.log.specs.Parts.{Lent, tape, beside, oneLog}
 use Rattle.log.proofs.Counted.{Over, counted-found, counted-refused}
 use Rattle.hint.specs.Hint.{lookUpBy}
 use Rattle.hint.proofs.Alike.{look-up-by-alike}
-use Rattle.index_lookup.specs.Settled.{FoundSettled}
+use Rattle.settled_lookup.specs.Settled.{FoundSettled}
 use Rattle.lookup.proofs.Held.{found-within, found-size, found-most, found-bytes}
 use Rattle.index_lookup.proofs.Held.{look-by-absent, look-by-found}
 use Rattle.message.specs.Message.{tagOf, scoreOf}

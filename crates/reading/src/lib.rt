@@ -75,7 +75,7 @@ pub fn serve_read<'a>(
 {
     if kind::is_lawful(kind) {
         let score = message::score_of(message);
-        let place = index_lookup::find_settled(log, index, kind, score);
+        let place = settled_lookup::find_settled(log, index, kind, score);
         if let Place::At(b) = place {
             return answer_settled(log, b, count, message::tag_of(message), reply);
         }

@@ -1,14 +1,14 @@
--- `index_lookup::find_settled` meets its contract: what the first of the entries that are left tells is what the first of all tells.
+-- `settled_lookup::find_settled` meets its contract: what the first of the entries that are left tells is what the first of all tells.
 use mathlib.Core.Path.{_≡_, refl, sym, _∙_}
 use Prim.Native.Nat.{ℕ, _-_, _≤_}
 use native.Mathlib.Omega.{arith}
 use borrow.Author.Tests.{eq-eqb}
 use Rattle.hint.specs.Tells.{tellsFrom, tells}
 use Rattle.hint.proofs.Tells.{tell-starts, tell-here, tell-next, tell-ends}
-use Rattle.index_lookup.proofs.Settled.{nowhere-settled, told-settled, scanned-settled}
+use Rattle.settled_lookup.proofs.Settled.{nowhere-settled, told-settled, scanned-settled}
 use borrow.Author.Needs.{needs}
-use Rattle.index_lookup.proofs.find_settled.Statement.{statement}
-use Rattle.index_lookup.proofs.find_settled.Tie as tie
+use Rattle.settled_lookup.proofs.find_settled.Statement.{statement}
+use Rattle.settled_lookup.proofs.find_settled.Tie as tie
 
 abbrev Inv-loop : tie.InvT-loop
 Inv-loop log index kind score end b p₀ p = (p ≤ b .to) × ((n : ℕ) → tellsFrom index kind score n (b .to - p) p ≡ tells index kind score n)

@@ -30,7 +30,7 @@ use Rattle.hint.specs.Tells.{tells}
 use Rattle.hint.proofs.Sound.{with-as, with-reads}
 use Rattle.hint.proofs.Tells.{hint-told, hint-untold}
 use Rattle.hint.proofs.There.{with-there, with-waiting, sound-waiting, first-waiting}
-use Rattle.index_lookup.specs.Settled.{FoundSettled}
+use Rattle.settled_lookup.specs.Settled.{FoundSettled}
 
 module _ (log index : Bytes) (t : ℕ) (s : Bytes) where
   pub nowhere-settled : (b : Block) → Nowhere ≡ At b → FoundSettled log index t s b
