@@ -60,7 +60,7 @@ fn answer_settled(log: &[u8], b: Block, count: usize, tag: u8, reply: &mut [u8])
     answer::answer_read(log, SectorNumber(end), &log[..0], b, tag, reply)
 }
 
-// A read. Where the index leads to a block among the log's own sectors, those that wait are not looked at.
+// A read. Where a block is found among the log's own sectors, by the index or without an entry by scan, those that wait are not looked at.
 pub fn serve_read<'a>(
     message: &[u8],
     log: &'a [u8],

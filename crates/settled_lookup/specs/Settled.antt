@@ -1,4 +1,4 @@
--- A block to which an index leads and that stands among the log's own sectors.
+-- A block that look-up by index finds and that stands among the log's own sectors.
 use mathlib.Core.Path.{_≡_}
 use mathlib.Core.List.{[]}
 use Prim.Native.Nat.{ℕ}

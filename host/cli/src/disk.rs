@@ -31,6 +31,13 @@ pub fn read_at(file: &File, buffer: &mut [u8], at: u64) -> io::Result<usize> {
     file.read_at(buffer, at)
 }
 
+/// The same of a mark's file.
+pub fn read_mark(file: &File, buffer: &mut [u8], at: u64) -> io::Result<usize> {
+    #[cfg(test)]
+    faults::read_mark(at)?;
+    file.read_at(buffer, at)
+}
+
 /// Writes all these bytes at a place of a file.
 pub fn write(file: &File, bytes: &[u8], at: u64) -> io::Result<()> {
     #[cfg(test)]

@@ -12,7 +12,8 @@ use boundary::{sha1, Refusal};
 
 use crate::command;
 use crate::faults::Lost;
-use crate::faults::{self, every_fault, on_failing_disk, on_good_disk, How, LOSSES, UNREADABLE};
+use crate::faults::{self, every_fault, on_failing_disk, on_good_disk};
+use crate::faults::{How, LOSSES, UNREADABLE, UNREADABLE_MARK};
 use crate::format::SECTOR;
 use crate::hex;
 use crate::mark::{self, Found, Mark};
@@ -170,6 +171,13 @@ fn nothing_acknowledged_is_lost() {
             };
         });
         assert_eq!(failed, acknowledged.len() < 4, "a failed step ends it");
+        // The mark is on disk too: were the tail lost besides, that would be seen.
+        let end = match acknowledged[..] {
+            [0] => 2,
+            [0, ..] | [1, 2] => 6,
+            _ => 10,
+        };
+        assert!(marked(&log) >= end, "{step} {how:?} {lost:?}");
         on_good_disk(|| {
             check(&log, &acknowledged);
             // And the log goes on, with nothing left over.
@@ -177,6 +185,47 @@ fn nothing_acknowledged_is_lost() {
             check(&log, &[0, 1, 2, 3]);
         });
         assert_eq!(folder.files(), 3, "log, mark and index");
+        failed
+    });
+}
+
+/// A place of the mark that cannot be read stops nobody, and the next writer has both again.
+#[test]
+fn an_unreadable_place_of_the_mark() {
+    for place in [0, 4096] {
+        let folder = Folder::with(0);
+        let log = folder.log();
+        on_good_disk(|| {
+            UNREADABLE_MARK.set(Some(place));
+            check(&log, &[0]);
+            let stored = store(&log);
+            UNREADABLE_MARK.set(None);
+            stored.map_err(|(_, failure)| failure.words).unwrap();
+            check(&log, &[0, 1, 2, 3]);
+            for other in [0, 4096] {
+                UNREADABLE_MARK.set(Some(other));
+                assert_eq!(marked(&log), 10);
+            }
+            UNREADABLE_MARK.set(None);
+        });
+    }
+}
+
+/// A log that was lengthened, and a stop while its mark is renewed: it is served, by one mark or the other.
+#[test]
+fn a_longer_log_is_marked() {
+    every_fault(|step, how, lost| {
+        let folder = Folder::with(0);
+        let log = folder.log();
+        let file = File::options().write(true).open(&log).unwrap();
+        file.set_len(48 * SECTOR as u64).unwrap();
+        let failed = on_failing_disk(step, how, lost, || {
+            let _ = store(&log);
+        });
+        on_good_disk(|| {
+            store(&log).map_err(|(_, failure)| failure.words).unwrap();
+            check(&log, &[0, 1, 2, 3]);
+        });
         failed
     });
 }

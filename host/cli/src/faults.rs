@@ -52,14 +52,22 @@ enum Undo {
 
 thread_local! {
     static DISK: RefCell<Option<Disk>> = const { RefCell::new(None) };
-    /// The sector of a log that cannot be read.
+    /// The sector of a log that cannot be read, and the place of a mark.
     pub static UNREADABLE: Cell<Option<u64>> = const { Cell::new(None) };
+    pub static UNREADABLE_MARK: Cell<Option<u64>> = const { Cell::new(None) };
 }
 
 pub fn read(length: usize, at: u64) -> io::Result<()> {
     let bytes = at..at + length as u64;
     match UNREADABLE.get().map(|sector| sector * SECTOR as u64) {
         Some(bad) if bytes.start < bad + SECTOR as u64 && bad < bytes.end => Err(failure()),
+        _ => Ok(()),
+    }
+}
+
+pub fn read_mark(at: u64) -> io::Result<()> {
+    match UNREADABLE_MARK.get() {
+        Some(bad) if bad == at => Err(failure()),
         _ => Ok(()),
     }
 }
@@ -129,7 +137,7 @@ pub fn write(file: &File, bytes: &[u8], at: u64) -> Option<io::Result<()>> {
 /// The same file opened once more: a clone would share its lock, and keep it.
 fn reopened(file: &File) -> io::Result<File> {
     let path = format!("/proc/self/fd/{}", file.as_raw_fd());
-    File::options().write(true).open(path)
+    File::options().read(true).write(true).open(path)
 }
 
 pub fn sync(file: &File) -> Option<io::Result<()>> {
@@ -273,12 +281,18 @@ impl Undo {
     }
 }
 
-/// Has each sector of a write arrive whole, not at all, or its front or its rear alone; most of them
-/// in one of these ways.
+/// Has each sector of a write arrive whole, not at all, or its front or its rear alone, cut among the bytes that it
+/// changes; most of them in one of these ways.
 fn tear(file: &File, at: u64, before: &[u8], random: &mut Random) {
     let usual = random.below(5);
+    let mut after = vec![0; before.len()];
+    file.read_exact_at(&mut after, at).unwrap();
     for (number, sector) in before.chunks(SECTOR).enumerate() {
-        let cut = random.below(sector.len());
+        let now = &after[number * SECTOR..][..sector.len()];
+        let differs = |i: &usize| sector[*i] != now[*i];
+        let first = (0..sector.len()).find(differs).unwrap_or(0);
+        let last = (0..sector.len()).rfind(differs).unwrap_or(0);
+        let cut = first + random.below(last - first + 1);
         let way = match random.below(3) {
             0 => random.below(4),
             _ => usual,

@@ -24,6 +24,11 @@ extern "C" fn note(number: c_int) {
     CAME.store(number, Ordering::Relaxed);
 }
 
+/// Whether a signal came since they were last held.
+pub fn came() -> bool {
+    CAME.load(Ordering::Relaxed) != 0
+}
+
 /// A file that is at its end.
 static NOTHING: AtomicI32 = AtomicI32::new(-1);
 

@@ -10,7 +10,7 @@
 
 use std::ffi::OsString;
 use std::fs::{self, File, Metadata, OpenOptions, Permissions};
-use std::io::{self, Read};
+use std::io;
 use std::os::unix::fs::{fchown, MetadataExt, PermissionsExt};
 use std::path::{Path, PathBuf};
 use std::thread;
@@ -103,13 +103,13 @@ impl Mark {
         bytes
     }
 
-    /// The mark in a file: that of its good lines, and the later one where both are good.
-    fn of(bytes: &[u8]) -> Option<Mark> {
-        let front = &bytes[..LINES.min(bytes.len())];
-        let again = bytes.get(AGAIN..).unwrap_or_default();
-        match (Mark::parse(front), Mark::parse(again)) {
-            (Some(one), Some(other)) if one.sectors != other.sectors => None,
-            (Some(one), Some(other)) if one.used < other.used => Some(other),
+    /// The mark of two places: of what is good there, and the later of the two. Marks only grow.
+    fn of(front: Option<Mark>, again: Option<Mark>) -> Option<Mark> {
+        match (front, again) {
+            (Some(one), Some(other)) => Some(Mark {
+                sectors: one.sectors.max(other.sectors),
+                used: one.used.max(other.used),
+            }),
             (one, other) => one.or(other),
         }
     }
@@ -130,20 +130,40 @@ impl Mark {
         (possible && mark.text() == text).then_some(mark)
     }
 
-    /// Looks what stands in the mark's place.
+    /// Looks what stands in the mark's place. A place that cannot be read counts as damaged, where the other is
+    /// good.
     pub fn find(path: &Path) -> Result<Found, Failure> {
+        let failed = |e| Err(Failure::disk("read the mark", path, &e));
+        let mut unreadable = None;
         for _ in 0..LOOKS {
-            let opened = disk::open_file(path, OpenOptions::new().read(true));
-            match opened.and_then(read_front) {
-                Ok(bytes) => match Mark::of(&bytes) {
-                    Some(mark) => return Ok(Found::Good(mark)),
-                    None => thread::yield_now(),
-                },
+            let file = match disk::open_file(path, OpenOptions::new().read(true)) {
+                Ok(file) => file,
                 Err(e) if e.kind() == io::ErrorKind::NotFound => return Ok(Found::Missing),
-                Err(e) => return Err(Failure::disk("read the mark", path, &e)),
+                Err(e) => return failed(e),
+            };
+            let mut place = |at| match lines_at(&file, at) {
+                Ok(lines) => Mark::parse(&lines),
+                Err(e) => {
+                    unreadable = Some(e);
+                    None
+                }
+            };
+            match Mark::of(place(0), place(AGAIN)) {
+                Some(mark) => return Ok(Found::Good(mark)),
+                None => thread::yield_now(),
             }
         }
-        Ok(Found::Damaged)
+        unreadable.map_or(Ok(Found::Damaged), failed)
+    }
+
+    /// Whether both places of a file have it, and nothing is behind them.
+    pub fn fills(&self, file: &File) -> bool {
+        let here = |at| lines_at(file, at).is_ok_and(|lines| Mark::parse(&lines) == Some(*self));
+        here(0)
+            && here(AGAIN)
+            && file
+                .metadata()
+                .is_ok_and(|found| found.len() == LENGTH as u64)
     }
 
     /// The mark, which has to be there and good.
@@ -235,11 +255,19 @@ fn is_left_over(mark: &[u8], name: &[u8]) -> bool {
     parts.len() == 2 && parts.iter().all(digits)
 }
 
-/// As much of a file as a mark can have, and one byte.
-fn read_front(file: File) -> io::Result<Vec<u8>> {
-    let mut text = Vec::new();
-    file.take(LENGTH as u64 + 1).read_to_end(&mut text)?;
-    Ok(text)
+/// As much of a mark's lines as stands at a place of a file.
+fn lines_at(file: &File, at: usize) -> io::Result<Vec<u8>> {
+    let mut lines = [0; LINES];
+    let mut count = 0;
+    while count < LINES {
+        match disk::read_mark(file, &mut lines[count..], (at + count) as u64) {
+            Ok(0) => break,
+            Ok(more) => count += more,
+            Err(e) if e.kind() == io::ErrorKind::Interrupted => {}
+            Err(e) => return Err(e),
+        }
+    }
+    Ok(lines[..count].to_vec())
 }
 
 /// Fails where what is given as a log is a mark, by its name or by what is in it.
@@ -333,15 +361,10 @@ mod tests {
             used: MARK.used + 1,
             ..MARK
         };
-        let file = |front: &[u8], again: &[u8]| {
-            let mut bytes = vec![0; LENGTH];
-            bytes[..front.len()].copy_from_slice(front);
-            bytes[AGAIN..][..again.len()].copy_from_slice(again);
-            Mark::of(&bytes)
-        };
+        let file = |front: &[u8], again: &[u8]| Mark::of(Mark::parse(front), Mark::parse(again));
         let [one, two] = [MARK.text(), later.text()];
         let (one, two) = (one.as_bytes(), two.as_bytes());
-        assert_eq!(Mark::of(&MARK.bytes()), Some(MARK));
+        assert_eq!(file(one, one), Some(MARK));
         assert_eq!(file(one, two), Some(later));
         assert_eq!(file(two, one), Some(later));
         for at in 0..=LINES {
@@ -353,19 +376,18 @@ mod tests {
         assert_eq!(file(one, b"damage"), Some(MARK));
         assert_eq!(file(b"damage", one), Some(MARK));
         assert_eq!(file(b"damage", b"damage"), None);
+        // A log that was lengthened, and stopped between the two.
         let longer = Mark {
-            sectors: MARK.sectors - 1,
-            ..MARK
+            sectors: 0x8000,
+            used: 7,
         };
-        assert_eq!(file(one, longer.text().as_bytes()), None);
-        // The first edition, and files that were cut.
-        for length in [LINES, LINES + 1, AGAIN, LENGTH - 1] {
-            assert_eq!(Mark::of(&MARK.bytes()[..length]), Some(MARK));
-        }
-        for length in [0, 1, LINES - 1] {
-            assert_eq!(Mark::of(&MARK.bytes()[..length]), None);
-        }
-        assert_eq!(file(&[], one), Some(MARK));
+        let shorter = Mark {
+            sectors: 0x4000,
+            used: 7,
+        };
+        let [longer_text, shorter_text] = [longer.text(), shorter.text()];
+        let (l, s) = (longer_text.as_bytes(), shorter_text.as_bytes());
+        assert_eq!((file(l, s), file(s, l)), (Some(longer), Some(longer)));
     }
 
     /// A reader beside a writer that renews the mark finds it good, and never an earlier one after a later.

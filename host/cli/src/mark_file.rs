@@ -15,13 +15,14 @@ pub struct MarkFile {
 }
 
 impl MarkFile {
-    /// The mark as it was found: renewed in place if its file has its length and may be written.
-    pub fn open(path: PathBuf) -> MarkFile {
+    /// The mark as it was found: renewed in place if its file has it in both places and may be written.
+    pub fn open(path: PathBuf, mark: Option<Mark>) -> MarkFile {
         let found = fs::symlink_metadata(&path);
         let file = match found.is_ok_and(|found| found.is_file()) {
             true => OpenOptions::new().read(true).write(true).open(&path).ok(),
             false => None,
         };
+        let file = file.filter(|file| mark.is_some_and(|mark| mark.fills(file)));
         MarkFile { path, file }
     }
 

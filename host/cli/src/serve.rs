@@ -9,7 +9,7 @@ use boundary::Session;
 use crate::arguments::Arguments;
 use crate::date::Dates;
 use crate::handshake;
-use crate::interrupt::Held;
+use crate::interrupt::{self, Held};
 use crate::progress::Progress;
 use crate::reader::Reader;
 use crate::session::{whole_reply, Answers, REPLY};
@@ -127,6 +127,10 @@ fn talk(
     let mut reply = vec![0; REPLY];
     let (mut requests, mut appended) = (0_u64, 0);
     while session != Session::Closed {
+        if interrupt::came() {
+            // What was read ahead is not answered.
+            return Ok(End::Input);
+        }
         let message = match next_message(streams.input) {
             Ok(Input::Message(message)) => message,
             Ok(Input::End) => return Ok(End::Input),

@@ -93,7 +93,7 @@ impl Writer {
         let mut log = Writer {
             file,
             path: path.to_path_buf(),
-            mark_file: MarkFile::open(mark_path),
+            mark_file: MarkFile::open(mark_path, mark),
             mark,
             sectors: loaded.bytes.len() / SECTOR,
             used: loaded.used,
@@ -133,6 +133,9 @@ impl Writer {
         };
         self.sync()?;
         self.renew_mark(end)?;
+        // Someone may have given log and mark their names a moment ago.
+        let synced = mark::sync_folder(self.mark_file.path());
+        synced.map_err(|e| Failure::disk("sync the folder of", &self.path, &e))?;
         self.bytes = sectors::front(loaded.bytes, self.lent(), self.sectors * SECTOR);
         Ok(())
     }

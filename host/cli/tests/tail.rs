@@ -297,7 +297,6 @@ fn a_damaged_mark() {
         good.replace("\n", "\r\n"),
         lines[..lines.len() - 1].to_string(),
         "\0".to_string() + &good,
-        good.replacen(&lines, &mark_lines(11, 6), 1),
         "\0".repeat(good.len()),
         String::new(),
         mark(10, 11),
