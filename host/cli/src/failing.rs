@@ -44,7 +44,7 @@ impl Folder {
     }
 
     /// A folder with a log of 24 sectors that has one of the blocks.
-    fn with(at: usize) -> Folder {
+    pub fn with(at: usize) -> Folder {
         let folder = Folder::new();
         on_good_disk(|| {
             assert_eq!(folder.run("init", &["--sectors", "24"]), 0);
@@ -97,7 +97,7 @@ fn block(seed: u8, length: usize) -> Vec<u8> {
 }
 
 /// The first is stored before anything fails, is damaged later and stored once more.
-fn blocks() -> [Vec<u8>; 4] {
+pub fn blocks() -> [Vec<u8>; 4] {
     [block(1, 500), block(2, 1000), block(3, 10), block(4, 404)]
 }
 
@@ -136,9 +136,14 @@ fn damage_first(log: &Path) {
 
 /// What a sync acknowledged is read; any other block is whole, not held or not known.
 fn check(log: &Path, acknowledged: &[usize]) {
+    check_blocks(log, &blocks(), acknowledged);
+}
+
+/// The same of these blocks.
+pub fn check_blocks(log: &Path, blocks: &[Vec<u8>], acknowledged: &[usize]) {
     let mut bytes = quietly(|streams| reader::read(log, false, streams)).unwrap();
     let mut client = Client::greet(&mut bytes).unwrap();
-    for (at, block) in blocks().iter().enumerate() {
+    for (at, block) in blocks.iter().enumerate() {
         let read = client.read(&mut bytes, 13, &sha1(block), u16::MAX);
         match read {
             Ok(found) => assert_eq!(found, block),
@@ -230,42 +235,6 @@ fn a_longer_log_is_marked() {
     });
 }
 
-/// Hello, a write and a sync, each of which has to be answered.
-fn conversation() -> Vec<u8> {
-    let hello = [0, 11, 4, 0, 0, 2, b'0', b'2', 0, 0, 0, 0, 0];
-    let write = [0, 7, 14, 1, 13, 0, 0, 0, b'x'];
-    [&hello[..], &write, &[0, 2, 16, 2]].concat()
-}
-
-/// Where a disk fails under `serve` after its first answer, it is told which blocks may be lost.
-#[test]
-fn what_is_told_of_a_failure() {
-    every_fault(|step, how, lost| {
-        let folder = Folder::with(0);
-        let words = [OsString::from("serve"), folder.log().into_os_string()];
-        let (mut out, mut err) = (Vec::new(), Vec::new());
-        let mut status = 0;
-        let failed = on_failing_disk(step, how, lost, || {
-            let mut streams = Streams {
-                input: &mut &conversation()[..],
-                out: &mut out,
-                err: &mut err,
-                out_terminal: false,
-                err_terminal: false,
-                progress: false,
-            };
-            status = command::run(&words, &mut streams);
-        });
-        let told = String::from_utf8(err).unwrap();
-        assert_eq!(status, if failed { 74 } else { 0 }, "{told}");
-        assert_eq!(told.contains("the disk failed"), failed, "{told}");
-        let advice =
-            told.ends_with("Store again what no sync was answered for: it may not be on disk.\n");
-        assert_eq!(advice, failed && !out.is_empty(), "{told}");
-        failed
-    });
-}
-
 /// The next writer after one whose disk failed, before the machine stops: it finds in the file
 /// what the disk may not have, and acknowledges nothing that can be lost.
 #[test]
@@ -284,7 +253,7 @@ fn the_writer_after_a_failure() {
 }
 
 /// The mark of a log.
-fn marked(log: &Path) -> usize {
+pub fn marked(log: &Path) -> usize {
     match Mark::find(&mark::path_of(log)) {
         Ok(Found::Good(mark)) => mark.used,
         _ => panic!("no mark"),

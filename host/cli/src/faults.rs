@@ -31,6 +31,8 @@ struct Disk {
     fails: usize,
     how: How,
     steps: usize,
+    /// How often a file was synced.
+    syncs: usize,
     failed: bool,
     unsynced: Vec<Undo>,
 }
@@ -140,8 +142,14 @@ fn reopened(file: &File) -> io::Result<File> {
     File::options().read(true).write(true).open(path)
 }
 
+/// How often a file was synced on this disk.
+pub fn syncs() -> usize {
+    with(|disk| disk.syncs).unwrap_or(0)
+}
+
 pub fn sync(file: &File) -> Option<io::Result<()>> {
     with(|disk| {
+        disk.syncs += 1;
         let fails = disk.step();
         if !fails || disk.how == How::After {
             disk.unsynced.retain(|undo| match undo {
@@ -324,6 +332,7 @@ pub fn on_failing_disk(fails: usize, how: How, lost: Lost, work: impl FnOnce()) 
         fails,
         how,
         steps: 0,
+        syncs: 0,
         failed: false,
         unsynced: Vec::new(),
     }));

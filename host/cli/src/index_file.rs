@@ -72,6 +72,19 @@ fn enter(index: &mut [u8], hint: &[u8; ENTRY]) -> Option<usize> {
     Some(bucket.start + free * ENTRY)
 }
 
+/// Bytes between two places that it costs less to write once more than to pass by.
+const NEAR: usize = 4096;
+
+/// The runs of bytes that have these places, and what is between near ones.
+fn runs(places: &mut [usize]) -> Vec<Range<usize>> {
+    places.sort_unstable();
+    let apart = |one: &usize, next: &usize| next - one <= NEAR;
+    let runs = places
+        .chunk_by(apart)
+        .filter_map(|run| run.first().zip(run.last()));
+    runs.map(|(first, last)| *first..*last + ENTRY).collect()
+}
+
 /// The hints of an index.
 fn taken(index: &[u8]) -> impl Iterator<Item = &[u8; ENTRY]> {
     let places = index.len() / (BUCKETS * ENTRY) * BUCKETS;
@@ -316,8 +329,8 @@ impl Index {
             file.set_len((FRONT + self.bytes.len()) as u64)?;
             file.write_all_at(&self.bytes, FRONT as u64)?;
         } else {
-            for &at in &self.entered {
-                file.write_all_at(&self.bytes[at..at + ENTRY], (FRONT + at) as u64)?;
+            for run in runs(&mut self.entered) {
+                file.write_all_at(&self.bytes[run.clone()], (FRONT + run.start) as u64)?;
             }
         }
         if self.whole || !self.entered.is_empty() || self.used != used {

@@ -10,6 +10,8 @@ mod clock;
 mod closed;
 mod command;
 mod contents;
+#[cfg(test)]
+mod conversations;
 mod copy;
 mod date;
 mod demo;
@@ -52,6 +54,7 @@ mod put;
 mod put_file;
 mod query;
 mod read;
+mod read_ahead;
 mod reader;
 mod report;
 mod restore;

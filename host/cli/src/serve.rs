@@ -1,6 +1,5 @@
 //! `serve`: framed messages from standard input, replies to standard output.
 
-use std::io::{self, Read};
 use std::path::Path;
 use std::time::Duration;
 
@@ -11,8 +10,9 @@ use crate::date::Dates;
 use crate::handshake;
 use crate::interrupt::{self, Held};
 use crate::progress::Progress;
+use crate::read_ahead::{Input, ReadAhead};
 use crate::reader::Reader;
-use crate::session::{whole_reply, Answers, REPLY};
+use crate::session::{may_change, whole_reply, Answers, REPLY};
 use crate::status::{Failure, DONE};
 use crate::streams::Streams;
 use crate::words;
@@ -118,21 +118,24 @@ impl End {
 }
 
 /// Answers requests until goodbye or the end of input. Fails where the log does.
+///
+/// Where writes and syncs have come behind a sync, the disk is not waited for: they are on disk together, and only
+/// then the sync and all behind it are answered.
 fn talk(
     log: &mut dyn Answers,
     progress: &mut Progress,
     streams: &mut Streams,
 ) -> Result<End, Failure> {
     let mut session = Session::Fresh;
-    let mut reply = vec![0; REPLY];
+    let (mut ahead, mut reply, mut held) = (ReadAhead::new(), vec![0; REPLY], Vec::new());
     let (mut requests, mut appended) = (0_u64, 0);
     while session != Session::Closed {
-        if interrupt::came() {
+        if !log.is_owing() && interrupt::came() {
             // What was read ahead is not answered.
             return Ok(End::Input);
         }
-        let message = match next_message(streams.input) {
-            Ok(Input::Message(message)) => message,
+        let (message, next) = match ahead.next(streams.input) {
+            Ok(Input::Message { bytes, next }) => (bytes, next),
             Ok(Input::End) => return Ok(End::Input),
             Ok(Input::Torn) => return Ok(End::Torn),
             Err(e) => {
@@ -140,7 +143,12 @@ fn talk(
                 return Ok(End::Broken(failure));
             }
         };
-        let served = log.serve(session, &message, &mut reply, streams)?;
+        let rests = next.is_none();
+        let may_owe = next.is_some_and(may_change) && !interrupt::came();
+        let served = match may_owe {
+            true => log.serve_ahead(session, message, &mut reply, streams)?,
+            false => log.serve(session, message, &mut reply, streams)?,
+        };
         session = served.session;
         appended += served.appended;
         requests += 1;
@@ -149,36 +157,20 @@ fn talk(
             let words = words::refusal(refusal);
             streams.tell(&format!("message {requests} was not answered: {words}"));
         } else if session != Session::Closed {
-            if let Err(failure) = streams.answer(whole_reply(&reply)) {
+            held.extend_from_slice(whole_reply(&reply));
+        }
+        if !log.is_owing() {
+            if let Err(failure) = streams.answer(&held) {
                 return Ok(End::Broken(failure));
             }
+            held.clear();
+        }
+        if rests {
+            log.rest();
         }
         progress.show(streams, || {
             format!("{requests} requests answered, {appended} sectors appended")
         });
     }
     Ok(End::Goodbye)
-}
-
-enum Input {
-    Message(Vec<u8>),
-    End,
-    Torn,
-}
-
-/// The next message: as many bytes as its size says.
-fn next_message(input: &mut dyn Read) -> io::Result<Input> {
-    let mut message = Vec::new();
-    input.take(2).read_to_end(&mut message)?;
-    let size = match message[..] {
-        [] => return Ok(Input::End),
-        [high, low] => u16::from_be_bytes([high, low]),
-        _ => return Ok(Input::Torn),
-    };
-    message.reserve_exact(usize::from(size));
-    input.take(u64::from(size)).read_to_end(&mut message)?;
-    if message.len() < 2 + usize::from(size) {
-        return Ok(Input::Torn);
-    }
-    Ok(Input::Message(message))
 }

@@ -36,8 +36,29 @@ pub trait Answers {
         streams: &mut Streams,
     ) -> Result<Served, Failure>;
 
+    /// The same, but what a sync acknowledges may be on disk only later: the reply, and all that follow it, are
+    /// to be held back while the log is owing.
+    fn serve_ahead(
+        &mut self,
+        session: Session,
+        message: &[u8],
+        reply: &mut [u8],
+        streams: &mut Streams,
+    ) -> Result<Served, Failure> {
+        self.serve(session, message, reply, streams)
+    }
+
+    /// Whether a sync was asked for and what it acknowledges is not on disk. Nothing is owed after a request that
+    /// was not asked ahead.
+    fn is_owing(&self) -> bool {
+        false
+    }
+
     /// Has all that was acknowledged on disk, as after a sync.
     fn settle(&mut self) -> Result<(), Failure>;
+
+    /// Does what no reply waits for.
+    fn rest(&mut self) {}
 }
 
 pub struct Client {

@@ -17,7 +17,7 @@ use crate::faults::{on_failing_disk, on_good_disk, How, Lost, Random};
 use crate::format::{used, Date, SECTOR};
 use crate::mark::{self, Found, Mark};
 use crate::reader::{self, Reader};
-use crate::session::{whole_reply, Answers, REPLY, SYNC};
+use crate::session::{is_write, whole_reply, Answers, REPLY, SYNC};
 use crate::status::Failure;
 use crate::writer::Writer;
 
@@ -41,29 +41,54 @@ fn read(block: &[u8]) -> Vec<u8> {
     whole(12, 2, &[&sha1(block)[..], &[13, 0, 0xff, 0xff]].concat())
 }
 
-/// Has a log answer a message.
-fn ask(log: &mut dyn Answers, session: Session, message: &[u8]) -> Result<(u8, Vec<u8>), Failure> {
+type Answer = (u8, Vec<u8>);
+
+/// Has a log answer a message in a greeted session, ahead or not.
+fn ask(log: &mut dyn Answers, message: &[u8], ahead: bool) -> Result<Answer, Failure> {
     let mut reply = vec![0; REPLY];
-    let served = quietly(|streams| log.serve(session, message, &mut reply, streams))?;
+    let session = Session::Greeted;
+    let served = quietly(|streams| match ahead {
+        true => log.serve_ahead(session, message, &mut reply, streams),
+        false => log.serve(session, message, &mut reply, streams),
+    })?;
     let number = served
         .outcome
         .map_or_else(|refusal| refusal.number(), |()| 0);
     Ok((number, whole_reply(&reply).to_vec()))
 }
 
-/// Opens the log and sends messages until a step fails. What was answered, the ledger takes as well.
-fn live(path: &Path, messages: &[Vec<u8>], account: &mut Account) -> Result<(), Failure> {
+/// Opens the log and sends messages until a step fails, some of them ahead. What was answered, the ledger takes as
+/// well. What was held back when it failed is to the ledger as if it waited: no sync of it took place.
+fn live(
+    path: &Path,
+    messages: &[Vec<u8>],
+    account: &mut Account,
+    random: &mut Random,
+) -> Result<(), Failure> {
     let writer = quietly(|streams| Writer::open(path, false, streams))?;
     let mut writer = writer.dated(Dates::Fixed(DATE));
     let greeted = Origin::After(account.ledger.sessions().len());
     account.request(Origin::Fresh, &hello(), Some(&DATE), REPLY);
-    for message in messages {
-        let answer = ask(&mut writer, Session::Greeted, message)?;
+    let mut agreed = |message: &[u8], answer: Answer| {
         let Prediction { number, reply, .. } =
             account.request(greeted, message, Some(&DATE), REPLY);
         assert_eq!(answer, (number, reply));
-    }
-    Ok(())
+    };
+    let mut held = Vec::new();
+    let last = messages.len() - 1;
+    let ended = messages.iter().enumerate().try_for_each(|(at, message)| {
+        let ahead = at < last && random.below(2) == 0;
+        held.push((message, ask(&mut writer, message, ahead)?));
+        assert!(ahead || !writer.is_owing());
+        if !writer.is_owing() {
+            held.drain(..)
+                .for_each(|(message, answer)| agreed(message, answer));
+        }
+        Ok(())
+    });
+    let writes = held.into_iter().filter(|(message, _)| is_write(message));
+    writes.for_each(|(message, answer)| agreed(message, answer));
+    ended
 }
 
 /// The machine stopped: the ledger is told which sectors of the waiting rows arrived. All others are
@@ -99,7 +124,7 @@ fn check(path: &Path, blocks: &[Vec<u8>], account: &Account) -> (usize, bool) {
     let mut numbers = Vec::new();
     for block in blocks.iter().map(|block| &block[..]).chain([&b"never"[..]]) {
         let Prediction { number, reply, .. } = predict(greeted, &read(block));
-        let answer = ask(&mut reader, Session::Greeted, &read(block));
+        let answer = ask(&mut reader, &read(block), false);
         assert_eq!(answer.unwrap(), (number, reply));
         numbers.push(number);
     }
@@ -158,8 +183,9 @@ fn torn_writes() {
             let messages = messages(&blocks, &mut random);
             let how = [How::Before, How::Half, How::After, How::Forgets][random.below(4)];
             let lost = Lost::Torn(random.below(usize::MAX) as u64);
-            let failed = on_failing_disk(random.below(14), how, lost, || {
-                let _ = live(&path, &messages, &mut account);
+            let step = random.below(14);
+            let failed = on_failing_disk(step, how, lost, || {
+                let _ = live(&path, &messages, &mut account, &mut random);
             });
             stop(&path, &mut account);
             stops += u64::from(failed);
@@ -175,7 +201,7 @@ fn torn_writes() {
         on_good_disk(|| {
             let all = blocks.iter().map(|block| write(block));
             let all: Vec<_> = all.chain([SYNC.to_vec()]).collect();
-            let stored = live(&path, &all, &mut account);
+            let stored = live(&path, &all, &mut account, &mut random);
             stored.map_err(|failure| failure.words).unwrap();
             stop(&path, &mut account);
             assert_eq!(check(&path, &blocks, &account).0, blocks.len());

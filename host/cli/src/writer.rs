@@ -14,7 +14,7 @@ use crate::date::Dates;
 use crate::disk;
 use crate::entry;
 use crate::escape;
-use crate::format::{start, Score, BLANK, MOST_PARTS, SECTOR};
+use crate::format::{start, Score, BLANK, MOST_PARTS, PAYLOAD, SECTOR};
 use crate::held::{self, Damaged};
 use crate::index_file::Index;
 use crate::knowledge::{Knowledge, Lent};
@@ -35,9 +35,11 @@ pub struct Writer {
     mark: Option<Mark>,
     /// How many sectors the file has.
     sectors: usize,
-    /// How many of them are used.
+    /// How many of them are used, on disk and marked.
     used: usize,
-    /// The log as it is lent: its used part, and room for what comes.
+    /// How many more syncs have moved behind them, in memory alone.
+    moved: usize,
+    /// The whole log. What was never written of it takes no memory.
     bytes: Vec<u8>,
     /// The waiting part, and how many of its sectors are used.
     waiting: Vec<u8>,
@@ -97,6 +99,7 @@ impl Writer {
             mark,
             sectors: loaded.bytes.len() / SECTOR,
             used: loaded.used,
+            moved: 0,
             bytes: Vec::new(),
             waiting: vec![0; MOST_WAITING * SECTOR],
             waits: 0,
@@ -136,7 +139,7 @@ impl Writer {
         // Someone may have given log and mark their names a moment ago.
         let synced = mark::sync_folder(self.mark_file.path());
         synced.map_err(|e| Failure::disk("sync the folder of", &self.path, &e))?;
-        self.bytes = sectors::front(loaded.bytes, self.lent(), self.sectors * SECTOR);
+        self.bytes = loaded.bytes;
         Ok(())
     }
 
@@ -165,19 +168,13 @@ impl Writer {
     }
 
     /// The whole log's bytes, as they were read and written since.
-    pub fn bytes(mut self) -> Vec<u8> {
-        self.bytes.resize(self.sectors * SECTOR, 0);
+    pub fn bytes(self) -> Vec<u8> {
         self.bytes
     }
 
-    /// The bytes that are lent: the used part with room behind it, as far as the file has it.
+    /// How many bytes of the log are lent: the used part with room behind it, as far as the file has it.
     fn lent(&self) -> usize {
         self.sectors.min(self.used + ROOM) * SECTOR
-    }
-
-    /// Lends as much as that. The log stays where it is in memory, since room for all of it was reserved.
-    fn lend(&mut self) {
-        self.bytes.resize(self.lent(), 0);
     }
 
     /// Counts what waits after a call: a block is stored behind what waited, and a sync leaves nothing.
@@ -189,7 +186,12 @@ impl Writer {
         self.waits = start + filled(&self.waiting[start * SECTOR..]);
     }
 
-    /// Asks the proved archive. What it moves into the log is on disk before anyone is answered.
+    /// Where the next block is stored: behind all that is used or waits.
+    fn end(&self) -> usize {
+        self.used + self.moved + self.waits
+    }
+
+    /// Asks the proved archive. What it moves into the log is to be kept before anyone is answered.
     fn ask(
         &mut self,
         session: Session,
@@ -197,9 +199,9 @@ impl Writer {
         reply: &mut [u8],
     ) -> Result<boundary::Served, Failure> {
         let date = self.dates.now()?;
-        let end = self.used + self.waits;
+        let (end, length) = (self.end(), self.lent());
         let lent = Lent {
-            log: &mut self.bytes,
+            log: &mut self.bytes[..length],
             waiting: &mut self.waiting,
             index: self.index.as_mut().map_or(&mut [][..], Index::lent),
         };
@@ -208,8 +210,8 @@ impl Writer {
             return Ok(served);
         }
         self.count_waiting();
-        self.keep_moved()?;
-        if let (true, Some(index)) = (self.used + self.waits > end, &mut self.index) {
+        self.moved += filled(&self.bytes[(self.used + self.moved) * SECTOR..]);
+        if let (true, Some(index)) = (self.end() > end, &mut self.index) {
             if let Some((kind, score)) = session::stored(message, reply) {
                 if index.stored(kind, &score, end) {
                     self.knowledge.forget();
@@ -226,13 +228,14 @@ impl Writer {
         sizes: (usize, usize),
     ) -> Result<Result<[u8; entry::LENGTH], Refusal>, Failure> {
         let date = self.dates.now()?;
-        let end = self.used + self.waits;
+        let end = self.end();
         self.scores.resize(FILE_SCORES, 0);
-        let (log, waiting, scores) = (&self.bytes, &mut self.waiting, &mut self.scores);
+        let log = &self.bytes[..self.lent()];
+        let (waiting, scores) = (&mut self.waiting, &mut self.scores);
         let written = boundary::write_file(log, waiting, &date, slice, sizes, scores);
         self.knowledge.forget();
         self.count_waiting();
-        if let (true, Some(index)) = (self.used + self.waits > end, &mut self.index) {
+        if let (true, Some(index)) = (self.end() > end, &mut self.index) {
             if let Some((kind, score)) = written.ok().and_then(leaf_of) {
                 index.enter(kind, &score, end);
             }
@@ -265,11 +268,11 @@ impl Writer {
         mut ask: impl FnMut(&mut Writer) -> Result<Asked<A>, Failure>,
     ) -> Result<(A, usize), Failure> {
         self.open_index(streams);
-        let (used, before) = (self.used, self.used + self.waits);
+        let (used, end) = (self.used + self.moved, self.end());
         let mut unsound = Vec::new();
         loop {
             let (answer, outcome) = ask(self)?;
-            let appended = self.used + self.waits - before;
+            let appended = self.end() - end;
             if outcome == Err(Refusal::NoRoom) && self.waits > 0 {
                 self.settle()?;
                 continue;
@@ -291,26 +294,30 @@ impl Writer {
                 self.knowledge.forget();
             }
             // A reply acknowledges, also where nothing was appended; but a block that waits is the next
-            // sync's to acknowledge, and a sync that moved something was seen to when it was marked.
-            if (appended, self.used) == (0, used) {
+            // sync's to acknowledge, and what a sync moved is seen to when it is marked.
+            if (appended, self.used + self.moved) == (0, used) {
                 self.in_place()?;
             }
             return Ok((answer, appended));
         }
     }
 
-    /// The block that a write found in the log in memory, where it is another on disk.
+    /// The block that a write found in the log in memory, where it is another on disk. One that is not to be on
+    /// disk yet is the next sync's to acknowledge.
     fn damaged(&mut self, block: Option<(u8, Score)>) -> Option<Damaged> {
         let (kind, score) = block?;
+        let log = &self.bytes[..self.lent()];
         let sector = match (self.knowledge.is_exact(), &mut self.index) {
             (true, Some(index)) => {
-                let (log, waiting, index) = (&self.bytes, &self.waiting, index.lent());
-                let place = look_up_by(log, waiting, index, kind, &score).ok()?;
-                (place.sector < self.used).then_some(place.sector)?
+                let found = look_up_by(log, &self.waiting, index.lent(), kind, &score);
+                found.ok()?.sector
             }
-            _ => blocks::find(&self.bytes, kind, &score)?,
+            _ => blocks::find(log, kind, &score)?,
         };
-        held::damaged(&self.bytes, &self.file, sector)
+        match sector < self.used {
+            true => held::damaged(log, &self.file, sector),
+            false => None,
+        }
     }
 
     /// Opens the index beside the log, or makes it.
@@ -332,22 +339,20 @@ impl Writer {
         Index::renew(&self.path, &self.file, log)
     }
 
-    /// Has what a sync moved behind the log's used part on disk, then the mark.
+    /// Has what syncs moved behind the log's used part on disk, then the mark.
     fn keep_moved(&mut self) -> Result<(), Failure> {
-        let end = self.end();
-        if end > self.used {
-            self.keep(end)?;
-            self.lend();
-            if let Some(index) = &mut self.index {
-                index.save(&self.bytes[..end * SECTOR]);
-            }
+        if self.moved > 0 {
+            self.keep(self.used + self.moved)?;
+            self.moved = 0;
         }
         Ok(())
     }
 
-    /// The end of what stands behind the log's used part in memory.
-    fn end(&self) -> usize {
-        self.used + filled(&self.bytes[self.used * SECTOR..])
+    /// Has the index beside the log on disk as it is in memory, in the system's own time.
+    fn save_index(&mut self) {
+        if let Some(index) = &mut self.index {
+            index.save(&self.bytes[..self.used * SECTOR]);
+        }
     }
 
     /// Has what stands behind the used part, up to a sector, on disk, then the mark.
@@ -365,10 +370,9 @@ impl Writer {
     pub fn copy(&mut self, from: &[u8], root: &Score, allowance: u64) -> Result<Walked, Failure> {
         self.settle()?;
         let date = self.dates.now()?;
-        self.bytes.resize(self.sectors * SECTOR, 0);
         let copied = boundary::copy(from, &[], &mut self.bytes, &date, root, allowance);
         self.knowledge.forget();
-        let end = self.end();
+        let end = self.used + filled(&self.bytes[self.used * SECTOR..]);
         let starts = |at: &usize| start(&self.bytes[at * SECTOR..(at + 1) * SECTOR], *at).is_some();
         let last = (self.used..end).rev().find(starts).unwrap_or(end);
         for end in [last, end] {
@@ -376,12 +380,10 @@ impl Writer {
                 self.keep(end)?;
             }
         }
-        self.lend();
         if let Some(index) = &mut self.index {
-            let log = &self.bytes[..end * SECTOR];
-            index.extend(log);
-            index.save(log);
+            index.extend(&self.bytes[..end * SECTOR]);
         }
+        self.save_index();
         // Also where nothing was appended.
         self.in_place()?;
         Ok(copied)
@@ -448,6 +450,24 @@ impl Answers for Writer {
         reply: &mut [u8],
         streams: &mut Streams,
     ) -> Result<Served, Failure> {
+        let served = self.serve_ahead(session, message, reply, streams)?;
+        self.keep_moved()?;
+        Ok(served)
+    }
+
+    /// What is on its way to the disk at once has room in a waiting part: so a stop in the midst of it is one that
+    /// found all of it waiting.
+    fn serve_ahead(
+        &mut self,
+        session: Session,
+        message: &[u8],
+        reply: &mut [u8],
+        streams: &mut Streams,
+    ) -> Result<Served, Failure> {
+        let most = message.len().div_ceil(PAYLOAD);
+        if self.moved + self.waits + most > MOST_WAITING {
+            self.keep_moved()?;
+        }
         let (served, appended) = self.answer(streams, |log| {
             let served = log.ask(session, message, reply)?;
             let block = || session::stored(message, reply);
@@ -460,13 +480,25 @@ impl Answers for Writer {
         })
     }
 
+    fn is_owing(&self) -> bool {
+        self.moved > 0
+    }
+
     /// By a sync of its own, in a session that was greeted.
     fn settle(&mut self) -> Result<(), Failure> {
         if self.waits > 0 {
             let served = self.ask(Session::Greeted, &SYNC, &mut vec![0; REPLY])?;
             served.outcome.map_err(Failure::refused)?;
         }
+        self.keep_moved()?;
+        self.save_index();
         Ok(())
+    }
+
+    fn rest(&mut self) {
+        if self.waits == 0 {
+            self.save_index();
+        }
     }
 }
 
@@ -516,7 +548,7 @@ mod tests {
     use super::*;
     use crate::failing::{quietly, Folder};
     use crate::faults::on_good_disk;
-    use crate::format::{MOST_DATA, PAYLOAD};
+    use crate::format::MOST_DATA;
     use crate::session::Client;
 
     /// A long log is lent up to the room for what comes, and on as it is filled, to its last sector.
@@ -527,16 +559,16 @@ mod tests {
             assert_eq!(folder.run("init", &["--sectors", "2000"]), 0);
             quietly(|streams| {
                 let mut log = Writer::open(&folder.log(), false, streams).unwrap();
-                assert_eq!(log.bytes.len(), 404 * SECTOR);
-                let place = (log.bytes.as_ptr(), log.bytes.capacity());
+                assert_eq!(log.lent(), 404 * SECTOR);
+                let place = (log.bytes.as_ptr(), log.bytes.len());
                 assert_eq!(place.1, 2000 * SECTOR);
                 let mut client = Client::greet_on_disk(&mut log, streams).unwrap();
                 for block in 0..13 {
                     let block = vec![block; MOST_DATA];
                     let stored = client.store(&mut log, 13, &block, streams).unwrap();
                     assert!(stored.is_ok());
-                    assert_eq!(log.bytes.len(), 2000.min(log.used + 404) * SECTOR);
-                    assert_eq!((log.bytes.as_ptr(), log.bytes.capacity()), place, "copied");
+                    assert_eq!(log.lent(), 2000.min(log.used + 404) * SECTOR);
+                    assert_eq!((log.bytes.as_ptr(), log.bytes.len()), place, "copied");
                 }
                 let full = client.store(&mut log, 13, &[13; MOST_DATA], streams);
                 assert_eq!(full.unwrap(), Err(Refusal::NoRoom));
