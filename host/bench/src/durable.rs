@@ -1,9 +1,9 @@
 //! Blocks that are on disk when they are answered for: through the program, and through sqlite on the same
 //! disk. Each is one process that is fed all of them from a file; a sync, or a commit, comes after every ten
-//! blocks, or after each.
+//! blocks, or after each. And once more after each, by a client of ours that waits for every answer.
 
 use std::fs::{self, File};
-use std::io::{self, ErrorKind};
+use std::io::{self, ErrorKind, Read, Write};
 use std::path::Path;
 use std::process::{Command, Stdio};
 
@@ -21,7 +21,8 @@ const SOURCE: &str = "CREATE TABLE given (number INTEGER PRIMARY KEY, score BLOB
 
 const WHAT: &str = "\
 skywimple: `serve` reads write messages, computes each SHA-1, looks for a duplicate, answers;
-           the log is synced, then its mark beside it, before a sync is answered
+           the log is synced, then its mark beside it, before a sync is answered; syncs that have come one
+           behind the other go to disk together, but where the client waits for each answer (1, waited for)
 sqlite:    `sqlite3` with a write-ahead log and synchronous=FULL copies the blocks and their scores from another
            database, a transaction at a time; it computes no SHA-1
 Neither `init` nor CREATE TABLE is timed; the start and the end of the process are.";
@@ -46,21 +47,63 @@ fn measure(folder: &Path) -> io::Result<()> {
          skywimple's time over sqlite's\n{WHAT}"
     );
     println!(
-        "{:>12} {:>9} {:>9} {:>7}",
+        "{:>13} {:>9} {:>9} {:>7}",
         "blocks/sync", "skywimple", "sqlite", "ratio"
     );
-    for batch in [10, 1] {
+    let fed = |program: &Path, log: &Path| {
+        let mut serve = Command::new(program);
+        run_fed(serve.arg("serve").arg(log), Some(&folder.join("messages")))
+    };
+    let waited_for = |program: &Path, log: &Path| asked(program, log, &blocks);
+    let ways: [(&str, usize, &Feed); 3] = [
+        ("10", 10, &fed),
+        ("1", 1, &fed),
+        ("1, waited for", 1, &waited_for),
+    ];
+    for (name, batch, feed) in ways {
         fs::write(folder.join("messages"), messages(&blocks, batch))?;
         fs::write(folder.join("script"), script(batch))?;
         let mut rounds = Vec::new();
         for _ in 0..ROUNDS {
-            rounds.push([ours(folder)?, sqlite(folder)?]);
+            rounds.push([ours(folder, feed)?, sqlite(folder)?]);
         }
         let of = |k: usize| crate::median(rounds.iter().map(|round| round[k]));
         let ratio = crate::median(rounds.iter().map(|round| round[0] / round[1]));
-        println!("{batch:>12} {:>9.3} {:>9.3} {ratio:>7.2}", of(0), of(1));
+        println!("{name:>13} {:>9.3} {:>9.3} {ratio:>7.2}", of(0), of(1));
     }
     Ok(())
+}
+
+/// How long a program takes for the blocks in a log.
+type Feed<'a> = dyn Fn(&Path, &Path) -> io::Result<f64> + 'a;
+
+/// Asks for each block and its sync, and waits for the answers before the next.
+fn asked(program: &Path, log: &Path, blocks: &[Vec<u8>]) -> io::Result<f64> {
+    let mut done = Ok(());
+    let seconds = time(|| done = ask_each(program, log, blocks));
+    done.map(|()| seconds)
+}
+
+fn ask_each(program: &Path, log: &Path, blocks: &[Vec<u8>]) -> io::Result<()> {
+    let mut serve = Command::new(program);
+    serve.arg("serve").arg(log);
+    let mut server = serve.stdin(Stdio::piped()).stdout(Stdio::piped()).spawn()?;
+    let (input, output) = (server.stdin.take(), server.stdout.take());
+    let (Some(mut input), Some(mut output)) = (input, output) else {
+        return Err(ErrorKind::BrokenPipe.into());
+    };
+    let mut reply = [0; 8 + 24 + 4];
+    input.write_all(&HELLO)?;
+    output.read_exact(&mut reply[..8])?;
+    for block in blocks {
+        input.write_all(&[&write_message(block)[..], &SYNC].concat())?;
+        output.read_exact(&mut reply[8..])?;
+    }
+    drop(input);
+    match server.wait()?.success() {
+        true => Ok(()),
+        false => Err(io::Error::other("serve failed")),
+    }
 }
 
 fn messages(blocks: &[Vec<u8>], batch: usize) -> Vec<u8> {
@@ -101,7 +144,7 @@ fn hex(bytes: &[u8]) -> String {
 }
 
 /// The program beside this one.
-fn ours(folder: &Path) -> io::Result<f64> {
+fn ours(folder: &Path, feed: &Feed) -> io::Result<f64> {
     let program = std::env::current_exe()?.with_file_name("skywimple");
     let log = folder.join("log");
     let sectors = (BLOCKS * PARTS).to_string();
@@ -110,8 +153,7 @@ fn ours(folder: &Path) -> io::Result<f64> {
         init.arg("init").arg(&log).args(["--sectors", &sectors]),
         None,
     )?;
-    let mut serve = Command::new(&program);
-    let seconds = run_fed(serve.arg("serve").arg(&log), Some(&folder.join("messages")))?;
+    let seconds = feed(&program, &log)?;
     let mut report = Command::new(&program);
     holds(report.arg("report").arg(&log), &format!("records={BLOCKS}"))?;
     remove(folder, &["log", "log.mark", "log.index"])?;

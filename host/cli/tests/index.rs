@@ -92,6 +92,7 @@ fn made_by_the_first_writer_and_kept() {
     }
     assert_eq!(place.file("log.index"), index, "what waits is in no file");
     server.sync();
+    server.rested();
     let mut found = entries(&place.file("log.index"));
     found.sort_by_key(|entry| entry.2);
     let sectors: Vec<_> = found.iter().map(|entry| entry.2).collect();
@@ -297,6 +298,7 @@ fn it_grows() {
     let place = Place::with_log(4_000);
     let mut server = place.greeted(&[]);
     server.store(0, &block(0, 9));
+    server.rested();
     let small = place.file("log.index").len();
     for seed in 1..3_500 {
         let block = block(seed, 9);
@@ -306,6 +308,7 @@ fn it_grows() {
         );
     }
     server.sync();
+    server.rested();
     let grown = place.file("log.index");
     assert!(grown.len() > small, "{} bytes", grown.len());
     assert!(entries(&grown).len() >= 3_490, "{}", entries(&grown).len());
@@ -330,6 +333,7 @@ fn a_reader_follows() {
     for seed in 1..20 {
         let block = block(seed, 9);
         writer.store(1, &block);
+        writer.rested();
         let index = place.file("log.index");
         let reply = message(13, 1, &block);
         assert_eq!(reader.ask(&read_message(1, &block)), reply);

@@ -307,6 +307,12 @@ impl Server {
         assert_eq!(self.ask(&sync_message(9)), sync_reply(9));
     }
 
+    /// Waits until all that it does between two messages is done: by a ping.
+    #[track_caller]
+    pub fn rested(&mut self) {
+        assert_eq!(self.ask(&message(2, 8, b"")), message(3, 8, b""));
+    }
+
     /// Stores a block, and has it on disk.
     #[track_caller]
     pub fn store(&mut self, tag: u8, block: &[u8]) {
