@@ -76,12 +76,13 @@ fn what_is_told_of_a_failure() {
 }
 
 /// Syncs that came one behind the other are on disk together, and each before it is answered: whatever fails, the
-/// replies are a beginning of those that there are, and what an answered sync acknowledged is there.
-#[test]
-fn syncs_are_answered_together() {
+/// replies are a beginning of those that there are, and what an answered sync acknowledged is there, and marked.
+fn answered_together(blocks: &[Vec<u8>]) {
+    let ends = |count: usize| blocks[..count].iter().map(|block| sectors(block)).sum();
     every_fault(|step, how, lost| {
-        let folder = Folder::with(0);
-        let (log, blocks) = (folder.log(), &blocks()[1..]);
+        let folder = Folder::new();
+        let log = folder.log();
+        on_good_disk(|| assert_eq!(folder.run("init", &["--sectors", "400"]), 0));
         let mut served = None;
         let failed = on_failing_disk(step, how, lost, || {
             served = Some(serve(&log, &conversation(blocks, b"")));
@@ -92,10 +93,28 @@ fn syncs_are_answered_together() {
         let count = (0..=all.len()).find(|count| all[..*count].concat() == out);
         let syncs = count.expect("other replies").saturating_sub(1) / 2;
         assert_eq!(failed, syncs < blocks.len(), "{step} {how:?} {lost:?}");
+        let end: usize = ends(syncs);
+        assert!(marked(&log) >= end, "{step} {how:?} {lost:?}");
         let acknowledged: Vec<_> = (0..syncs).collect();
         on_good_disk(|| check_blocks(&log, blocks, &acknowledged));
         failed
     });
+}
+
+/// The sectors of a block.
+fn sectors(block: &[u8]) -> usize {
+    block.len().div_ceil(PAYLOAD)
+}
+
+#[test]
+fn short_blocks_answered_together() {
+    answered_together(&blocks()[1..]);
+}
+
+/// More of them than may be on their way at once.
+#[test]
+fn long_blocks_answered_together() {
+    answered_together(&[1, 2, 3].map(|seed| vec![seed; 100 * PAYLOAD]));
 }
 
 /// How often log and mark are synced for blocks of ten sectors, with these bytes behind each sync. All of them are
@@ -117,16 +136,13 @@ fn syncs_for(count: u8, behind: &[u8]) -> usize {
     })
 }
 
-/// As many go to the disk at once as may wait, however many come: 25 blocks, or as many as had come.
+/// As many go to the disk at once as may wait, which are 25 of these blocks; and then one mark for all.
 #[test]
 fn syncs_without_end() {
     let opening = 2;
-    assert_eq!(syncs_for(1, b""), opening + 2);
-    assert_eq!(syncs_for(25, b""), opening + 2);
-    assert_eq!(syncs_for(26, b""), opening + 2 * 2);
-    let many = opening + 2 * 4..=opening + 2 * 6;
-    let syncs = syncs_for(100, b"");
-    assert!(many.contains(&syncs), "{syncs} syncs");
+    for (blocks, parts) in [(1, 1), (25, 1), (26, 2), (100, 4)] {
+        assert_eq!(syncs_for(blocks, b""), opening + parts + 1, "{blocks}");
+    }
 }
 
 /// A request that may take its time, and the end, let no sync wait for its answer.

@@ -2,8 +2,8 @@
 
 use std::io::{self, ErrorKind, Read};
 
-/// Room for a full waiting part's blocks a few times over, and for any message.
-const ROOM: usize = 4 * 65_536;
+/// Room for a full waiting part's blocks some times over, and for any message.
+const ROOM: usize = 1 << 20;
 
 pub struct ReadAhead {
     buffer: Vec<u8>,

@@ -35,8 +35,9 @@ pub struct Writer {
     mark: Option<Mark>,
     /// How many sectors the file has.
     sectors: usize,
-    /// How many of them are used, on disk and marked.
+    /// How many of them are used, and on disk; whether the mark does not say so yet.
     used: usize,
+    unmarked: bool,
     /// How many more syncs have moved behind them, in memory alone.
     moved: usize,
     /// The whole log. What was never written of it takes no memory.
@@ -99,6 +100,7 @@ impl Writer {
             mark,
             sectors: loaded.bytes.len() / SECTOR,
             used: loaded.used,
+            unmarked: false,
             moved: 0,
             bytes: Vec::new(),
             waiting: vec![0; MOST_WAITING * SECTOR],
@@ -340,10 +342,22 @@ impl Writer {
     }
 
     /// Has what syncs moved behind the log's used part on disk, then the mark.
-    fn keep_moved(&mut self) -> Result<(), Failure> {
+    fn keep(&mut self) -> Result<(), Failure> {
+        self.put_down()?;
+        match self.unmarked {
+            true => self.renew_mark(self.used),
+            false => Ok(()),
+        }
+    }
+
+    /// Has it on disk, without the mark.
+    fn put_down(&mut self) -> Result<(), Failure> {
         if self.moved > 0 {
-            self.keep(self.used + self.moved)?;
-            self.moved = 0;
+            let end = self.used + self.moved;
+            self.still_blank(self.used..end)?;
+            self.write(&self.bytes, self.used..end)?;
+            self.sync()?;
+            (self.used, self.moved, self.unmarked) = (end, 0, true);
         }
         Ok(())
     }
@@ -353,16 +367,6 @@ impl Writer {
         if let Some(index) = &mut self.index {
             index.save(&self.bytes[..self.used * SECTOR]);
         }
-    }
-
-    /// Has what stands behind the used part, up to a sector, on disk, then the mark.
-    fn keep(&mut self, end: usize) -> Result<(), Failure> {
-        self.still_blank(self.used..end)?;
-        self.write(&self.bytes, self.used..end)?;
-        self.sync()?;
-        self.renew_mark(end)?;
-        self.used = end;
-        Ok(())
     }
 
     /// Copies all that a root of another log reaches to this one, behind its used part. What is stored is on
@@ -376,9 +380,8 @@ impl Writer {
         let starts = |at: &usize| start(&self.bytes[at * SECTOR..(at + 1) * SECTOR], *at).is_some();
         let last = (self.used..end).rev().find(starts).unwrap_or(end);
         for end in [last, end] {
-            if end > self.used {
-                self.keep(end)?;
-            }
+            self.moved = end - self.used;
+            self.keep()?;
         }
         if let Some(index) = &mut self.index {
             index.extend(&self.bytes[..end * SECTOR]);
@@ -428,7 +431,7 @@ impl Writer {
         };
         self.in_place()?;
         self.mark_file.renew(now, &self.file)?;
-        self.mark = Some(now);
+        (self.mark, self.unmarked) = (Some(now), false);
         Ok(())
     }
 
@@ -451,12 +454,12 @@ impl Answers for Writer {
         streams: &mut Streams,
     ) -> Result<Served, Failure> {
         let served = self.serve_ahead(session, message, reply, streams)?;
-        self.keep_moved()?;
+        self.keep()?;
         Ok(served)
     }
 
     /// What is on its way to the disk at once has room in a waiting part: so a stop in the midst of it is one that
-    /// found all of it waiting.
+    /// found all of it waiting. The mark comes when all that was asked ahead is on disk.
     fn serve_ahead(
         &mut self,
         session: Session,
@@ -466,7 +469,7 @@ impl Answers for Writer {
     ) -> Result<Served, Failure> {
         let most = message.len().div_ceil(PAYLOAD);
         if self.moved + self.waits + most > MOST_WAITING {
-            self.keep_moved()?;
+            self.put_down()?;
         }
         let (served, appended) = self.answer(streams, |log| {
             let served = log.ask(session, message, reply)?;
@@ -481,7 +484,7 @@ impl Answers for Writer {
     }
 
     fn is_owing(&self) -> bool {
-        self.moved > 0
+        self.moved > 0 || self.unmarked
     }
 
     /// By a sync of its own, in a session that was greeted.
@@ -490,7 +493,7 @@ impl Answers for Writer {
             let served = self.ask(Session::Greeted, &SYNC, &mut vec![0; REPLY])?;
             served.outcome.map_err(Failure::refused)?;
         }
-        self.keep_moved()?;
+        self.keep()?;
         self.save_index();
         Ok(())
     }

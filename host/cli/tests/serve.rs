@@ -77,6 +77,49 @@ fn a_sync_means_that_it_is_stored() {
     assert_eq!(server.end(), (0, String::new()));
 }
 
+/// A sync is not held back for what has come in part: a client may wait for it before it sends the rest.
+#[test]
+fn a_message_that_comes_in_parts() {
+    let place = Place::with_log(64);
+    let mut server = place.greeted(&[]);
+    let next = [write_message(2, b"next"), sync_message(9)].concat();
+    for cut in 0..next.len() {
+        let card = block(cut, 9);
+        let sent = [&write_message(1, &card)[..], &sync_message(7), &next[..cut]].concat();
+        server.send(&sent);
+        assert_eq!(server.reply(), Some(write_reply(1, &card)));
+        assert_eq!(server.reply(), Some(sync_reply(7)));
+        place.reads(&score(&card), &card);
+        server.send(&next[cut..]);
+        assert_eq!(server.reply(), Some(write_reply(2, b"next")));
+        assert_eq!(server.reply(), Some(sync_reply(9)));
+    }
+    assert_eq!(server.end(), (0, String::new()));
+}
+
+/// Writes and syncs that are sent at once are answered in their order, and all of them are there.
+#[test]
+fn many_syncs_at_once() {
+    let place = Place::with_log(2_000);
+    let (mut sent, mut replies) = (HELLO.to_vec(), HELLO_REPLY.to_vec());
+    let blocks: Vec<_> = (0..300).map(|seed| block(seed, 1 + 7 * seed)).collect();
+    for (tag, data) in blocks.iter().enumerate() {
+        sent.extend([write_message(tag as u8, data), sync_message(tag as u8)].concat());
+        replies.extend([write_reply(tag as u8, data), sync_reply(tag as u8)].concat());
+    }
+    let answer = place.feed(&["serve", "log"], &sent).with(0);
+    assert!(answer.out == replies);
+    assert_eq!(answer.err, "");
+    let used = blocks
+        .iter()
+        .map(|block| block.len().div_ceil(PAYLOAD))
+        .sum();
+    assert_eq!(place.file("log.mark"), mark(2_000, used).as_bytes());
+    for data in blocks.iter().step_by(37) {
+        place.reads(&score(data), data);
+    }
+}
+
 /// However a conversation ends, all that was answered for is there.
 #[test]
 fn a_client_that_never_syncs() {
