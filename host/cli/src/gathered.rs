@@ -303,7 +303,7 @@ mod tests {
     /// the second: the first is what is held.
     #[test]
     fn blocks_that_clash() {
-        let mut lines = include_str!("../tests/common/collision.txt").lines();
+        let mut lines = include_str!("../tests/program/common/collision.txt").lines();
         let [one, other] = [0, 1].map(|_| hex::decode::<320>(lines.next().unwrap()).unwrap());
         let [mut first, mut second] = [Shelf::new(8), Shelf::new(8)];
         let score = first.put(13, &one);
