@@ -1,6 +1,5 @@
 //! A folder of its own for each test, the program run in it, and messages for `serve`.
 
-
 pub mod saved;
 pub mod terminal;
 
