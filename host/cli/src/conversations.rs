@@ -8,31 +8,37 @@ use boundary::sha1;
 use crate::command;
 use crate::failing::{blocks, check_blocks, marked, Folder};
 use crate::faults::{self, every_fault, on_failing_disk, on_good_disk};
-use crate::format::PAYLOAD;
+use crate::format::{sectors_of, PAYLOAD};
 use crate::streams::Streams;
 
-/// Hello, then these blocks, each written and synced, and behind each sync these bytes.
-fn conversation(blocks: &[Vec<u8>], behind: &[u8]) -> Vec<u8> {
-    let hello = vec![0, 11, 4, 0, 0, 2, b'0', b'2', 0, 0, 0, 0, 0];
-    let parts = (1..).zip(blocks).flat_map(|(tag, block)| {
+/// What comes behind each sync.
+#[derive(Clone, Copy, PartialEq, Eq)]
+enum Behind {
+    /// The next write, or the end.
+    Nothing,
+    Ping,
+}
+
+/// Hello, then these blocks, each written and synced: each message with its reply.
+fn conversation(blocks: &[Vec<u8>], behind: Behind) -> Vec<[Vec<u8>; 2]> {
+    let hello = [0, 11, 4, 0, 0, 2, b'0', b'2', 0, 0, 0, 0, 0];
+    let mut pairs = vec![[hello.to_vec(), vec![0, 6, 5, 0, 0, 0, 0, 0]]];
+    for (tag, block) in (1..).zip(blocks) {
         let size = (block.len() as u16 + 6).to_be_bytes();
         let write = [&size[..], &[14, tag, 13, 0, 0, 0], block].concat();
-        [write, vec![0, 2, 16, tag], behind.to_vec()]
-    });
-    [hello].into_iter().chain(parts).flatten().collect()
+        pairs.push([write, [&[0, 22, 15, tag], &sha1(block)[..]].concat()]);
+        pairs.push([vec![0, 2, 16, tag], vec![0, 2, SYNCED, tag]]);
+        if behind == Behind::Ping {
+            pairs.push([vec![0, 2, 2, tag], vec![0, 2, 3, tag]]);
+        }
+    }
+    pairs
 }
 
-/// The replies to it, with nothing behind each sync.
-fn replies(blocks: &[Vec<u8>]) -> Vec<Vec<u8>> {
-    let hello = vec![0, 6, 5, 0, 0, 0, 0, 0];
-    let pairs = (1..).zip(blocks).flat_map(|(tag, block)| {
-        let write = [&[0, 22, 15, tag], &sha1(block)[..]].concat();
-        [write, vec![0, 2, 17, tag]]
-    });
-    [hello].into_iter().chain(pairs).collect()
-}
+/// The type of the reply to a sync.
+const SYNCED: u8 = 17;
 
-/// What comes of a conversation that is sent at once.
+/// What comes of messages that are sent at once.
 struct Served {
     status: u8,
     out: Vec<u8>,
@@ -58,11 +64,11 @@ fn serve(log: &Path, sent: &[u8]) -> Served {
 /// Where a disk fails under `serve` after its first answer, it is told which blocks may be lost.
 #[test]
 fn what_is_told_of_a_failure() {
+    let [sent, _] = joined(&conversation(&[b"x".to_vec()], Behind::Nothing));
     every_fault(|step, how, lost| {
         let folder = Folder::with(0);
         let mut served = None;
         let failed = on_failing_disk(step, how, lost, || {
-            let sent = conversation(&[b"x".to_vec()], b"");
             served = Some(serve(&folder.log(), &sent));
         });
         let Served { status, out, told } = served.unwrap();
@@ -75,60 +81,71 @@ fn what_is_told_of_a_failure() {
     });
 }
 
-/// Syncs that came one behind the other are on disk together, and each before it is answered: whatever fails, the
-/// replies are a beginning of those that there are, and what an answered sync acknowledged is there, and marked.
-fn answered_together(blocks: &[Vec<u8>]) {
-    let ends = |count: usize| blocks[..count].iter().map(|block| sectors(block)).sum();
+/// All messages, and all replies.
+fn joined(pairs: &[[Vec<u8>; 2]]) -> [Vec<u8>; 2] {
+    [0, 1].map(|side| pairs.iter().flat_map(|pair| &pair[side]).copied().collect())
+}
+
+/// Each sync is on disk before it is answered, also where several go there together: whatever fails, the replies are
+/// a beginning of those that there are, and what an answered sync acknowledged is there, and marked. How often some
+/// syncs were answered and not all.
+fn answered_when_on_disk(blocks: &[Vec<u8>], behind: Behind) -> usize {
+    let pairs = conversation(blocks, behind);
+    let [sent, _] = joined(&pairs);
+    let in_part = std::cell::Cell::new(0);
     every_fault(|step, how, lost| {
         let folder = Folder::new();
         let log = folder.log();
         on_good_disk(|| assert_eq!(folder.run("init", &["--sectors", "400"]), 0));
         let mut served = None;
-        let failed = on_failing_disk(step, how, lost, || {
-            served = Some(serve(&log, &conversation(blocks, b"")));
-        });
+        let failed = on_failing_disk(step, how, lost, || served = Some(serve(&log, &sent)));
         let Served { status, out, told } = served.unwrap();
         assert_eq!(status, if failed { 74 } else { 0 }, "{told}");
-        let all = replies(blocks);
-        let count = (0..=all.len()).find(|count| all[..*count].concat() == out);
-        let syncs = count.expect("other replies").saturating_sub(1) / 2;
-        assert_eq!(failed, syncs < blocks.len(), "{step} {how:?} {lost:?}");
-        let end: usize = ends(syncs);
+        let count = (0..=pairs.len()).find(|count| joined(&pairs[..*count])[1] == out);
+        let answered = &pairs[..count.expect("other replies")];
+        let syncs = answered.iter().filter(|pair| pair[1][2] == SYNCED).count();
+        assert_eq!(
+            failed,
+            answered.len() < pairs.len(),
+            "{step} {how:?} {lost:?}"
+        );
+        let end: usize = blocks[..syncs]
+            .iter()
+            .map(|block| sectors_of(block.len()))
+            .sum();
         assert!(marked(&log) >= end, "{step} {how:?} {lost:?}");
-        let acknowledged: Vec<_> = (0..syncs).collect();
-        on_good_disk(|| check_blocks(&log, blocks, &acknowledged));
+        on_good_disk(|| check_blocks(&log, blocks, &(0..syncs).collect::<Vec<_>>()));
+        in_part.set(in_part.get() + usize::from(0 < syncs && syncs < blocks.len()));
         failed
     });
-}
-
-/// The sectors of a block.
-fn sectors(block: &[u8]) -> usize {
-    block.len().div_ceil(PAYLOAD)
+    in_part.get()
 }
 
 #[test]
-fn short_blocks_answered_together() {
-    answered_together(&blocks()[1..]);
+fn short_blocks() {
+    assert_eq!(answered_when_on_disk(&blocks(), Behind::Nothing), 0);
+    assert!(answered_when_on_disk(&blocks(), Behind::Ping) > 0);
 }
 
 /// More of them than may be on their way at once.
 #[test]
-fn long_blocks_answered_together() {
-    answered_together(&[1, 2, 3].map(|seed| vec![seed; 100 * PAYLOAD]));
+fn long_blocks() {
+    let blocks = [1, 2, 3].map(|seed| vec![seed; 100 * PAYLOAD]);
+    assert_eq!(answered_when_on_disk(&blocks, Behind::Nothing), 0);
 }
 
-/// How often log and mark are synced for blocks of ten sectors, with these bytes behind each sync. All of them are
-/// there at the end.
-fn syncs_for(count: u8, behind: &[u8]) -> usize {
+/// How often log and mark are synced for blocks of ten sectors. All of them are there at the end.
+fn syncs_for(count: u8, behind: Behind) -> usize {
     let folder = Folder::new();
     let log = folder.log();
     let blocks: Vec<_> = (1..=count).map(|seed| vec![seed; 10 * PAYLOAD]).collect();
+    let [sent, replies] = joined(&conversation(&blocks, behind));
     on_good_disk(|| {
         assert_eq!(folder.run("init", &["--sectors", "1000"]), 0);
         let before = faults::syncs();
-        let Served { status, out, told } = serve(&log, &conversation(&blocks, behind));
+        let Served { status, out, told } = serve(&log, &sent);
         assert_eq!((status, told.as_str()), (0, ""));
-        assert!(!behind.is_empty() || out == replies(&blocks).concat());
+        assert!(out == replies);
         let syncs = faults::syncs() - before;
         assert_eq!(marked(&log), 10 * blocks.len());
         check_blocks(&log, &blocks, &(0..blocks.len()).collect::<Vec<_>>());
@@ -141,18 +158,18 @@ fn syncs_for(count: u8, behind: &[u8]) -> usize {
 fn syncs_without_end() {
     let opening = 2;
     for (blocks, parts) in [(1, 1), (25, 1), (26, 2), (100, 4)] {
-        assert_eq!(syncs_for(blocks, b""), opening + parts + 1, "{blocks}");
+        let syncs = syncs_for(blocks, Behind::Nothing);
+        assert_eq!(syncs, opening + parts + 1, "{blocks}");
     }
 }
 
-/// A request that may take its time, and the end, let no sync wait for its answer.
+/// A request that may take its time, and a message that has come in part, let no sync wait for its answer.
 #[test]
 fn other_requests_end_it() {
-    let ping = [0, 2, 2, 9];
-    assert_eq!(syncs_for(3, &ping), 2 + 2 * 3);
-    let torn = [0, 9, 14];
+    assert_eq!(syncs_for(3, Behind::Ping), 2 + 2 * 3);
     let folder = Folder::with(0);
-    let blocks = &blocks()[1..2];
-    let served = on_good_disk(|| serve(&folder.log(), &conversation(blocks, &torn)));
-    assert_eq!((served.status, served.out), (1, replies(blocks).concat()));
+    let [sent, replies] = joined(&conversation(&blocks()[1..2], Behind::Nothing));
+    let torn = [&sent[..], &[0, 9, 14]].concat();
+    let served = on_good_disk(|| serve(&folder.log(), &torn));
+    assert_eq!((served.status, served.out), (1, replies));
 }

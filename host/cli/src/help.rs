@@ -36,14 +36,16 @@ its byte in the file: restore the doubtful sectors from a copy (see list), or st
 pub const SERVE: &str = "\
 Reads framed messages (size[2] type[1] tag[1] body) from standard input and writes the replies to
 standard output, until a goodbye or the end of input, so that any transport can carry it: a pipe,
-ssh, an inetd. A write is answered at once, while its block waits in memory; a sync is answered when
-all that was written before it is on disk, with the mark. What waits is put on disk besides when the
-next block has no room among the 256 sectors that may wait, at a goodbye, at the end of input, and at
-the signals HUP, INT and TERM, which end the input (status 128 + n; the same signal once more ends the
-program at once). Where the machine stops, the disk fails, the log is moved, replaced or changed by
-others, or the program is ended at once (also by kill -9), a block that was answered and not synced
-may be not held, or not known if a part of it arrived: store again what no sync was answered for.
-Nothing that a sync answered for is lost by a stop.
+ssh, an inetd. A write is answered while its block waits in memory; a sync is answered when all that
+was written before it is on disk, with the mark. Syncs that have come one behind the other, with
+nothing but writes between, go to disk together, and they and these writes are answered then: send on
+while you read the answers, without waiting for each, and they cost little. What waits is put on disk
+besides when the next block has no room among the 256 sectors that may wait, at a goodbye, at the end
+of input, and at the signals HUP, INT and TERM, which end the input (status 128 + n; the same signal
+once more ends the program at once). Where the machine stops, the disk fails, the log is moved,
+replaced or changed by others, or the program is ended at once (also by kill -9), a block that was
+answered and not synced may be not held, or not known if a part of it arrived: store again what no
+sync was answered for. Nothing that a sync answered for is lost by a stop.
 A block that is held in the log already is compared with what the system gives for the file before a
 write of it is answered, and stored anew where it was damaged meanwhile.
 Input that ends inside a message is status 1. One writer at a time: while another holds the log, the
@@ -251,7 +253,8 @@ and NFD, or a Latin and a Greek A; --json keeps those apart too, since its strin
 The status is 0 if each card is yes, no or not known, and 33 if any could not be read, or if names are
 lost: then it is told below the table, and on the page, how many, the refusal and for 12 the log's first
 doubtful sector, and a card without a name is listed by its place, (name lost: file N): it was the file
-N of those that `save` was given. Each card takes a scan of the log; at a terminal progress is shown.
+N of those that `save` was given. Cards are found by the index beside the log, and by a scan of the log
+where that does not lead to them; at a terminal progress is shown.
   --json       prints JSON, an object on each line: name; answer: \"yes\", \"no\", \"not known\" or
                \"unreadable\"; with not known missing: the antigens; with unreadable number and sector,
                which is null but for 12. Where a name is lost, it is null, and place is the card's place

@@ -78,9 +78,9 @@ const NEAR: usize = 4096;
 /// The runs of bytes that have these places, and what is between near ones.
 fn runs(places: &mut [usize]) -> Vec<Range<usize>> {
     places.sort_unstable();
-    let apart = |one: &usize, next: &usize| next - one <= NEAR;
+    let near = |one: &usize, next: &usize| next - one <= NEAR;
     let runs = places
-        .chunk_by(apart)
+        .chunk_by(near)
         .filter_map(|run| run.first().zip(run.last()));
     runs.map(|(first, last)| *first..*last + ENTRY).collect()
 }

@@ -99,18 +99,20 @@ mod tests {
     /// However the bytes come, the messages are the same; what follows one is told only if all of it came.
     #[test]
     fn messages_as_they_come() {
-        let lengths = [2, 0, 1, 65_535, 9, 65_535, 65_535, 65_535, 300, 7];
-        let sent = lengths.map(message).concat();
+        // More than there is room for.
+        let lengths = [2, 0, 1, 65_535, 9, 65_535, 65_535, 65_535, 300, 7].repeat(5);
+        let sent: Vec<u8> = lengths.iter().flat_map(|length| message(*length)).collect();
+        assert!(sent.len() > ROOM);
         for (rest, torn) in [(&b""[..], false), (b"\0", true), (b"\0\x02x", true)] {
             for step in [1, 2, 3, 1000, 65_537, usize::MAX] {
                 let all = [&sent[..], rest].concat();
                 let (mut input, mut ahead) = (Slow(&all, step), ReadAhead::new());
                 let mut taken = 0;
-                for (at, length) in lengths.into_iter().enumerate() {
+                for (at, length) in lengths.iter().enumerate() {
                     let Input::Message { bytes, next } = ahead.next(&mut input).unwrap() else {
                         panic!("{at} of step {step}");
                     };
-                    assert!(bytes == message(length), "{at} of step {step}");
+                    assert!(bytes == message(*length), "{at} of step {step}");
                     taken += bytes.len();
                     let come = all.len() - input.0.len() - taken;
                     let behind = lengths.get(at + 1).map(|length| message(*length));

@@ -43,7 +43,7 @@ pub fn run(arguments: &Arguments, streams: &mut Streams) -> Result<u8, Failure> 
     let mut log = open(arguments.path(0), access, streams)?;
     let held = writes.then(Held::ending_input).flatten();
     let mut progress = Progress::start();
-    let ended = talk(&mut *log, &mut progress, streams);
+    let ended = talk(&mut *log, &mut progress, streams, interrupt::came);
     streams.clear_progress();
     // A client that never syncs loses nothing that it got an answer for, where the log is well.
     let settled = ended.and_then(|ended| log.settle().map(|()| ended));
@@ -125,12 +125,13 @@ fn talk(
     log: &mut dyn Answers,
     progress: &mut Progress,
     streams: &mut Streams,
+    interrupted: impl Fn() -> bool,
 ) -> Result<End, Failure> {
     let mut session = Session::Fresh;
     let (mut ahead, mut reply, mut held) = (ReadAhead::new(), vec![0; REPLY], Vec::new());
     let (mut requests, mut appended) = (0_u64, 0);
     while session != Session::Closed {
-        if !log.is_owing() && interrupt::came() {
+        if !log.is_owing() && interrupted() {
             // What was read ahead is not answered.
             return Ok(End::Input);
         }
@@ -144,7 +145,7 @@ fn talk(
             }
         };
         let rests = next.is_none();
-        let may_owe = next.is_some_and(may_change) && !interrupt::came();
+        let may_owe = next.is_some_and(may_change) && !interrupted();
         let served = match may_owe {
             true => log.serve_ahead(session, message, &mut reply, streams)?,
             false => log.serve(session, message, &mut reply, streams)?,
@@ -160,10 +161,9 @@ fn talk(
             held.extend_from_slice(whole_reply(&reply));
         }
         if !log.is_owing() {
-            if let Err(failure) = streams.answer(&held) {
+            if let Err(failure) = answer_all(&mut held, streams) {
                 return Ok(End::Broken(failure));
             }
-            held.clear();
         }
         if rests {
             log.rest();
@@ -173,4 +173,104 @@ fn talk(
         });
     }
     Ok(End::Goodbye)
+}
+
+/// Sends the replies that were held back, each by itself.
+fn answer_all(held: &mut Vec<u8>, streams: &mut Streams) -> Result<(), Failure> {
+    let mut rest = &held[..];
+    while !rest.is_empty() {
+        let (reply, later) = rest.split_at(whole_reply(rest).len());
+        streams.answer(reply)?;
+        rest = later;
+    }
+    held.clear();
+    Ok(())
+}
+
+#[cfg(test)]
+mod tests {
+    use super::*;
+    use crate::failing::{quietly, Folder};
+    use crate::faults::on_good_disk;
+    use crate::session::Served;
+    use std::cell::Cell;
+    use std::io;
+
+    /// A log that counts its requests.
+    struct Counted(Writer, usize);
+
+    impl Answers for Counted {
+        fn serve(
+            &mut self,
+            session: Session,
+            message: &[u8],
+            reply: &mut [u8],
+            streams: &mut Streams,
+        ) -> Result<Served, Failure> {
+            self.1 += 1;
+            self.0.serve(session, message, reply, streams)
+        }
+
+        fn serve_ahead(
+            &mut self,
+            session: Session,
+            message: &[u8],
+            reply: &mut [u8],
+            streams: &mut Streams,
+        ) -> Result<Served, Failure> {
+            self.1 += 1;
+            self.0.serve_ahead(session, message, reply, streams)
+        }
+
+        fn is_owing(&self) -> bool {
+            self.0.is_owing()
+        }
+
+        fn settle(&mut self) -> Result<(), Failure> {
+            self.0.settle()
+        }
+    }
+
+    /// Whenever a signal comes, what was asked of the log is answered, also what was held back, and nothing else.
+    #[test]
+    fn interrupted_while_replies_are_held_back() {
+        let write = [0, 7, 14, 1, 13, 0, 0, 0, b'x'];
+        let pairs = [&write[..], &[0, 2, 16, 2]].concat().repeat(5);
+        let sent = [&[0, 11, 4, 0, 0, 2, b'0', b'2', 0, 0, 0, 0, 0], &pairs[..]].concat();
+        let mut counts = Vec::new();
+        for looks in 0..=22 {
+            let folder = Folder::with(0);
+            let (answered, asked) = on_good_disk(|| {
+                let writer = quietly(|streams| Writer::open(&folder.log(), false, streams));
+                let mut log = Counted(writer.map_err(|failure| failure.words).unwrap(), 0);
+                let looked = Cell::new(0);
+                let interrupted = || looked.replace(looked.get() + 1) >= looks;
+                let mut out = Vec::new();
+                let mut streams = Streams {
+                    input: &mut &sent[..],
+                    out: &mut out,
+                    err: &mut io::sink(),
+                    out_terminal: false,
+                    err_terminal: false,
+                    progress: false,
+                };
+                let ended = talk(&mut log, &mut Progress::start(), &mut streams, interrupted);
+                assert!(matches!(ended, Ok(End::Input)) && !log.is_owing());
+                let mut replies = 0;
+                let mut rest = &out[..];
+                while !rest.is_empty() {
+                    rest = &rest[whole_reply(rest).len()..];
+                    replies += 1;
+                }
+                (replies, log.1)
+            });
+            assert_eq!(answered, asked, "{looks} looks");
+            counts.push(asked);
+        }
+        counts.dedup();
+        assert!(
+            counts[0] == 0 && counts.ends_with(&[11]) && counts.len() > 5,
+            "{counts:?}"
+        );
+    }
 }

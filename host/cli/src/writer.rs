@@ -14,7 +14,7 @@ use crate::date::Dates;
 use crate::disk;
 use crate::entry;
 use crate::escape;
-use crate::format::{start, Score, BLANK, MOST_PARTS, PAYLOAD, SECTOR};
+use crate::format::{sectors_of, start, Score, BLANK, MOST_PARTS, SECTOR};
 use crate::held::{self, Damaged};
 use crate::index_file::Index;
 use crate::knowledge::{Knowledge, Lent};
@@ -467,7 +467,7 @@ impl Answers for Writer {
         reply: &mut [u8],
         streams: &mut Streams,
     ) -> Result<Served, Failure> {
-        let most = message.len().div_ceil(PAYLOAD);
+        let most = sectors_of(message.len());
         if self.moved + self.waits + most > MOST_WAITING {
             self.put_down()?;
         }
@@ -551,7 +551,7 @@ mod tests {
     use super::*;
     use crate::failing::{quietly, Folder};
     use crate::faults::on_good_disk;
-    use crate::format::MOST_DATA;
+    use crate::format::{MOST_DATA, PAYLOAD};
     use crate::session::Client;
 
     /// A long log is lent up to the room for what comes, and on as it is filled, to its last sector.

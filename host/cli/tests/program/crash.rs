@@ -194,7 +194,7 @@ fn killed_while_appending() {
             .collect();
         let sync_after = 1 + round % 5;
         let (answered, synced) = kill_after(&place, &blocks, round % each, sync_after);
-        cut_short += usize::from(synced < each);
+        cut_short += usize::from(answered < each);
         known.extend_from_slice(&blocks[..synced]);
         lost += check(&place, &known, &blocks[synced..answered]);
         check(&place, &known, &blocks[answered..]);
@@ -204,8 +204,9 @@ fn killed_while_appending() {
     assert!(only(&place.folder, &["log", "log.mark"]));
 }
 
-/// Sends all writes, with a sync after so many of them, waits for replies to so many writes, kills the
-/// server, and counts the writes that it answered, and those of them that it answered a sync after.
+/// Sends all writes, with a sync after so many of them and a ping after each sync, which has it answered by itself.
+/// Waits for replies to so many writes, kills the server, and counts the writes that it answered, and those of them
+/// that it answered a sync after.
 fn kill_after(
     place: &Place,
     blocks: &[Vec<u8>],
@@ -220,8 +221,9 @@ fn kill_after(
         sent.extend(write_message(1, block));
         expected.push((write_reply(1, block), number, 0));
         if number % sync_after == 0 {
-            sent.extend(sync_message(2));
+            sent.extend([sync_message(2), message(2, 3, b"")].concat());
             expected.push((sync_reply(2), number, number));
+            expected.push((message(3, 3, b""), number, number));
         }
     }
     let sender = thread::spawn(move || input.write_all(&sent).is_ok());

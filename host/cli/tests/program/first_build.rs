@@ -27,7 +27,8 @@ fn repository(rt: &str) -> Place {
         chmod +x target/host/release/skywimple\n";
     for (name, text) in [("rt", rt), ("cargo", cargo)] {
         let path = place.path("stubs").join(name);
-        fs::write(&path, format!("#!/bin/sh\n{text}")).unwrap();
+        place.write("stub", format!("#!/bin/sh\n{text}"));
+        copy_program(&place.path("stub"), &path);
         fs::set_permissions(path, fs::Permissions::from_mode(0o755)).unwrap();
     }
     place

@@ -118,7 +118,7 @@ fn save_cards(place: &Place, cards: usize) -> String {
 }
 
 /// 10,000 cards at the end of a log of 512 MiB, all other sectors of which are blocks of their own. Run it by
-/// `cargo test --release -p skywimple --test search_by_index -- --ignored --nocapture`.
+/// `cargo test --release -p skywimple --test program search_by_index -- --ignored --nocapture`.
 #[test]
 #[ignore = "it takes a minute and a gigabyte"]
 fn ten_thousand_cards_in_the_longest_log() {

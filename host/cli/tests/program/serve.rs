@@ -285,7 +285,8 @@ fn not_known_over_the_wire() {
     assert_eq!(answer.out, replies.concat());
 }
 
-/// Over a socket that keeps writes apart: each reply is one, also where its bytes look like lines.
+/// Over a socket that keeps writes apart: each reply is one, also where its bytes look like lines, and where it was
+/// held back.
 #[test]
 fn a_reply_is_one_write() {
     let place = Place::with_log(200);
@@ -295,6 +296,9 @@ fn a_reply_is_one_write() {
         &HELLO[..],
         &write_message(10, &lines),
         &read_message(10, &lines),
+        &sync_message(11),
+        &write_message(12, b"next"),
+        &sync_message(13),
     ]
     .concat();
     place.write("sent", sent);
@@ -313,6 +317,9 @@ fn a_reply_is_one_write() {
         HELLO_REPLY.to_vec(),
         write_reply(10, &lines),
         message(13, 10, &lines),
+        sync_reply(11),
+        write_reply(12, b"next"),
+        sync_reply(13),
     ] {
         assert!(next() == Some(reply));
     }

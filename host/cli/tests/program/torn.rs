@@ -49,8 +49,9 @@ impl History {
     }
 
     /// Serves groups of blocks, with a sync after each, until the process ends; then the ledger is told
-    /// which sectors arrived. Whether it was killed.
-    fn live(&mut self, groups: &[Vec<Vec<u8>>], stop: Option<Stop>) -> bool {
+    /// which sectors arrived. All messages are sent at once, or each when the last one is answered. Whether it was
+    /// killed.
+    fn live(&mut self, groups: &[Vec<Vec<u8>>], stop: Option<Stop>, at_once: bool) -> bool {
         let mut command = self.place.command(&["serve", "log"]);
         if let Some(Stop {
             library,
@@ -63,7 +64,10 @@ impl History {
             command.env("STOP_SEED", seed.to_string());
         }
         let mut server = Server::start(command);
-        self.talk(&mut server, groups);
+        match at_once {
+            true => self.talk_at_once(&mut server, groups),
+            false => self.talk(&mut server, groups).unwrap_or_default(),
+        }
         drop(server.input.take());
         let status = server.child.wait().expect("it ends");
         assert!(status.success() || status.signal() == KILLED, "{status}");
@@ -87,10 +91,44 @@ impl History {
         Some(())
     }
 
+    /// The same, with all messages sent before the first answer. Whatever was not answered is to the ledger as if
+    /// it waited, and no sync of it was sent.
+    fn talk_at_once(&mut self, server: &mut Server, groups: &[Vec<Vec<u8>>]) {
+        let greeted = Origin::After(self.account.ledger.sessions().len());
+        let mut messages = vec![(HELLO.to_vec(), Origin::Fresh, None)];
+        for group in groups {
+            let writes = group.iter().map(|block| write_message(1, block));
+            messages.extend(writes.map(|write| (write, greeted, None)));
+            messages.push((sync_message(2), greeted, Some(group)));
+        }
+        let all: Vec<_> = messages
+            .iter()
+            .flat_map(|(bytes, ..)| bytes)
+            .copied()
+            .collect();
+        let _ = server.input.as_mut().expect("open").write_all(&all);
+        let mut answers = true;
+        for (message, origin, synced) in messages {
+            answers = answers && self.answered(server, origin, &message).is_some();
+            match synced {
+                Some(group) if answers => self.synced.extend_from_slice(group),
+                None if !answers => {
+                    let _ = self.account.request(origin, &message, Some(&DATE), REPLY);
+                }
+                _ => {}
+            }
+        }
+    }
+
     /// One message; where it is answered, it is accepted, and as by the ledger.
     fn ask(&mut self, server: &mut Server, origin: Origin, message: &[u8]) -> Option<()> {
         // Who was killed does not listen.
         let _ = server.input.as_mut().expect("open").write_all(message);
+        self.answered(server, origin, message)
+    }
+
+    /// The answer to a message that was sent.
+    fn answered(&mut self, server: &mut Server, origin: Origin, message: &[u8]) -> Option<()> {
         let reply = server.reply()?;
         let right = self.account.request(origin, message, Some(&DATE), REPLY);
         assert_eq!((reply, 0), (right.reply, right.number));
@@ -144,11 +182,11 @@ fn torn_by_a_process_that_dies() {
                 step,
                 seed,
             };
-            killed += usize::from(history.live(&groups, Some(stop)));
+            killed += usize::from(history.live(&groups, Some(stop), below(2) == 0));
             in_doubt += usize::from(history.check(&blocks) > 0);
         }
         // All that is stored later is there, as if nothing had happened.
-        assert!(!history.live(std::slice::from_ref(&blocks), None));
+        assert!(!history.live(std::slice::from_ref(&blocks), None, below(2) == 0));
         history.check(&blocks);
     }
     println!("{killed} killed, {in_doubt} in doubt");
