@@ -6,7 +6,8 @@ use std::path::Path;
 use std::thread;
 use std::time::{Duration, Instant};
 
-use crate::status::{Failure, BUSY, INPUT_OUTPUT};
+use crate::escape;
+use crate::status::{Failure, BUSY, INPUT_OUTPUT, UNFIT};
 use crate::streams::Streams;
 
 /// How long the lock is left alone after it was found taken.
@@ -76,6 +77,35 @@ pub fn replaced(path: &Path) -> Failure {
     let words = format!(
         "{} was replaced while this program was writing it, or moved away. Put the log and its mark \
          back, and move or replace a log only while no writer runs.",
+        path.display()
+    );
+    Failure::new(INPUT_OUTPUT, words)
+}
+
+/// Fails where the log has a second name: its mark stands beside one of them only.
+pub fn one_name(file: &File, path: &Path) -> Result<(), Failure> {
+    let found = file.metadata();
+    let found = found.map_err(|e| Failure::disk("look at", path, &e))?;
+    let names = found.nlink();
+    if names < 2 {
+        return Ok(());
+    }
+    let words = format!(
+        "{} is a file with {names} names (hard links), and its mark stands beside one of them \
+         only, so it is not written. Find the names with `find / -samefile {}`, keep the \
+         one that the mark stands beside and remove the others; a symbolic link may take their \
+         place.",
+        path.display(),
+        escape::quoted(path)
+    );
+    Err(Failure::new(UNFIT, words))
+}
+
+pub fn changed(path: &Path) -> Failure {
+    let words = format!(
+        "{} was changed by another program while this one was writing it: the next sectors are \
+         cut off or no longer blank. Nothing was written there. Find that program, and restore the \
+         log from a copy.",
         path.display()
     );
     Failure::new(INPUT_OUTPUT, words)

@@ -127,10 +127,8 @@ fn talk(
     streams: &mut Streams,
     interrupted: impl Fn() -> bool,
 ) -> Result<End, Failure> {
-    let mut session = Session::Fresh;
-    let (mut ahead, mut reply, mut held) = (ReadAhead::new(), vec![0; REPLY], Vec::new());
-    let (mut requests, mut appended) = (0_u64, 0);
-    while session != Session::Closed {
+    let (mut ahead, mut talk) = (ReadAhead::new(), Conversation::new());
+    while talk.session != Session::Closed {
         if !log.is_owing() && interrupted() {
             // What was read ahead is not answered.
             return Ok(End::Input);
@@ -146,45 +144,82 @@ fn talk(
         };
         let rests = next.is_none();
         let may_owe = next.is_some_and(may_change) && !interrupted();
-        let served = match may_owe {
-            true => log.serve_ahead(session, message, &mut reply, streams)?,
-            false => log.serve(session, message, &mut reply, streams)?,
-        };
-        session = served.session;
-        appended += served.appended;
-        requests += 1;
-        let silent = served.outcome.err().filter(|refusal| refusal.is_silent());
-        if let Some(refusal) = silent {
-            let words = words::refusal(refusal);
-            streams.tell(&format!("message {requests} was not answered: {words}"));
-        } else if session != Session::Closed {
-            held.extend_from_slice(whole_reply(&reply));
-        }
+        talk.ask(log, message, may_owe, streams)?;
         if !log.is_owing() {
-            if let Err(failure) = answer_all(&mut held, streams) {
+            if let Err(failure) = talk.send(streams) {
                 return Ok(End::Broken(failure));
             }
         }
         if rests {
             log.rest();
         }
-        progress.show(streams, || {
-            format!("{requests} requests answered, {appended} sectors appended")
-        });
+        progress.show(streams, || talk.so_far());
     }
     Ok(End::Goodbye)
 }
 
-/// Sends the replies that were held back, each by itself.
-fn answer_all(held: &mut Vec<u8>, streams: &mut Streams) -> Result<(), Failure> {
-    let mut rest = &held[..];
-    while !rest.is_empty() {
-        let (reply, later) = rest.split_at(whole_reply(rest).len());
-        streams.answer(reply)?;
-        rest = later;
+struct Conversation {
+    session: Session,
+    reply: Vec<u8>,
+    /// The replies that were not sent yet.
+    held: Vec<u8>,
+    requests: u64,
+    appended: usize,
+}
+
+impl Conversation {
+    fn new() -> Conversation {
+        Conversation {
+            session: Session::Fresh,
+            reply: vec![0; REPLY],
+            held: Vec::new(),
+            requests: 0,
+            appended: 0,
+        }
     }
-    held.clear();
-    Ok(())
+
+    /// Asks the log, which may owe what the reply acknowledges, and keeps the reply.
+    fn ask(
+        &mut self,
+        log: &mut dyn Answers,
+        message: &[u8],
+        may_owe: bool,
+        streams: &mut Streams,
+    ) -> Result<(), Failure> {
+        let served = match may_owe {
+            true => log.serve_ahead(self.session, message, &mut self.reply, streams)?,
+            false => log.serve(self.session, message, &mut self.reply, streams)?,
+        };
+        self.session = served.session;
+        self.appended += served.appended;
+        self.requests += 1;
+        let silent = served.outcome.err().filter(|refusal| refusal.is_silent());
+        if let Some(refusal) = silent {
+            let (number, words) = (self.requests, words::refusal(refusal));
+            streams.tell(&format!("message {number} was not answered: {words}"));
+        } else if self.session != Session::Closed {
+            self.held.extend_from_slice(whole_reply(&self.reply));
+        }
+        Ok(())
+    }
+
+    /// Sends the replies that were kept, each by itself.
+    fn send(&mut self, streams: &mut Streams) -> Result<(), Failure> {
+        let mut rest = &self.held[..];
+        while !rest.is_empty() {
+            let (reply, later) = rest.split_at(whole_reply(rest).len());
+            streams.answer(reply)?;
+            rest = later;
+        }
+        self.held.clear();
+        Ok(())
+    }
+
+    /// How far it has come, in words.
+    fn so_far(&self) -> String {
+        let (requests, appended) = (self.requests, self.appended);
+        format!("{requests} requests answered, {appended} sectors appended")
+    }
 }
 
 #[cfg(test)]

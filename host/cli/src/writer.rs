@@ -3,7 +3,7 @@
 use std::fs::{File, OpenOptions};
 use std::io::{self, ErrorKind};
 use std::ops::Range;
-use std::os::unix::fs::{FileExt, MetadataExt};
+use std::os::unix::fs::FileExt;
 use std::path::{Path, PathBuf};
 use std::time::Duration;
 
@@ -13,7 +13,6 @@ use crate::blocks;
 use crate::date::Dates;
 use crate::disk;
 use crate::entry;
-use crate::escape;
 use crate::format::{sectors_of, start, Score, BLANK, MOST_PARTS, SECTOR};
 use crate::held::{self, Damaged};
 use crate::index_file::Index;
@@ -24,7 +23,7 @@ use crate::mark::{self, Found, Mark};
 use crate::mark_file::MarkFile;
 use crate::sectors::{self, Loaded};
 use crate::session::{self, Answers, Served, REPLY, SYNC};
-use crate::status::{Failure, INPUT_OUTPUT, UNFIT};
+use crate::status::Failure;
 use crate::streams::Streams;
 
 /// A log that this process alone may write.
@@ -81,7 +80,7 @@ impl Writer {
         is_file(path)?;
         let mut options = OpenOptions::new();
         let file = lock::open(options.read(true).write(true), path, wait, streams)?;
-        one_name(&file, path)?;
+        lock::one_name(&file, path)?;
         let mark_path = mark::path_of(path);
         mark::remove_left_over(&mark_path);
         let mark = match Mark::find(&mark_path)? {
@@ -403,7 +402,7 @@ impl Writer {
                 Err(e) if e.kind() != ErrorKind::UnexpectedEof => {
                     return Err(Failure::disk("read", &self.path, &e));
                 }
-                _ => return Err(changed(&self.path)),
+                _ => return Err(lock::changed(&self.path)),
             }
         }
         Ok(())
@@ -515,35 +514,6 @@ fn filled(bytes: &[u8]) -> usize {
 fn leaf_of(entry: [u8; entry::LENGTH]) -> Option<(u8, Score)> {
     let score = entry::score_in(&entry);
     (score != sha1(b"")).then_some((13, score))
-}
-
-/// Fails where the log has a second name: its mark stands beside one of them only.
-fn one_name(file: &File, path: &Path) -> Result<(), Failure> {
-    let found = file.metadata();
-    let found = found.map_err(|e| Failure::disk("look at", path, &e))?;
-    let names = found.nlink();
-    if names < 2 {
-        return Ok(());
-    }
-    let words = format!(
-        "{} is a file with {names} names (hard links), and its mark stands beside one of them \
-         only, so it is not written. Find the names with `find / -samefile {}`, keep the \
-         one that the mark stands beside and remove the others; a symbolic link may take their \
-         place.",
-        path.display(),
-        escape::quoted(path)
-    );
-    Err(Failure::new(UNFIT, words))
-}
-
-fn changed(path: &Path) -> Failure {
-    let words = format!(
-        "{} was changed by another program while this one was writing it: the next sectors are \
-         cut off or no longer blank. Nothing was written there. Find that program, and restore the \
-         log from a copy.",
-        path.display()
-    );
-    Failure::new(INPUT_OUTPUT, words)
 }
 
 #[cfg(test)]
