@@ -10,7 +10,6 @@ use types.Run.{OneOf}
 use denote.Enum.Declared.{tagOf as variant}
 use lib.ListN.{length, take, drop, length-drop, drop-of-length-le}
 use lib.Seq.{drop-drop}
-use Rattle.sector_number.specs.declared.SectorNumber.{SectorNumber}
 use Rattle.buffer.specs.Bytes.{Bytes, same, put}
 use Rattle.refusal.specs.declared.Refusal.the-variants.{Hello as BadHello}
 use Rattle.log.specs.declared.Stored.{Stored}
@@ -18,7 +17,6 @@ use Rattle.log.specs.declared.Stored.the-variants.{New, Duplicate, Refused as S
 use Rattle.log.specs.Parts.{Lent, beside}
 use Rattle.block.specs.declared.Block.{Block}
 use Rattle.block.specs.Log.{bytesOf}
-use Rattle.index.specs.Index.{entered}
 use Rattle.log.proofs.Stored.{the-type}
 use Rattle.reader.proofs.Pieces.{length-bytes}
 use Rattle.message.specs.Message.{tagOf, versionOf, requestOf}
@@ -31,7 +29,6 @@ use Rattle.message.proofs.Requests.{part-rest}
 use Rattle.request.specs.declared.Session.{Session}
 use Rattle.request.specs.declared.Session.the-variants.{Fresh, Greeted}
 use Rattle.request.specs.Step.{Outcome, outcomeOf, refused, granted, version, written, fresh}
-use Rattle.indexed.specs.Indexed.{enteredBy}
 
 -- an outcome by its parts
 pub outcome : (n k : ℕ) (s : Session) (log w x y : Bytes) → n ≡ k → x ≡ y
@@ -81,16 +78,6 @@ kept (New at) tag score L buffer k = refl
 kept (Duplicate at) tag score L buffer k = refl
 kept (StoreRefused w) tag score L buffer (inl e) = absurd (omega arith)
 kept (StoreRefused w) tag score L buffer (inr e) = absurd (omega arith)
-
--- what the store did is entered, where it stored
-pub entered-new : (s : Stored) (at : SectorNumber) (score index : Bytes) (kind : ℕ) → s ≡ New at → entered index score kind (at .0) ≡ enteredBy s score kind index
-entered-new s at score index kind e = ap (λ (x : Stored). enteredBy x score kind index) (sym e)
-
-pub entered-none : (s : Stored) (score index : Bytes) (kind : ℕ) → OneOf (1 ∷ 2 ∷ []) (variant the-type s) → index ≡ enteredBy s score kind index
-entered-none (New at) score index kind (inl e) = absurd (omega arith)
-entered-none (New at) score index kind (inr e) = absurd (omega arith)
-entered-none (Duplicate at) score index kind k = refl
-entered-none (StoreRefused w) score index kind k = refl
 
 -- ---- by what a message asks and its fields, as they were taken from it
 

@@ -1,4 +1,4 @@
-// The replies of a request: refusals, acknowledgements, a request in a fresh session, what a read and a write say; a stored block entered into the index.
+// The replies of a request: refusals, acknowledgements, a request in a fresh session, what a read and a write say.
 use block::Block;
 use log::Receipt;
 use log::Stored;
@@ -22,7 +22,6 @@ ghost use Rattle.message.specs.Reply.{reply as replyOf};
 ghost use Rattle.message.specs.declared.Request.the-variants.{Hello, Read, Write};
 ghost use Rattle.request.specs.declared.Session.the-variants.{Greeted, Closed as Shut};
 ghost use Rattle.request.specs.Step.{replyRoom, outcomeOf, silent, refused, granted, written, fresh};
-ghost use Rattle.indexed.specs.Indexed.{enteredBy};
 
 // The least length of a reply buffer.
 pub const REPLY_ROOM: usize = 57348;
@@ -74,7 +73,8 @@ pub fn close() -> Answer
 // A hello in a fresh session.
 fn greet(message: &[u8], reply: &mut [u8]) -> Answer
     requires { ⌜ (4 ≤ length (now message)) × (replyRoom ≤ length (now reply)) ⌝ }
-    ensures { λ r. ⌜ ((log waiting : Bytes) → outcomeOf r log waiting (now (reply .exit)) ≡ fresh Hello (tagOf (now (message .entry))) (now (message .entry)) (beside log waiting) (now (reply .entry))) ⌝ }
+    ensures { λ r. ⌜ ((log waiting : Bytes) → outcomeOf r log waiting (now (reply .exit))
+        ≡ fresh Hello (tagOf (now (message .entry))) (now (message .entry)) (beside log waiting) (now (reply .entry))) ⌝ }
 {
     let tag = message::tag_of(message);
     if !message::is_version(message) {
@@ -90,7 +90,8 @@ fn greet(message: &[u8], reply: &mut [u8]) -> Answer
 // A request in a fresh session.
 pub fn serve_fresh(message: &[u8], reply: &mut [u8]) -> Answer
     requires { ⌜ (4 ≤ length (now message)) × (replyRoom ≤ length (now reply)) ⌝ }
-    ensures { λ r. ⌜ ((log waiting : Bytes) → outcomeOf r log waiting (now (reply .exit)) ≡ fresh (requestOf (now (message .entry))) (tagOf (now (message .entry))) (now (message .entry)) (beside log waiting) (now (reply .entry))) ⌝ }
+    ensures { λ r. ⌜ ((log waiting : Bytes) → outcomeOf r log waiting (now (reply .exit))
+        ≡ fresh (requestOf (now (message .entry))) (tagOf (now (message .entry))) (now (message .entry)) (beside log waiting) (now (reply .entry))) ⌝ }
 {
     let tag = message::tag_of(message);
     let request = message::parse(message);
@@ -116,7 +117,8 @@ pub fn answer_read<'a>(
     reply: &mut [u8],
 ) -> Answer
     requires { ⌜ (end .0 ≤ sectors (length (now log))) × Inside (end .0 + sectors (length (now waiting))) b × (b .size ≤ longest) × (replyRoom ≤ length (now reply)) ⌝ }
-    ensures { λ r. ⌜ outcomeOf r (now (log .entry)) (now (waiting .entry)) (now (reply .exit)) ≡ granted (readReply tag (bytesOf (joined (end .0) (now (log .entry)) (now (waiting .entry))) b)) Greeted (beside (now (log .entry)) (now (waiting .entry))) (now (reply .entry)) ⌝ }
+    ensures { λ r. ⌜ outcomeOf r (now (log .entry)) (now (waiting .entry)) (now (reply .exit))
+        ≡ granted (readReply tag (bytesOf (joined (end .0) (now (log .entry)) (now (waiting .entry))) b)) Greeted (beside (now (log .entry)) (now (waiting .entry))) (now (reply .entry)) ⌝ }
 {
     reply::write_head(reply, message::READ_REPLY, tag, b.size);
     reader::copy_out(log, end, waiting, b, &mut reply[message::HEAD..]);
@@ -140,15 +142,5 @@ pub fn answer_store(receipt: Receipt, tag: u8, reply: &mut [u8]) -> Answer
     Answer {
         number: 0,
         session: Session::Greeted,
-    }
-}
-
-// Enters a block that was stored into the index; a duplicate and a refusal leave it.
-pub fn enter_stored(index: &mut [u8], stored: Stored, score: &[u8], kind: u8)
-    requires { ⌜ length (now score) ≡ 20 ⌝ }
-    ensures { λ _. ⌜ now (index .exit) ≡ enteredBy stored (now (score .entry)) kind (now (index .entry)) ⌝ }
-{
-    if let Stored::New(at) = stored {
-        index::enter(index, score, kind, at);
     }
 }

@@ -11,7 +11,7 @@ use lib.ListN.{length, getD, drop, drop-of-length-le}
 use lib.Seq.{drop-cons}
 use Rattle.ground.proofs.Choices.{or-none}
 use Rattle.buffer.specs.Bytes.{Bytes, same}
-use Rattle.card.specs.Name.{letterOrDigit, lettersAndDigits, reserved, isName, before}
+use Rattle.antigen.specs.Name.{letterOrDigit, lettersAndDigits, reserved, isName, before}
 
 -- ---- a byte, between the borders
 

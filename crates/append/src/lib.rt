@@ -33,8 +33,10 @@ fn write_part(
     data: &[u8],
     k: usize,
 )
-    requires { ⌜ (length (now «data») ≤ longest) × (length (now score) ≡ 20) × (length (now front) + linesLength < bodyLength) × (sectorLength * partsBehind (now front) (now «data») ≤ length (now part)) × (k < partsBehind (now front) (now «data»)) ⌝ }
-    ensures { λ _. ⌜ ((date : Bytes) → frontOf date ≡ now (front .entry) → now (part .exit) ≡ put (now (part .entry)) (sectorLength * k) (image (rowOf kind (now (score .entry)) (now («data» .entry)) (first .0) date) k)) ⌝ }
+    requires { ⌜ (length (now «data») ≤ longest) × (length (now score) ≡ 20) × (length (now front) + linesLength < bodyLength)
+        × (sectorLength * partsBehind (now front) (now «data») ≤ length (now part)) × (k < partsBehind (now front) (now «data»)) ⌝ }
+    ensures { λ _. ⌜ ((date : Bytes) → frontOf date ≡ now (front .entry) → now (part .exit)
+        ≡ put (now (part .entry)) (sectorLength * k) (image (rowOf kind (now (score .entry)) (now («data» .entry)) (first .0) date) k)) ⌝ }
 {
     let label = front.len() + LABEL;
     let p = block::payload_of(label);
@@ -63,8 +65,10 @@ fn write_parts(
     score: &[u8],
     data: &[u8],
 )
-    requires { ⌜ (length (now «data») ≤ longest) × (length (now score) ≡ 20) × (length (now front) + linesLength < bodyLength) × (sectorLength * partsBehind (now front) (now «data») ≤ length (now part)) ⌝ }
-    ensures { λ _. ⌜ ((date : Bytes) → frontOf date ≡ now (front .entry) → now (part .exit) ≡ put (now (part .entry)) 0 (images (rowOf kind (now (score .entry)) (now («data» .entry)) (first .0) date) (partsBehind (now (front .entry)) (now («data» .entry))) 0)) ⌝ }
+    requires { ⌜ (length (now «data») ≤ longest) × (length (now score) ≡ 20) × (length (now front) + linesLength < bodyLength)
+        × (sectorLength * partsBehind (now front) (now «data») ≤ length (now part)) ⌝ }
+    ensures { λ _. ⌜ ((date : Bytes) → frontOf date ≡ now (front .entry) → now (part .exit)
+        ≡ put (now (part .entry)) 0 (images (rowOf kind (now (score .entry)) (now («data» .entry)) (first .0) date) (partsBehind (now (front .entry)) (now («data» .entry))) 0)) ⌝ }
 {
     let count = block::parts_of(front.len() + LABEL, data.len());
     let mut k: usize = 0;
@@ -85,7 +89,8 @@ pub fn append_block(
     score: &[u8],
     data: &[u8],
 )
-    requires { ⌜ (length (now «data») ≤ longest) × (length (now score) ≡ 20) × (length (now date) ≡ 8) × (from .0 ≤ first .0) × (first .0 - from .0 + partsFor (now date) (now «data») ≤ sectors (length (now part))) ⌝ }
+    requires { ⌜ (length (now «data») ≤ longest) × (length (now score) ≡ 20) × (length (now date) ≡ 8) × (from .0 ≤ first .0)
+        × (first .0 - from .0 + partsFor (now date) (now «data») ≤ sectors (length (now part))) ⌝ }
     ensures { λ _. ⌜ now (part .exit) ≡ writtenFrom (from .0) (now (part .entry)) (rowOf kind (now (score .entry)) (now («data» .entry)) (first .0) (now (date .entry))) ⌝ }
 {
     let mut front = [0u8; 14];

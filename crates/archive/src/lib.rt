@@ -17,7 +17,8 @@ pub fn serve(
     index: &mut [u8],
     reply: &mut [u8],
 ) -> Answer
-    ensures { λ r. ⌜ indexedOf r (now (log .exit)) (now (waiting .exit)) (now (reply .exit)) (now (index .exit)) ≡ stepBy session (now (message .entry)) (some (now (date .entry))) (now (index .entry)) (beside (now (log .entry)) (now (waiting .entry))) (now (reply .entry)) ⌝ }
+    ensures { λ r. ⌜ indexedOf r (now (log .exit)) (now (waiting .exit)) (now (reply .exit)) (now (index .exit))
+        ≡ stepBy session (now (message .entry)) (some (now (date .entry))) (now (index .entry)) (beside (now (log .entry)) (now (waiting .entry))) (now (reply .entry)) ⌝ }
 {
     if !message::is_framed(message) {
         return answer::refuse_silently(Refusal::Frame, session);

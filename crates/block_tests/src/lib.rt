@@ -25,7 +25,8 @@ pub fn labels_agree<'a>(
     score: &[u8],
 ) -> bool
     requires { ⌜ (end .0 ≤ sectors (length (now log))) × Inside (end .0 + sectors (length (now waiting))) b × (length (now front) + linesLength ≡ b .label) × (length (now score) ≡ 20) ⌝ }
-    ensures { λ r. ⌜ ((date : Bytes) → frontOf date ≡ now (front .entry) → r ≡ labelled (joined (end .0) (now (log .entry)) (now (waiting .entry))) date (partsIn b) (b .first .0) kind (b .size) (now (score .entry)) (partsIn b) 0) ⌝ }
+    ensures { λ r. ⌜ ((date : Bytes) → frontOf date ≡ now (front .entry) →
+        r ≡ labelled (joined (end .0) (now (log .entry)) (now (waiting .entry))) date (partsIn b) (b .first .0) kind (b .size) (now (score .entry)) (partsIn b) 0) ⌝ }
 {
     let first = b.first;
     let of = block::parts_of(b.label, b.size);

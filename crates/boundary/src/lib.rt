@@ -35,7 +35,8 @@ pub extern "C" fn skywimple_sha1(s: &[u8], out: &mut [u8]) -> u32
     digest_calls::sha1(s, out)
 }
 
-// One request, with a date, the log and its waiting part, and an index of any length; an empty one is the scan. The result is the number of the refusal, 0 for none, and 256 times the session afterwards.
+// One request, with a date, the log and its waiting part, and an index of any length; an empty one is the scan.
+// The result is the number of the refusal, 0 for none, and 256 times the session afterwards.
 #[no_mangle]
 pub extern "C" fn skywimple_serve(
     session: u8,
@@ -46,7 +47,8 @@ pub extern "C" fn skywimple_serve(
     index: &mut [u8],
     reply: &mut [u8],
 ) -> u32
-    ensures { λ r. ⌜ served r (now (log .exit)) (now (waiting .exit)) (now (reply .exit)) (now (index .exit)) ≡ servedOf (stepBy (sessionOf session) (now (message .entry)) (some (now (date .entry))) (now (index .entry)) (beside (now (log .entry)) (now (waiting .entry))) (now (reply .entry))) ⌝ }
+    ensures { λ r. ⌜ served r (now (log .exit)) (now (waiting .exit)) (now (reply .exit)) (now (index .exit))
+        ≡ servedOf (stepBy (sessionOf session) (now (message .entry)) (some (now (date .entry))) (now (index .entry)) (beside (now (log .entry)) (now (waiting .entry))) (now (reply .entry))) ⌝ }
 {
     serve_calls::serve(session, message, date, log, waiting, index, reply)
 }

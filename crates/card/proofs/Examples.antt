@@ -1,6 +1,6 @@
 -- The table of cards, computed.
 use mathlib.Core.Path.{refl}
-use Rattle.card.specs.Name.{letterOrDigit, reserved, isName, before}
+use Rattle.antigen.specs.Name.{letterOrDigit, reserved, isName, before}
 use Rattle.card.specs.Card.{text, goodFrom, upTo, lineWith, linesAt, frontLines, wellFormed}
 use Rattle.card.specs.Examples.{Examples}
 

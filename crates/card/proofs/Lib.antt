@@ -1,4 +1,3 @@
-pub mod Names
 pub mod Parts
 pub mod Lines
 pub mod Turns

@@ -14,7 +14,7 @@ use Rattle.ground.proofs.Choices.{and-one}
 use Rattle.buffer.specs.Bytes.{Bytes, same}
 use Rattle.buffer.proofs.Bytes.{same-true}
 use Rattle.kleene.specs.declared.Value.the-variants.{NotKnown}
-use Rattle.card.specs.Name.{isName, before}
+use Rattle.antigen.specs.Name.{isName, before}
 use Rattle.card.specs.Card.{Line, line, ending, lineText, text, goodFrom, upTo, upToEquals, begins, lineWith, lineOf, linesAt, frontLines, wellFormed, told, say, valueIn}
 
 -- ---- what stands at the front

@@ -8,7 +8,7 @@ use lib.Dec.{ltb, eqb}
 use borrow.Author.Tests.{ltb-true, eqb-true, lt-ltb, le-ltb, eq-eqb}
 use Rattle.ground.proofs.Choices.{and-true, or-right}
 use Rattle.buffer.specs.Bytes.{Bytes}
-use Rattle.card.specs.Name.{isName, before}
+use Rattle.antigen.specs.Name.{isName, before}
 use Rattle.card.specs.Card.{Line, goodFrom}
 
 pub before-self : (x : Bytes) → before x x ≡ false

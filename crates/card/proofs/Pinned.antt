@@ -12,7 +12,7 @@ use lib.Seq.{drop-append-seam}
 use Rattle.ground.proofs.Choices.{and-true}
 use Rattle.buffer.specs.Bytes.{Bytes, same}
 use Rattle.buffer.proofs.Bytes.{same-true, same-refl}
-use Rattle.card.specs.Name.{letterOrDigit, lettersAndDigits, reserved, isName}
+use Rattle.antigen.specs.Name.{letterOrDigit, lettersAndDigits, reserved, isName}
 use Rattle.card.specs.Card.{Line, line, ending, lineText, text, goodFrom, good, upTo, upToEquals, lineWith, lineOf, frontLines, wellFormed, linesOf}
 use Rattle.card.specs.Pinned.{Pinned, OneLineOfAName}
 use Rattle.card.proofs.Lines.{front-none, front-some}

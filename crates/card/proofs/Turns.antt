@@ -9,7 +9,7 @@ use lib.ListN.{length, take, drop, length-append, length-drop, drop-of-length-le
 use lib.Seq.{drop-cons, drop-drop, take-append-le, take-append-seam}
 use Rattle.buffer.specs.Bytes.{Bytes, same}
 use Rattle.kleene.specs.declared.Value.the-variants.{NotKnown}
-use Rattle.card.specs.Name.{isName, before}
+use Rattle.antigen.specs.Name.{isName, before}
 use Rattle.card.specs.Card.{Line, ending, lineText, upTo, upToEquals, begins, lineWith, lineOf, told, valueIn}
 use Rattle.card.specs.Scan.{placeOf}
 use Rattle.card.specs.declared.Place.{Place}

@@ -9,7 +9,7 @@ use Rattle.ground.specs.Choice.{on}
 use Rattle.buffer.specs.Bytes.{Bytes, same}
 use Rattle.kleene.specs.declared.Value.{Value}
 use Rattle.kleene.specs.declared.Value.the-variants.{Yes, No, NotKnown}
-use Rattle.card.specs.Name.{isName, before}
+use Rattle.antigen.specs.Name.{isName, before}
 
 -- a line: an antigen's name, and whether it is present or absent
 pub record Line : Type 0 where

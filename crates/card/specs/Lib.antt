@@ -1,5 +1,4 @@
 -- What the clauses of `card` cite, and what is claimed of them.
-pub mod Name
 pub mod Card
 pub mod Scan
 pub mod Pinned

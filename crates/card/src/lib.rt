@@ -3,7 +3,6 @@ use kleene::Value;
 ghost use mathlib.Core.Path.{_≡_};
 ghost use Prim.Native.Nat.{_+_, _≤_};
 ghost use lib.ListN.{length, drop};
-ghost use Rattle.card.specs.Name.{letterOrDigit, lettersAndDigits, reserved, isName, before};
 ghost use Rattle.card.specs.Card.{upTo, begins, lineOf, told, wellFormed, valueIn};
 ghost use Rattle.card.specs.Scan.{placeOf};
 
@@ -15,88 +14,6 @@ pub enum Place {
         present: bool,
     },
     Nothing,
-}
-
-// Whether a byte is 0 to 9, A to Z or a to z.
-fn is_letter_or_digit(b: u8) -> bool
-    ensures { λ r. ⌜ r ≡ letterOrDigit b ⌝ }
-{
-    if b < 0x30 {
-        return false;
-    }
-    if b <= 0x39 {
-        return true;
-    }
-    if b < 0x41 {
-        return false;
-    }
-    if b <= 0x5a {
-        return true;
-    }
-    if b < 0x61 {
-        return false;
-    }
-    b <= 0x7a
-}
-
-// Whether all bytes are letters or digits.
-fn are_letters_and_digits(s: &[u8]) -> bool
-    ensures { λ r. ⌜ r ≡ lettersAndDigits (now (s .entry)) ⌝ }
-{
-    let mut i: usize = 0;
-    while i < s.len() {
-        if !is_letter_or_digit(s[i]) {
-            return false;
-        }
-        i += 1;
-    }
-    true
-}
-
-// Whether bytes are one of the words that queries have: and, or, not.
-fn is_reserved(s: &[u8]) -> bool
-    ensures { λ r. ⌜ r ≡ reserved (now (s .entry)) ⌝ }
-{
-    if buffer::equal(s, b"and") {
-        return true;
-    }
-    if buffer::equal(s, b"or") {
-        return true;
-    }
-    buffer::equal(s, b"not")
-}
-
-// Whether bytes are the name of an antigen.
-pub fn is_name(s: &[u8]) -> bool
-    ensures { λ r. ⌜ r ≡ isName (now (s .entry)) ⌝ }
-{
-    if s.len() < 1 {
-        return false;
-    }
-    if 8 < s.len() {
-        return false;
-    }
-    if is_reserved(s) {
-        return false;
-    }
-    are_letters_and_digits(s)
-}
-
-// Whether a is before b, byte by byte; a beginning is before its continuation.
-fn is_before(a: &[u8], b: &[u8]) -> bool
-    ensures { λ r. ⌜ r ≡ before (now (a .entry)) (now (b .entry)) ⌝ }
-{
-    let mut i: usize = 0;
-    while i < b.len() {
-        if a.len() <= i {
-            return true;
-        }
-        if a[i] != b[i] {
-            return a[i] < b[i];
-        }
-        i += 1;
-    }
-    false
 }
 
 // Where the first byte of a value from a place on stands, or the end of the bytes.
@@ -199,10 +116,10 @@ pub fn is_card(s: &[u8]) -> bool
         else {
             return false;
         };
-        if !is_name(&s[at..equals]) {
+        if !antigen::is_name(&s[at..equals]) {
             return false;
         }
-        if !is_before(&s[from..to], &s[at..equals]) {
+        if !antigen::is_before(&s[from..to], &s[at..equals]) {
             return false;
         }
         from = at;

@@ -4,7 +4,7 @@ use mathlib.Core.Bool.{true}
 use mathlib.Core.List.{map}
 use Rattle.buffer.specs.Bytes.{Bytes}
 use Rattle.word.specs.Number.{small}
-use Rattle.card.specs.Name.{letterOrDigit, reserved, isName, before}
+use Rattle.antigen.specs.Name.{letterOrDigit, reserved, isName, before}
 use Rattle.card.specs.Card.{text, goodFrom, upTo, lineWith, linesAt, frontLines, wellFormed, say, valueIn}
 use Rattle.query.specs.Grammar.{words, after, nameAt, listAt, readingOf}
 use Rattle.query.specs.Value.{valueOf}

@@ -14,9 +14,9 @@ use Rattle.reader.proofs.Pieces.{length-bytes}
 use Rattle.entry.specs.declared.Entry.{Entry}
 use Rattle.entry.specs.Entry.{entryOf, scoreOf}
 use Rattle.tree.specs.Tree.{pointer}
-use Rattle.pair.specs.declared.Verdict.{Verdict}
-use Rattle.pair.specs.declared.Verdict.the-variants.{Open}
-use Rattle.pair.specs.Verdict.{verdict}
+use Rattle.verdict.specs.declared.Verdict.{Verdict}
+use Rattle.verdict.specs.declared.Verdict.the-variants.{Open}
+use Rattle.verdict.specs.Verdict.{verdict}
 use Rattle.comparison.specs.declared.Compared.{Compared}
 use Rattle.comparison.specs.Compared.{inOrder}
 use Rattle.comparison.specs.Compare.{positions, byVerdict, compareBlocks, compareEntries, mostLeaf, comparePosition, compareBelow}

@@ -4,9 +4,9 @@ use block::Block;
 use comparison::Compared;
 use entry::Entry;
 use open_pair::Pair;
-use pair::Verdict;
 use refusal::Refusal;
 use sector_number::SectorNumber;
+use verdict::Verdict;
 use visit::End;
 ghost use mathlib.Core.Path.{_≡_};
 ghost use Prim.Native.Nat.{ℕ, _+_, _≤_, _<_, max};
@@ -54,7 +54,7 @@ pub fn compare_entries<'a>(
     requires { ⌜ (end .0 ≤ sectors (length (now log))) × (length (now x) ≡ 40) × (length (now y) ≡ 40) × (nest ≤ 16) × (left ≤ mostAllowance) ⌝ }
     ensures { λ r. ⌜ ((f : ℕ) → left < f → r ≡ compareEntries f (joined (end .0) (now (log .entry)) (now (waiting .entry))) nest (now (x .entry)) (now (y .entry)) left) ⌝ }
 {
-    let verdict = pair::judge(x, y);
+    let verdict = verdict::judge(x, y);
     match verdict {
         Verdict::Skip => Compared {
             count: 0,
@@ -124,8 +124,12 @@ fn compare_below<'a>(
     c: Block,
     left: usize,
 ) -> Compared
-    requires { ⌜ (end .0 ≤ sectors (length (now log))) × Lies level b (end .0 + sectors (length (now waiting))) × Lies level c (end .0 + sectors (length (now waiting))) × (level ≤ 7) × (nest ≤ 16) × (e .dsize ≤ mostLeaf) × (left < mostAllowance) ⌝ }
-    ensures { λ r. ⌜ ((f : ℕ) → left < f → r ≡ compareBelow f (joined (end .0) (now (log .entry)) (now (waiting .entry))) e level nest (bytesOf (joined (end .0) (now (log .entry)) (now (waiting .entry))) b) (bytesOf (joined (end .0) (now (log .entry)) (now (waiting .entry))) c) left) ⌝ }
+    requires { ⌜ (end .0 ≤ sectors (length (now log))) × Lies level b (end .0 + sectors (length (now waiting)))
+        × Lies level c (end .0 + sectors (length (now waiting))) × (level ≤ 7) × (nest ≤ 16) × (e .dsize ≤ mostLeaf) × (left < mostAllowance) ⌝ }
+    ensures { λ r. ⌜ ((f : ℕ) → left < f →
+        r ≡ compareBelow f (joined (end .0) (now (log .entry)) (now (waiting .entry))) e level nest
+        (bytesOf (joined (end .0) (now (log .entry)) (now (waiting .entry))) b) (bytesOf (joined (end .0) (now (log .entry)) (now (waiting .entry))) c)
+        left) ⌝ }
 {
     let most = positions_of_both(level, b.size, c.size);
     let mut count: usize = 0;
@@ -165,8 +169,12 @@ fn compare_position<'a>(
     i: usize,
     left: usize,
 ) -> Compared
-    requires { ⌜ (end .0 ≤ sectors (length (now log))) × Lies level b (end .0 + sectors (length (now waiting))) × Lies level c (end .0 + sectors (length (now waiting))) × (level ≤ 7) × (nest ≤ 16) × (e .dsize ≤ mostLeaf) × (left ≤ mostAllowance) × (i ≤ longest) ⌝ }
-    ensures { λ r. ⌜ ((f : ℕ) → left < f → r ≡ comparePosition f (joined (end .0) (now (log .entry)) (now (waiting .entry))) e level nest (bytesOf (joined (end .0) (now (log .entry)) (now (waiting .entry))) b) (bytesOf (joined (end .0) (now (log .entry)) (now (waiting .entry))) c) i left) ⌝ }
+    requires { ⌜ (end .0 ≤ sectors (length (now log))) × Lies level b (end .0 + sectors (length (now waiting)))
+        × Lies level c (end .0 + sectors (length (now waiting))) × (level ≤ 7) × (nest ≤ 16) × (e .dsize ≤ mostLeaf) × (left ≤ mostAllowance) × (i ≤ longest) ⌝ }
+    ensures { λ r. ⌜ ((f : ℕ) → left < f →
+        r ≡ comparePosition f (joined (end .0) (now (log .entry)) (now (waiting .entry))) e level nest
+        (bytesOf (joined (end .0) (now (log .entry)) (now (waiting .entry))) b) (bytesOf (joined (end .0) (now (log .entry)) (now (waiting .entry))) c)
+        i left) ⌝ }
 {
     if level == 0 {
         let x = visit::entry_bytes(log, end, waiting, b, i);

@@ -13,7 +13,7 @@ use Rattle.entry.specs.Entry.{entryOf, scoreOf}
 use Rattle.tree.specs.Tree.{pointer}
 use Rattle.visit.specs.declared.End.{End}
 use Rattle.visit.specs.declared.End.the-variants.{Done, Refused}
-use Rattle.pair.specs.Verdict.{verdict}
+use Rattle.verdict.specs.Verdict.{verdict}
 use Rattle.pair.specs.Opened.{opened}
 use Rattle.comparison.specs.declared.Compared.{Compared}
 use Rattle.comparison.specs.Compared.{none, refused, oneUnit, andThen, inOrder}

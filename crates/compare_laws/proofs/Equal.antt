@@ -1,7 +1,7 @@
 -- A tree beside itself: nothing is read.
 use borrow.Author.Tests.{le-ltb}
 use Rattle.walk.specs.Walk.{mostAllowance}
-use Rattle.pair.proofs.Verdicts.{equal-skip}
+use Rattle.verdict.proofs.Verdicts.{equal-skip}
 use Rattle.comparison.specs.Differences.{differencesIn}
 use Rattle.compare_laws.specs.Equal.{EqualIsNone}
 

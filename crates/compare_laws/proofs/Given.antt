@@ -14,9 +14,9 @@ use Rattle.entry.specs.declared.Entry.{Entry}
 use Rattle.entry.specs.Entry.{entryOf, wellFormed, scoreOf}
 use Rattle.file.specs.File.{entryReadable}
 use Rattle.walk.specs.Walk.{mostAllowance}
-use Rattle.pair.specs.declared.Verdict.the-variants.{Open, Differ}
-use Rattle.pair.specs.Verdict.{sameShape, verdictOf, verdict}
-use Rattle.pair.proofs.Verdicts.{by-tests, shape-self}
+use Rattle.verdict.specs.declared.Verdict.the-variants.{Open, Differ}
+use Rattle.verdict.specs.Verdict.{sameShape, verdictOf, verdict}
+use Rattle.verdict.proofs.Verdicts.{by-tests, shape-self}
 use Rattle.comparison.specs.declared.Compared.{Compared}
 use Rattle.comparison.specs.Compared.{none}
 use Rattle.comparison.specs.Compare.{byVerdict, compareBlocks, compareEntries}

@@ -17,12 +17,12 @@ use Rattle.tree.specs.Tree.{typeAt, countAt, pointer}
 use Rattle.visit.specs.declared.End.the-variants.{Done}
 use Rattle.walk.specs.Walk.{mostAllowance}
 use Rattle.walk_laws.proofs.Found.{not-done}
-use Rattle.pair.specs.declared.Verdict.{Verdict}
-use Rattle.pair.specs.declared.Verdict.the-variants.{Skip, IllFormed, Open, Differ}
-use Rattle.pair.specs.Verdict.{verdict}
+use Rattle.verdict.specs.declared.Verdict.{Verdict}
+use Rattle.verdict.specs.declared.Verdict.the-variants.{Skip, IllFormed, Open, Differ}
+use Rattle.verdict.specs.Verdict.{verdict}
 use Rattle.pair.specs.Opened.{opened}
 use Rattle.pair.proofs.Opened.{read-is}
-use Rattle.pair.proofs.Verdicts.{Opening, open-says, verdict-comm, same-comm}
+use Rattle.verdict.proofs.Verdicts.{Opening, open-says, verdict-comm, same-comm}
 use Rattle.comparison.specs.declared.Compared.{Compared}
 use Rattle.comparison.specs.Compared.{none, refused, oneUnit, andThen, inOrder}
 use Rattle.comparison.specs.Compare.{Blocks, byVerdict, entriesBy, listed, positionBy, positions, spending, belowBy, pairBy, compareBlocks}

@@ -24,12 +24,12 @@ use Rattle.tree.proofs.Pointers.{pointer-past}
 use Rattle.visit.specs.declared.End.the-variants.{Done}
 use Rattle.walk.specs.Walk.{mostAllowance}
 use Rattle.walk_laws.proofs.Found.{not-done}
-use Rattle.pair.specs.declared.Verdict.{Verdict}
-use Rattle.pair.specs.declared.Verdict.the-variants.{Skip, IllFormed, Open, Differ}
-use Rattle.pair.specs.Verdict.{verdict}
+use Rattle.verdict.specs.declared.Verdict.{Verdict}
+use Rattle.verdict.specs.declared.Verdict.the-variants.{Skip, IllFormed, Open, Differ}
+use Rattle.verdict.specs.Verdict.{verdict}
 use Rattle.pair.specs.Opened.{ragged, opened}
 use Rattle.pair.proofs.Opened.{ReadAs, read-is}
-use Rattle.pair.proofs.Verdicts.{skip-says, equal-skip, inactive-skip}
+use Rattle.verdict.proofs.Verdicts.{skip-says, equal-skip, inactive-skip}
 use Rattle.comparison.specs.declared.Compared.{Compared}
 use Rattle.comparison.specs.Compared.{none, refused, oneUnit}
 use Rattle.comparison.specs.Compare.{Blocks, byVerdict, entriesBy, listed, positionBy, positions, spending, belowBy, pairBy, compareBlocks, compareEntries}

@@ -9,7 +9,7 @@ use Rattle.log.specs.LookUp.{lentAllowed}
 use Rattle.entry.specs.Entry.{entryOf, scoreOf}
 use Rattle.visit.specs.declared.End.the-variants.{Done}
 use Rattle.walk.specs.Walk.{mostAllowance}
-use Rattle.pair.specs.Verdict.{sameShape}
+use Rattle.verdict.specs.Verdict.{sameShape}
 use Rattle.comparison.specs.Compared.{compared, none, refused}
 use Rattle.comparison.specs.Differences.{directoryAllowed, differencesOf}
 

@@ -11,8 +11,8 @@ use Rattle.entry.specs.declared.Entry.{Entry}
 use Rattle.entry.specs.Entry.{entryOf, scoreOf}
 use Rattle.tree.specs.Tree.{typeAt, pointer}
 use Rattle.visit.specs.declared.End.the-variants.{Done}
-use Rattle.pair.specs.declared.Verdict.the-variants.{Open}
-use Rattle.pair.specs.Verdict.{verdict}
+use Rattle.verdict.specs.declared.Verdict.the-variants.{Open}
+use Rattle.verdict.specs.Verdict.{verdict}
 use Rattle.comparison.specs.Compare.{listed}
 use Rattle.comparison.specs.Differences.{differencesOf}
 

@@ -17,11 +17,11 @@ use Rattle.entry.specs.Entry.{entryOf, wellFormed, scoreOf}
 use Rattle.tree.specs.Tree.{typeAt, countAt, pointer}
 use Rattle.visit.specs.declared.End.{End}
 use Rattle.visit.specs.declared.End.the-variants.{Done, Refused}
-use Rattle.pair.specs.declared.Verdict.{Verdict}
-use Rattle.pair.specs.declared.Verdict.the-variants.{Skip, IllFormed, Open, Differ}
-use Rattle.pair.specs.Verdict.{verdict}
+use Rattle.verdict.specs.declared.Verdict.{Verdict}
+use Rattle.verdict.specs.declared.Verdict.the-variants.{Skip, IllFormed, Open, Differ}
+use Rattle.verdict.specs.Verdict.{verdict}
 use Rattle.pair.specs.Opened.{ragged, opened}
-use Rattle.pair.proofs.Verdicts.{open-says}
+use Rattle.verdict.proofs.Verdicts.{open-says}
 use Rattle.comparison.specs.declared.Compared.{Compared}
 use Rattle.comparison.specs.Compared.{refused, andThen, inOrder}
 use Rattle.comparison.specs.Compare.{Blocks, byVerdict, entriesBy, listed, positionBy, positions, spending, belowBy, pairBy, compareBlocks, compareEntries, comparePosition, mostLeaf}

@@ -32,7 +32,9 @@ pub fn copy_directory<'a>(
 ) -> Walked
     requires { ⌜ (end .0 ≤ sectors (length (now log))) × Inside (end .0 + sectors (length (now waiting))) b × (b .size ≤ longest) × (nest ≤ 16) × (length (now date) ≡ 8) ⌝ }
     ensures within { λ r. ⌜ r .visits ≤ left ⌝ }
-    ensures exact { λ r. ⌜ ((f : ℕ) → left + left + 2 ≤ f → copied r (now (second .exit)) ≡ copyDirectory f (joined (end .0) (now (log .entry)) (now (waiting .entry))) (now (date .entry)) nest (bytesOf (joined (end .0) (now (log .entry)) (now (waiting .entry))) b) left (now (second .entry))) ⌝ }
+    ensures exact { λ r. ⌜ ((f : ℕ) → left + left + 2 ≤ f → copied r (now (second .exit))
+        ≡ copyDirectory f (joined (end .0) (now (log .entry)) (now (waiting .entry))) (now (date .entry)) nest
+        (bytesOf (joined (end .0) (now (log .entry)) (now (waiting .entry))) b) left (now (second .entry))) ⌝ }
 {
     let count = (b.size + 39) / 40;
     let mut visits: usize = 0;
@@ -67,9 +69,12 @@ fn copy_listed<'a>(
     nest: usize,
     left: usize,
 ) -> Walked
-    requires { ⌜ (end .0 ≤ sectors (length (now log))) × Inside (end .0 + sectors (length (now waiting))) b × (b .size ≤ longest) × (nest ≤ 16) × (i < entriesOf (b .size)) × (length (now date) ≡ 8) ⌝ }
+    requires { ⌜ (end .0 ≤ sectors (length (now log))) × Inside (end .0 + sectors (length (now waiting))) b × (b .size ≤ longest) × (nest ≤ 16)
+        × (i < entriesOf (b .size)) × (length (now date) ≡ 8) ⌝ }
     ensures within { λ r. ⌜ r .visits ≤ left ⌝ }
-    ensures exact { λ r. ⌜ ((f : ℕ) → left + left + 1 ≤ f → copied r (now (second .exit)) ≡ copyListed f (joined (end .0) (now (log .entry)) (now (waiting .entry))) (now (date .entry)) nest (entryIn (bytesOf (joined (end .0) (now (log .entry)) (now (waiting .entry))) b) i) left (now (second .entry))) ⌝ }
+    ensures exact { λ r. ⌜ ((f : ℕ) → left + left + 1 ≤ f → copied r (now (second .exit))
+        ≡ copyListed f (joined (end .0) (now (log .entry)) (now (waiting .entry))) (now (date .entry)) nest
+        (entryIn (bytesOf (joined (end .0) (now (log .entry)) (now (waiting .entry))) b) i) left (now (second .entry))) ⌝ }
 {
     let bytes = visit::entry_bytes(log, end, waiting, b, i);
     let e = entry::entry_at(&bytes, 0);
@@ -109,7 +114,8 @@ fn copy_entry<'a>(
 ) -> Walked
     requires { ⌜ (end .0 ≤ sectors (length (now log))) × (length (now score) ≡ 20) × (level ≤ 7) × (length (now date) ≡ 8) ⌝ }
     ensures within { λ r. ⌜ r .visits ≤ left ⌝ }
-    ensures exact { λ r. ⌜ ((f : ℕ) → left + left + 1 ≤ f → copied r (now (second .exit)) ≡ copyEntry f (joined (end .0) (now (log .entry)) (now (waiting .entry))) (now (date .entry)) e level nest (now (score .entry)) left (now (second .entry))) ⌝ }
+    ensures exact { λ r. ⌜ ((f : ℕ) → left + left + 1 ≤ f → copied r (now (second .exit))
+        ≡ copyEntry f (joined (end .0) (now (log .entry)) (now (waiting .entry))) (now (date .entry)) e level nest (now (score .entry)) left (now (second .entry))) ⌝ }
 {
     let m = visit::visit_level(log, end, waiting, e, score, level, nest, left);
     let look = m.look;
@@ -136,7 +142,9 @@ fn copy_below<'a>(
 ) -> Walked
     requires { ⌜ (end .0 ≤ sectors (length (now log))) × Inside (end .0 + sectors (length (now waiting))) b × (b .size ≤ longest) × (level ≤ 7) × (nest ≤ 16) × (length (now date) ≡ 8) ⌝ }
     ensures within { λ r. ⌜ r .visits ≤ left ⌝ }
-    ensures exact { λ r. ⌜ ((f : ℕ) → left + left + 2 ≤ f → copied r (now (second .exit)) ≡ copyBelow f (joined (end .0) (now (log .entry)) (now (waiting .entry))) (now (date .entry)) e level nest left (bytesOf (joined (end .0) (now (log .entry)) (now (waiting .entry))) b) (now (second .entry))) ⌝ }
+    ensures exact { λ r. ⌜ ((f : ℕ) → left + left + 2 ≤ f → copied r (now (second .exit))
+        ≡ copyBelow f (joined (end .0) (now (log .entry)) (now (waiting .entry))) (now (date .entry)) e level nest left
+        (bytesOf (joined (end .0) (now (log .entry)) (now (waiting .entry))) b) (now (second .entry))) ⌝ }
 {
     let below = descent::below_block(e, level, b.size);
     match below {
@@ -166,7 +174,9 @@ fn copy_scores<'a>(
 ) -> Walked
     requires { ⌜ (end .0 ≤ sectors (length (now log))) × Inside (end .0 + sectors (length (now waiting))) b × (b .size ≤ longest) × (b .size % 20 ≡ 0) × (level ≤ 7) × (length (now date) ≡ 8) ⌝ }
     ensures within { λ r. ⌜ r .visits ≤ left ⌝ }
-    ensures exact { λ r. ⌜ ((f : ℕ) → left + left + 1 ≤ f → copied r (now (second .exit)) ≡ copyScores f (joined (end .0) (now (log .entry)) (now (waiting .entry))) (now (date .entry)) e level nest (bytesOf (joined (end .0) (now (log .entry)) (now (waiting .entry))) b) left (now (second .entry))) ⌝ }
+    ensures exact { λ r. ⌜ ((f : ℕ) → left + left + 1 ≤ f → copied r (now (second .exit))
+        ≡ copyScores f (joined (end .0) (now (log .entry)) (now (waiting .entry))) (now (date .entry)) e level nest
+        (bytesOf (joined (end .0) (now (log .entry)) (now (waiting .entry))) b) left (now (second .entry))) ⌝ }
 {
     let count = b.size / 20;
     let mut visits: usize = 0;

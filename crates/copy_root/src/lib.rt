@@ -48,7 +48,8 @@ fn below_root<'a>(
 ) -> Walked
     requires { ⌜ (end .0 ≤ sectors (length (now log))) × (length (now date) ≡ 8) × (length (now root) ≡ 300) ⌝ }
     ensures within { λ r. ⌜ r .visits ≤ left ⌝ }
-    ensures exact { λ r. ⌜ copied r (now (second .exit)) ≡ copyBelowRoot (joined (end .0) (now (log .entry)) (now (waiting .entry))) (now (date .entry)) left (now (root .entry)) (now (second .entry)) ⌝ }
+    ensures exact { λ r. ⌜ copied r (now (second .exit))
+        ≡ copyBelowRoot (joined (end .0) (now (log .entry)) (now (waiting .entry))) (now (date .entry)) left (now (root .entry)) (now (second .entry)) ⌝ }
 {
     if !entry::is_root(root) {
         return Walked {

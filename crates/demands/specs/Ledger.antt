@@ -13,7 +13,8 @@ use Rattle.buffer.specs.Bytes.{Bytes, same}
 use Rattle.sha1.specs.Sha1.{sha1Of}
 use Rattle.refusal.specs.Number.{numberOf}
 use Rattle.refusal.specs.declared.Refusal.{Refusal}
-use Rattle.refusal.specs.declared.Refusal.the-variants.{Frame, Buffer, LogLength, Closed, MessageType, Body, NoHello, Hello as BadHello, BlockType, DataLength, NotHeld, NotKnown, OverCount, NoRoom, Clash, Date}
+use Rattle.refusal.specs.declared.Refusal.the-variants.{Frame, Buffer, LogLength, Closed, MessageType, Body, NoHello, Hello as BadHello}
+use Rattle.refusal.specs.declared.Refusal.the-variants.{BlockType, DataLength, NotHeld, NotKnown, OverCount, NoRoom, Clash, Date}
 use Rattle.message.specs.Message.{framed, tagOf, versionOf, scoreOf, dataOf, requestOf}
 use Rattle.message.specs.Reply.{answered, errorReply, pingReply, helloReply, readReply, writeReply, syncReply}
 use Rattle.message.specs.declared.Request.{Request}

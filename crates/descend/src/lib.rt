@@ -28,7 +28,8 @@ pub fn visit_directory<'a>(
 ) -> Walked
     requires { ⌜ (end .0 ≤ sectors (length (now log))) × Inside (end .0 + sectors (length (now waiting))) b × (b .size ≤ longest) × (nest ≤ 16) ⌝ }
     ensures within { λ r. ⌜ r .visits ≤ left ⌝ }
-    ensures exact { λ r. ⌜ ((f : ℕ) → left + left + 2 ≤ f → r ≡ visitDirectory f (joined (end .0) (now (log .entry)) (now (waiting .entry))) nest (bytesOf (joined (end .0) (now (log .entry)) (now (waiting .entry))) b) left) ⌝ }
+    ensures exact { λ r. ⌜ ((f : ℕ) → left + left + 2 ≤ f →
+        r ≡ visitDirectory f (joined (end .0) (now (log .entry)) (now (waiting .entry))) nest (bytesOf (joined (end .0) (now (log .entry)) (now (waiting .entry))) b) left) ⌝ }
 {
     let count = (b.size + 39) / 40;
     let mut visits: usize = 0;
@@ -63,7 +64,8 @@ fn visit_listed<'a>(
 ) -> Walked
     requires { ⌜ (end .0 ≤ sectors (length (now log))) × Inside (end .0 + sectors (length (now waiting))) b × (b .size ≤ longest) × (nest ≤ 16) × (i < entriesOf (b .size)) ⌝ }
     ensures within { λ r. ⌜ r .visits ≤ left ⌝ }
-    ensures exact { λ r. ⌜ ((f : ℕ) → left + left + 1 ≤ f → r ≡ visitListed f (joined (end .0) (now (log .entry)) (now (waiting .entry))) nest (entryIn (bytesOf (joined (end .0) (now (log .entry)) (now (waiting .entry))) b) i) left) ⌝ }
+    ensures exact { λ r. ⌜ ((f : ℕ) → left + left + 1 ≤ f →
+        r ≡ visitListed f (joined (end .0) (now (log .entry)) (now (waiting .entry))) nest (entryIn (bytesOf (joined (end .0) (now (log .entry)) (now (waiting .entry))) b) i) left) ⌝ }
 {
     let bytes = visit::entry_bytes(log, end, waiting, b, i);
     let e = entry::entry_at(&bytes, 0);
@@ -132,7 +134,8 @@ fn visit_scores<'a>(
 ) -> Walked
     requires { ⌜ (end .0 ≤ sectors (length (now log))) × Inside (end .0 + sectors (length (now waiting))) b × (b .size ≤ longest) × (b .size % 20 ≡ 0) × (level ≤ 7) ⌝ }
     ensures within { λ r. ⌜ r .visits ≤ left ⌝ }
-    ensures exact { λ r. ⌜ ((f : ℕ) → left + left + 1 ≤ f → r ≡ visitScores f (joined (end .0) (now (log .entry)) (now (waiting .entry))) e level nest (bytesOf (joined (end .0) (now (log .entry)) (now (waiting .entry))) b) left) ⌝ }
+    ensures exact { λ r. ⌜ ((f : ℕ) → left + left + 1 ≤ f →
+        r ≡ visitScores f (joined (end .0) (now (log .entry)) (now (waiting .entry))) e level nest (bytesOf (joined (end .0) (now (log .entry)) (now (waiting .entry))) b) left) ⌝ }
 {
     let count = b.size / 20;
     let mut visits: usize = 0;

@@ -7,7 +7,7 @@ use native.Mathlib.Omega.{arith}
 use lib.ListN.{length, take, drop}
 use Rattle.buffer.specs.Bytes.{Bytes}
 use Rattle.kleene.specs.declared.Value.{Value}
-use Rattle.card.specs.Name.{isName}
+use Rattle.antigen.specs.Name.{isName}
 use Rattle.card.specs.Card.{valueIn}
 use Rattle.query.specs.Place.{firstWord, wordsFrom}
 use Rattle.query.proofs.Places.{word-part, from-outside, from-inside}

@@ -93,7 +93,7 @@ fn read_name(card: &[u8], text: &[u8], at: usize) -> Read
         return Read::Ill;
     }
     let end = card::byte_from(text, at, b' ');
-    if !card::is_name(&text[at..end]) {
+    if !antigen::is_name(&text[at..end]) {
         return Read::Ill;
     }
     Read::Done {

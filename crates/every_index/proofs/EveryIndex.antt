@@ -24,7 +24,8 @@ use Rattle.ledger.proofs.Theorem.{demand2, demand3-zeroed}
 use Rattle.demands.specs.Ledger.{Answer, Extent}
 use Rattle.demands.specs.Instance.{archive}
 use Rattle.demands.proofs.Lawful.{lawful}
-use Rattle.every_index.specs.EveryIndex.{ItemBy, EventBy, seenOf, answerBy, happensBy, happenBy, itemsOf, eventsOf, Agreed, AgreedAtRequest, Agreeing, EveryIndex, Unhealed, EveryIndexUnhealed, NoClashFirst, NoClashSecond, Demand2ByIndex, firstLogBy, Demand3ByIndex, Demand3ZeroedByIndex}
+use Rattle.every_index.specs.EveryIndex.{ItemBy, EventBy, seenOf, answerBy, happensBy, happenBy, itemsOf, eventsOf, Agreed, AgreedAtRequest, Agreeing, EveryIndex}
+use Rattle.every_index.specs.EveryIndex.{Unhealed, EveryIndexUnhealed, NoClashFirst, NoClashSecond, Demand2ByIndex, firstLogBy, Demand3ByIndex, Demand3ZeroedByIndex}
 use Rattle.every_index.proofs.Names.{OneOfAName, one-empty, one-told, one-stop, one-crashed, one-request, one-beginning}
 use Rattle.every_index.proofs.NoClash.{nameOf, adds-new-names, one-agreed, no-clash}
 use Rattle.every_index.proofs.Traces.{same-trace}

@@ -31,7 +31,8 @@ use Rattle.demands.proofs.LogLaws.{used-grown}
 use Rattle.demands.proofs.LentLaws.{tape-grown}
 use Rattle.every_index.specs.EveryIndex.{seenOf, answerBy, Agreeing}
 use Rattle.every_index.proofs.EveryIndex.{as-scan, unhealed-agrees}
-use Rattle.every_known.specs.EveryKnown.{Serving, opened, learning, askKnown, happensKnown, Moment, taking, happenKnown, eventsIn, EveryKnown, EveryKnownUnhealed, EveryKnownFrom, GrowthLeavesKnown}
+use Rattle.every_known.specs.EveryKnown.{Serving, opened, learning, askKnown, happensKnown, Moment, taking, happenKnown}
+use Rattle.every_known.specs.EveryKnown.{eventsIn, EveryKnown, EveryKnownUnhealed, EveryKnownFrom, GrowthLeavesKnown}
 
 -- ---- one request
 

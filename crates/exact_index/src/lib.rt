@@ -27,8 +27,11 @@ fn leads_from<'a>(
     s: &[u8],
     n: SectorNumber,
 ) -> bool
-    requires { ⌜ (end .0 ≤ sectors (length (now log))) × (length (now s) ≡ sectorLength) × (isHex (kindDigits (behind (now s))) ≡ true) × (isHex (scoreDigits (behind (now s))) ≡ true) × (soundWith (joined (end .0) (now log) (now waiting)) (n .0) (kindField (behind (now s))) (scoreField (behind (now s))) ≢ none) ⌝ }
-    ensures { λ r. ⌜ r ≡ foundBy (hint (joined (end .0) (now (log .entry)) (now (waiting .entry))) (now (index .entry)) (kindField (behind (now (s .entry)))) (scoreField (behind (now (s .entry))))) (n .0) ⌝ }
+    requires { ⌜ (end .0 ≤ sectors (length (now log))) × (length (now s) ≡ sectorLength) × (isHex (kindDigits (behind (now s))) ≡ true)
+        × (isHex (scoreDigits (behind (now s))) ≡ true)
+        × (soundWith (joined (end .0) (now log) (now waiting)) (n .0) (kindField (behind (now s))) (scoreField (behind (now s))) ≢ none) ⌝ }
+    ensures { λ r. ⌜ r
+        ≡ foundBy (hint (joined (end .0) (now (log .entry)) (now (waiting .entry))) (now (index .entry)) (kindField (behind (now (s .entry)))) (scoreField (behind (now (s .entry))))) (n .0) ⌝ }
 {
     let k = sector::front_length(s);
     let at = k + KIND;

@@ -45,7 +45,8 @@ pub record Messages : Type 0 where
       (0x00 ∷ 0x16 ∷ 0x0f ∷ 0x01 ∷ 0xa9 ∷ 0x99 ∷ 0x3e ∷ 0x36 ∷ 0x47 ∷ 0x06 ∷ 0x81 ∷ 0x6a ∷ 0xba ∷ 0x3e ∷ 0x25 ∷ 0x71 ∷ 0x78 ∷ 0x50 ∷ 0xc2 ∷ 0x6c ∷ 0x9c ∷ 0xd0 ∷ 0xd8 ∷ 0x9d ∷ [])
       Greeted (beside (replicate 512 0) (written (replicate 512 0) (abcRow []))) buffer
   -- "sync ... moves them in order into the log before it replies": tag 2, where they fit
-  pub sync : (date : Option Bytes) (log waiting buffer : Bytes) → dateAllowed date ≡ true → allowed (beside log waiting) ≡ true → replyRoom ≤ length buffer → used log + used waiting ≤ sectors (length log)
+  pub sync : (date : Option Bytes) (log waiting buffer : Bytes) → dateAllowed date ≡ true → allowed (beside log waiting) ≡ true → replyRoom ≤ length buffer
+      → used log + used waiting ≤ sectors (length log)
       → step Greeted (0x00 ∷ 0x02 ∷ 0x10 ∷ 0x02 ∷ []) date (beside log waiting) buffer
       ≡ granted (0x00 ∷ 0x02 ∷ 0x11 ∷ 0x02 ∷ []) Greeted (beside (moved log waiting) (replicate (length waiting) 0)) buffer
   -- "A log of no sectors: empty write passes, a one-byte write is 14", whatever the waiting part has room for

@@ -54,7 +54,9 @@ fn fill_leaf<'a>(
     d: &mut [u8],
 ) -> Filled
     requires { ⌜ (end .0 ≤ sectors (length (now log))) × Open e offset × (length (now top) ≡ 20) × (0 < length (now d)) ⌝ }
-    ensures { λ r. ⌜ fillOutcome r (now (d .exit)) ≡ filledWith (now (d .entry)) (gathered (byteBelow (joined (end .0) (now (log .entry)) (now (waiting .entry))) e (now (top .entry))) (min (length (now (d .entry))) (e .dsize - offset % e .dsize)) offset) ⌝ }
+    ensures { λ r. ⌜ fillOutcome r (now (d .exit))
+        ≡ filledWith (now (d .entry))
+        (gathered (byteBelow (joined (end .0) (now (log .entry)) (now (waiting .entry))) e (now (top .entry))) (min (length (now (d .entry))) (e .dsize - offset % e .dsize)) offset) ⌝ }
 {
     let look = way_down::descend(log, end, waiting, e, offset, top);
     match look {
@@ -85,7 +87,9 @@ pub fn fill_leaves<'a>(
     d: &mut [u8],
 ) -> Filled
     requires { ⌜ (end .0 ≤ sectors (length (now log))) × Open e offset × (length (now top) ≡ 20) ⌝ }
-    ensures { λ r. ⌜ fillOutcome r (now (d .exit)) ≡ filledWith (now (d .entry)) (gathered (byteBelow (joined (end .0) (now (log .entry)) (now (waiting .entry))) e (now (top .entry))) (min (length (now (d .entry))) (e .size - offset)) offset) ⌝ }
+    ensures { λ r. ⌜ fillOutcome r (now (d .exit))
+        ≡ filledWith (now (d .entry))
+        (gathered (byteBelow (joined (end .0) (now (log .entry)) (now (waiting .entry))) e (now (top .entry))) (min (length (now (d .entry))) (e .size - offset)) offset) ⌝ }
 {
     let count = lesser(d.len(), e.size - offset);
     let mut done: usize = 0;

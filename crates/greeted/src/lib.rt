@@ -21,7 +21,9 @@ pub fn serve_greeted(
     reply: &mut [u8],
 ) -> Answer
     requires { ⌜ (4 ≤ length (now message)) × (replyRoom ≤ length (now reply)) × (length (now date) ≡ 8) ⌝ }
-    ensures { λ r. ⌜ indexedOf r (now (log .exit)) (now (waiting .exit)) (now (reply .exit)) (now (index .exit)) ≡ greetedBy (now (date .entry)) (requestOf (now (message .entry))) (tagOf (now (message .entry))) (now (message .entry)) (now (index .entry)) (beside (now (log .entry)) (now (waiting .entry))) (now (reply .entry)) ⌝ }
+    ensures { λ r. ⌜ indexedOf r (now (log .exit)) (now (waiting .exit)) (now (reply .exit)) (now (index .exit))
+        ≡ greetedBy (now (date .entry)) (requestOf (now (message .entry))) (tagOf (now (message .entry))) (now (message .entry)) (now (index .entry))
+        (beside (now (log .entry)) (now (waiting .entry))) (now (reply .entry)) ⌝ }
 {
     let tag = message::tag_of(message);
     let request = message::parse(message);

@@ -28,7 +28,9 @@ pub fn append_new(
     data: &[u8],
 ) -> Stored
     requires { ⌜ (length (now «data») ≤ longest) × (length (now date) ≡ 8) × (now score ≡ sha1Of (now «data»)) × (sectorLength * from .0 < 2 ^ 64) ⌝ }
-    ensures { λ r. ⌜ ((log : Bytes) → sectors (length log) ≡ most → usedOf log ≡ from .0 → afterStore (receipt (sha1Of (now («data» .entry))) r) (beside log (now (waiting .exit))) ≡ appended (beside log (now (waiting .entry))) (now (date .entry)) kind (now («data» .entry))) ⌝ }
+    ensures { λ r. ⌜ ((log : Bytes) → sectors (length log) ≡ most → usedOf log
+        ≡ from .0 → afterStore (receipt (sha1Of (now («data» .entry))) r) (beside log (now (waiting .exit)))
+        ≡ appended (beside log (now (waiting .entry))) (now (date .entry)) kind (now («data» .entry))) ⌝ }
 {
     let waits = reader::used_part(waiting);
     let count = block::parts_of(FRONT + LABEL, data.len());

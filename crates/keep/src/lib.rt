@@ -39,7 +39,8 @@ fn store_block<'a>(
     b: Block,
 ) -> End
     requires { ⌜ (end .0 ≤ sectors (length (now log))) × Inside (end .0 + sectors (length (now waiting))) b × (b .size ≤ longest) × (length (now date) ≡ 8) ⌝ }
-    ensures { λ r. ⌜ ((n : ℕ) → copied (walked n r) (now (second .exit)) ≡ storedIn n (storeOf (alone (now (second .entry))) (now (date .entry)) kind (bytesOf (joined (end .0) (now (log .entry)) (now (waiting .entry))) b))) ⌝ }
+    ensures { λ r. ⌜ ((n : ℕ) → copied (walked n r) (now (second .exit))
+        ≡ storedIn n (storeOf (alone (now (second .entry))) (now (date .entry)) kind (bytesOf (joined (end .0) (now (log .entry)) (now (waiting .entry))) b))) ⌝ }
 {
     let mut page = [0u8; LONGEST];
     reader::copy_out(log, end, waiting, b, &mut page);
@@ -61,7 +62,8 @@ pub fn keep<'a>(
 ) -> Walked
     requires { ⌜ (end .0 ≤ sectors (length (now log))) × Inside (end .0 + sectors (length (now waiting))) b × (b .size ≤ longest) × (length (now date) ≡ 8) × (below .visits + 1 < 2 ^ 64) ⌝ }
     ensures count { λ r. ⌜ r .visits ≡ below .visits + 1 ⌝ }
-    ensures exact { λ r. ⌜ copied r (now (second .exit)) ≡ kept (now (date .entry)) kind (bytesOf (joined (end .0) (now (log .entry)) (now (waiting .entry))) b) (copied below (now (second .entry))) ⌝ }
+    ensures exact { λ r. ⌜ copied r (now (second .exit))
+        ≡ kept (now (date .entry)) kind (bytesOf (joined (end .0) (now (log .entry)) (now (waiting .entry))) b) (copied below (now (second .entry))) ⌝ }
 {
     let ended = below.end;
     let visits = below.visits + 1;

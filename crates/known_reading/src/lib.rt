@@ -27,7 +27,8 @@ pub fn serve_read<'a>(
     count: usize,
 ) -> Answer
     requires { ⌜ (belongs known (length (now log)) (length (now waiting)) ≡ true) × (requestOf (now message) ≡ Read kind count) × (replyRoom ≤ length (now reply)) ⌝ }
-    ensures { λ r. ⌜ knowing known (indexedOf r (now (log .entry)) (now (waiting .entry)) (now (reply .exit)) (now (index .entry))) ≡ readKnown known kind count (tagOf (now (message .entry))) (scoreOf (now (message .entry))) (now (index .entry)) (now (log .entry)) (now (waiting .entry)) (now (reply .entry)) ⌝ }
+    ensures { λ r. ⌜ knowing known (indexedOf r (now (log .entry)) (now (waiting .entry)) (now (reply .exit)) (now (index .entry)))
+        ≡ readKnown known kind count (tagOf (now (message .entry))) (scoreOf (now (message .entry))) (now (index .entry)) (now (log .entry)) (now (waiting .entry)) (now (reply .entry)) ⌝ }
 {
     let tag = message::tag_of(message);
     if !kind::is_lawful(kind) {

@@ -111,8 +111,10 @@ fn append_known(
     score: &[u8; 20],
     data: &[u8],
 ) -> Stored
-    requires { ⌜ (length (now «data») ≤ longest) × (length (now date) ≡ 8) × (now score ≡ sha1Of (now «data»)) × (known .used .0 ≤ most) × (sectorLength * most < 2 ^ 64) × (known .waits .0 ≤ sectors (length (now waiting))) ⌝ }
-    ensures { λ r. ⌜ ((log : Bytes) → sectors (length log) ≡ most → afterStore (receipt (sha1Of (now («data» .entry))) r) (beside log (now (waiting .exit))) ≡ appendedKnown known log (now (waiting .entry)) (now (date .entry)) kind (now («data» .entry))) ⌝ }
+    requires { ⌜ (length (now «data») ≤ longest) × (length (now date) ≡ 8) × (now score ≡ sha1Of (now «data»)) × (known .used .0 ≤ most)
+        × (sectorLength * most < 2 ^ 64) × (known .waits .0 ≤ sectors (length (now waiting))) ⌝ }
+    ensures { λ r. ⌜ ((log : Bytes) → sectors (length log) ≡ most → afterStore (receipt (sha1Of (now («data» .entry))) r) (beside log (now (waiting .exit)))
+        ≡ appendedKnown known log (now (waiting .entry)) (now (date .entry)) kind (now («data» .entry))) ⌝ }
 {
     let from = known.used;
     let waits = known.waits;
@@ -139,7 +141,8 @@ pub fn store_known(
     data: &[u8],
 ) -> Receipt
     requires { ⌜ (belongsOf known (length (now log)) (length (now waiting)) ≡ true) × (length (now «data») ≤ longest) × (length (now date) ≡ 8) ⌝ }
-    ensures { λ r. ⌜ afterStore r (beside (now (log .entry)) (now (waiting .exit))) ≡ storeKnown known (now (log .entry)) (now (waiting .entry)) (now (index .entry)) (now (date .entry)) kind (now («data» .entry)) ⌝ }
+    ensures { λ r. ⌜ afterStore r (beside (now (log .entry)) (now (waiting .exit)))
+        ≡ storeKnown known (now (log .entry)) (now (waiting .entry)) (now (index .entry)) (now (date .entry)) kind (now («data» .entry)) ⌝ }
 {
     let score = sha1::sha1(data);
     let place = find_owner(log, waiting, index, known, kind, &score);
@@ -204,7 +207,8 @@ pub fn known_after(
 pub fn settle_known(log: &mut [u8], waiting: &mut [u8], known: Known) -> bool
     requires { ⌜ belongsOf known (length (now log)) (length (now waiting)) ≡ true ⌝ }
     ensures fits { λ r. ⌜ r ≡ canSettleKnown known (length (now (log .entry))) ⌝ }
-    ensures lent { λ _. ⌜ beside (now (log .exit)) (now (waiting .exit)) ≡ cond (canSettleKnown known (length (now (log .entry)))) (settledKnown known (now (log .entry)) (now (waiting .entry))) (beside (now (log .entry)) (now (waiting .entry))) ⌝ }
+    ensures lent { λ _. ⌜ beside (now (log .exit)) (now (waiting .exit))
+        ≡ cond (canSettleKnown known (length (now (log .entry)))) (settledKnown known (now (log .entry)) (now (waiting .entry))) (beside (now (log .entry)) (now (waiting .entry))) ⌝ }
 {
     let used = known.used;
     let waits = known.waits;

@@ -31,10 +31,13 @@ fn store_block(
     data: &[u8],
 ) -> Served
     requires { ⌜ (belongs known (length (now log)) (length (now waiting)) ≡ true) × (length (now «data») ≤ longest) × (length (now date) ≡ 8) × (replyRoom ≤ length (now reply)) ⌝ }
-    ensures { λ r. ⌜ quickOf r (now (log .entry)) (now (waiting .exit)) (now (reply .exit)) (now (index .exit)) ≡ storedKnown known (now (date .entry)) kind tag (now («data» .entry)) (now (index .entry)) (storeKnown known (now (log .entry)) (now (waiting .entry)) (now (index .entry)) (now (date .entry)) kind (now («data» .entry))) (now (reply .entry)) ⌝ }
+    ensures { λ r. ⌜ quickOf r (now (log .entry)) (now (waiting .exit)) (now (reply .exit)) (now (index .exit))
+        ≡ storedKnown known (now (date .entry)) kind tag (now («data» .entry)) (now (index .entry))
+        (storeKnown known (now (log .entry)) (now (waiting .entry)) (now (index .entry)) (now (date .entry)) kind (now («data» .entry)))
+        (now (reply .entry)) ⌝ }
 {
     let receipt = known_store::store_known(log, waiting, index, known, date, kind, data);
-    answer::enter_stored(index, receipt.stored, &receipt.score, kind);
+    index_stored::enter_stored(index, receipt.stored, &receipt.score, kind);
     let count = block::parts_of(FRONT + LABEL, data.len());
     let after = known_store::known_after(index, receipt.stored, &receipt.score, kind, count, known);
     let answer = answer::answer_store(receipt, tag, reply);
@@ -56,7 +59,9 @@ pub fn serve_write(
     kind: u8,
 ) -> Served
     requires { ⌜ (belongs known (length (now log)) (length (now waiting)) ≡ true) × (requestOf (now message) ≡ Write kind) × (length (now date) ≡ 8) × (replyRoom ≤ length (now reply)) ⌝ }
-    ensures { λ r. ⌜ quickOf r (now (log .entry)) (now (waiting .exit)) (now (reply .exit)) (now (index .exit)) ≡ writeKnown known (now (date .entry)) kind (tagOf (now (message .entry))) (dataOf (now (message .entry))) (now (index .entry)) (now (log .entry)) (now (waiting .entry)) (now (reply .entry)) ⌝ }
+    ensures { λ r. ⌜ quickOf r (now (log .entry)) (now (waiting .exit)) (now (reply .exit)) (now (index .exit))
+        ≡ writeKnown known (now (date .entry)) kind (tagOf (now (message .entry))) (dataOf (now (message .entry))) (now (index .entry)) (now (log .entry))
+        (now (waiting .entry)) (now (reply .entry)) ⌝ }
 {
     let tag = message::tag_of(message);
     if !kind::is_lawful(kind) {
@@ -86,7 +91,8 @@ pub fn serve_sync(
     reply: &mut [u8],
 ) -> Served
     requires { ⌜ (belongs known (length (now log)) (length (now waiting)) ≡ true) × (replyRoom ≤ length (now reply)) ⌝ }
-    ensures { λ r. ⌜ ((index : Bytes) → quickOf r (now (log .exit)) (now (waiting .exit)) (now (reply .exit)) index ≡ syncKnown known tag index (now (log .entry)) (now (waiting .entry)) (now (reply .entry))) ⌝ }
+    ensures { λ r. ⌜ ((index : Bytes) → quickOf r (now (log .exit)) (now (waiting .exit)) (now (reply .exit)) index
+        ≡ syncKnown known tag index (now (log .entry)) (now (waiting .entry)) (now (reply .entry))) ⌝ }
 {
     if !known_store::settle_known(log, waiting, known) {
         let answer = answer::refuse(Refusal::NoRoom, tag, Session::Greeted, reply);

@@ -15,7 +15,8 @@ use Rattle.ledger.specs.Lawful.{Lawful}
 use Rattle.ledger.specs.History.{Item, given, ruling, Harm, Books}
 use Rattle.ledger.specs.Reflects.{cell, Reflects}
 use Rattle.ledger.specs.Events.{Event, ask, harm, stop, crash, grow, recountEvent, Possible, Crash, begun, beginning, EventHistory, log-then, books-then}
-use Rattle.ledger.specs.Aftermath.{ledger-then, BlocksAreRows, ChangedIsDoubtful, DoubtfulNeeded, Hits, HitsMayHappen, ZeroingByTheEnd, SettledIsKept, UnlentIsSettled, WaitingIsDropped, SettledForGood}
+use Rattle.ledger.specs.Aftermath.{ledger-then, BlocksAreRows, ChangedIsDoubtful, DoubtfulNeeded, Hits, HitsMayHappen}
+use Rattle.ledger.specs.Aftermath.{ZeroingByTheEnd, SettledIsKept, UnlentIsSettled, WaitingIsDropped, SettledForGood}
 use Rattle.ledger.specs.Aftermath.{Stopped, SettledStays, WholeIsThere, TornIsDoubtful, AsIfNeverWritten, NothingBehind}
 use Rattle.ledger.proofs.Covers.{covers-reads, covers-in, hit-none}
 use Rattle.ledger.proofs.Ends.{end-row, end-changed}

@@ -16,7 +16,8 @@ use Rattle.ledger.specs.Events.{Crash}
 use Rattle.ledger.proofs.Covers.{covers-reads, covers-before}
 use Rattle.ledger.proofs.Ends.{end-row, end-last, end-rows-le, end-changed-le}
 use Rattle.ledger.proofs.Cells.{cell-in, cell-last, cell-cases, Held}
-use Rattle.ledger.proofs.Kept.{has-either, has-neither, all-out, all-in, keep-out, keep-in, keep-apart, keep-cell, there-late, there-whole, not-there-late, covered-out, covered-in, loose-out, loose-not}
+use Rattle.ledger.proofs.Kept.{has-either, has-neither, all-out, all-in, keep-out, keep-in, keep-apart, keep-cell}
+use Rattle.ledger.proofs.Kept.{there-late, there-whole, not-there-late, covered-out, covered-in, loose-out, loose-not}
 use Rattle.ledger.proofs.Doubt.{alone-early, alone-late, unfit-doubtful, Lies, doubt-on}
 use Rattle.ledger.proofs.Steps.{waits-none, every}
 use Rattle.ledger.proofs.Apart.{apart-last}

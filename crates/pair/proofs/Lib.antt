@@ -1,3 +1,2 @@
--- The laws of two entries and of one block.
-pub mod Verdicts
+-- The laws of one block of a pair.
 pub mod Opened

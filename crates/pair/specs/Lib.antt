@@ -1,3 +1,2 @@
 -- What the clauses of `pair` cite.
-pub mod Verdict
 pub mod Opened

@@ -1,6 +1,6 @@
 -- The examples hold, by computation.
 use mathlib.Core.Path.{refl}
-use Rattle.card.specs.Name.{letterOrDigit, reserved, isName}
+use Rattle.antigen.specs.Name.{letterOrDigit, reserved, isName}
 use Rattle.query.specs.Grammar.{words, after, nameAt, listAt, readingOf}
 use Rattle.query.specs.Value.{valueOf}
 use Rattle.query.specs.Examples.{ExamplesHold, ValuesHold}

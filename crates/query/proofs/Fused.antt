@@ -8,7 +8,7 @@ use lib.ListN.{length}
 use borrow.Author.Tests.{le-leb, lt-leb}
 use Rattle.ground.specs.Choice.{on}
 use Rattle.buffer.specs.Bytes.{Bytes, same}
-use Rattle.card.specs.Name.{isName}
+use Rattle.antigen.specs.Name.{isName}
 use Rattle.kleene.specs.declared.Value.{Value}
 use Rattle.kleene.specs.Kleene.{notOf, andOf, orOf}
 use Rattle.query.specs.Reading.{Reading, choice, orElse, term, andAlso, Term, negated, group, orWord, andWord, notWord, openWord, closeWord, mostBytes, mostOpen}

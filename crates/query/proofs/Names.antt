@@ -8,9 +8,10 @@ use borrow.Author.Tests.{eqb-true}
 use Rattle.ground.proofs.Choices.{and-true}
 use Rattle.buffer.specs.Bytes.{Bytes, same}
 use Rattle.buffer.proofs.Bytes.{same-false}
-use Rattle.card.specs.Name.{letterOrDigit, lettersAndDigits, reserved, isName}
+use Rattle.antigen.specs.Name.{letterOrDigit, lettersAndDigits, reserved, isName}
 use Rattle.card.proofs.Pinned.{name-letters}
-use Rattle.query.specs.Reading.{Reading, choice, orElse, Choice, term, andAlso, Term, name, negated, group, orWord, andWord, notWord, openWord, closeWord, tokens, choiceTokens, termTokens, named, choiceNamed, termNamed}
+use Rattle.query.specs.Reading.{Reading, choice, orElse, Choice, term, andAlso, Term, name, negated, group, orWord, andWord}
+use Rattle.query.specs.Reading.{notWord, openWord, closeWord, tokens, choiceTokens, termTokens, named, choiceNamed, termNamed}
 use Rattle.query.proofs.Words.{unspaced, allUnspaced, unspaced-append}
 
 -- a name is no word that is no name

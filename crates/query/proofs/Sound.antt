@@ -9,8 +9,9 @@ use native.Mathlib.Omega.{arith}
 use Rattle.ground.specs.Choice.{on}
 use Rattle.ground.proofs.Choices.{on-ind, cond-ind}
 use Rattle.buffer.specs.Bytes.{Bytes}
-use Rattle.card.specs.Name.{isName}
-use Rattle.query.specs.Reading.{Reading, Choice, Term, name, group, orWord, andWord, notWord, openWord, closeWord, tokens, choiceTokens, termTokens, named, choiceNamed, termNamed, depth, choiceDepth, termDepth}
+use Rattle.antigen.specs.Name.{isName}
+use Rattle.query.specs.Reading.{Reading, Choice, Term, name, group, orWord, andWord, notWord, openWord, closeWord, tokens}
+use Rattle.query.specs.Reading.{choiceTokens, termTokens, named, choiceNamed, termNamed, depth, choiceDepth, termDepth}
 use Rattle.query.specs.Grammar.{Front, after, opening, nameAt, listAt, choiceAt, termAt}
 use Rattle.query.proofs.Front.{after-ind}
 

@@ -9,8 +9,9 @@ use native.Mathlib.Omega.{arith}
 use lib.ListN.{length, length-append}
 use Rattle.ground.proofs.Choices.{and-true}
 use Rattle.buffer.specs.Bytes.{Bytes}
-use Rattle.card.specs.Name.{isName}
-use Rattle.query.specs.Reading.{Reading, choice, orElse, Choice, term, andAlso, Term, name, negated, group, orWord, andWord, notWord, openWord, closeWord, tokens, choiceTokens, termTokens, named, choiceNamed, termNamed, depth, choiceDepth, termDepth}
+use Rattle.antigen.specs.Name.{isName}
+use Rattle.query.specs.Reading.{Reading, choice, orElse, Choice, term, andAlso, Term, name, negated, group, orWord, andWord, notWord, openWord}
+use Rattle.query.specs.Reading.{closeWord, tokens, choiceTokens, termTokens, named, choiceNamed, termNamed, depth, choiceDepth, termDepth}
 use Rattle.query.specs.Grammar.{nameAt, listAt, choiceAt, termAt}
 use Rattle.query.proofs.Front.{NotNext, after-other, after-word}
 use Rattle.query.proofs.Names.{name-differs, not-is-no-name, open-is-no-name}

@@ -7,7 +7,7 @@ use lib.Dec.{eqb, leb}
 use lib.ListN.{length}
 use Rattle.ground.specs.Choice.{on}
 use Rattle.buffer.specs.Bytes.{Bytes, same}
-use Rattle.card.specs.Name.{isName}
+use Rattle.antigen.specs.Name.{isName}
 use Rattle.query.specs.Reading.{Reading, choice, orElse, Choice, term, andAlso, Term, name, negated, group, andWord, orWord, notWord, openWord, closeWord, mostBytes, mostOpen}
 
 -- ---- the words of a text: what stands between its spaces, before the first and behind the last

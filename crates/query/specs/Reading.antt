@@ -5,7 +5,7 @@ use mathlib.Core.List.{List, [], _∷_, _++_}
 use Prim.Native.Nat.{ℕ, suc, _≤_, max}
 use lib.ListN.{length}
 use Rattle.buffer.specs.Bytes.{Bytes}
-use Rattle.card.specs.Name.{isName}
+use Rattle.antigen.specs.Name.{isName}
 
 mutual
   -- a reading is a "list of one or more choices", joined by "or"

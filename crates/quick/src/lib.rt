@@ -24,7 +24,8 @@ fn hand_on(
     index: &mut [u8],
     reply: &mut [u8],
 ) -> Served
-    ensures { λ r. ⌜ quickOf r (now (log .exit)) (now (waiting .exit)) (now (reply .exit)) (now (index .exit)) ≡ knowing known (stepBy session (now (message .entry)) (some (now (date .entry))) (now (index .entry)) (beside (now (log .entry)) (now (waiting .entry))) (now (reply .entry))) ⌝ }
+    ensures { λ r. ⌜ quickOf r (now (log .exit)) (now (waiting .exit)) (now (reply .exit)) (now (index .exit))
+        ≡ knowing known (stepBy session (now (message .entry)) (some (now (date .entry))) (now (index .entry)) (beside (now (log .entry)) (now (waiting .entry))) (now (reply .entry))) ⌝ }
 {
     let answer = archive::serve(session, message, date, log, waiting, index, reply);
     Served {
@@ -81,7 +82,8 @@ fn serve_admitted(
     reply: &mut [u8],
 ) -> Served
     requires { ⌜ admitted session (now message) (now date) (length (now log)) (length (now waiting)) (length (now reply)) ≡ true ⌝ }
-    ensures { λ r. ⌜ quickOf r (now (log .exit)) (now (waiting .exit)) (now (reply .exit)) (now (index .exit)) ≡ stepKnown known session (now (message .entry)) (now (date .entry)) (now (index .entry)) (now (log .entry)) (now (waiting .entry)) (now (reply .entry)) ⌝ }
+    ensures { λ r. ⌜ quickOf r (now (log .exit)) (now (waiting .exit)) (now (reply .exit)) (now (index .exit))
+        ≡ stepKnown known session (now (message .entry)) (now (date .entry)) (now (index .entry)) (now (log .entry)) (now (waiting .entry)) (now (reply .entry)) ⌝ }
 {
     let tag = message::tag_of(message);
     let request = message::parse(message);
@@ -126,7 +128,8 @@ pub fn serve(
     index: &mut [u8],
     reply: &mut [u8],
 ) -> Served
-    ensures { λ r. ⌜ quickOf r (now (log .exit)) (now (waiting .exit)) (now (reply .exit)) (now (index .exit)) ≡ stepKnown known session (now (message .entry)) (now (date .entry)) (now (index .entry)) (now (log .entry)) (now (waiting .entry)) (now (reply .entry)) ⌝ }
+    ensures { λ r. ⌜ quickOf r (now (log .exit)) (now (waiting .exit)) (now (reply .exit)) (now (index .exit))
+        ≡ stepKnown known session (now (message .entry)) (now (date .entry)) (now (index .entry)) (now (log .entry)) (now (waiting .entry)) (now (reply .entry)) ⌝ }
 {
     if !is_admitted(
         session,

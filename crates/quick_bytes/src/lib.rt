@@ -19,8 +19,11 @@ pub fn serve(
     known: &mut [u8],
 ) -> Answer
     requires { ⌜ length (now known) ≡ 25 ⌝ }
-    ensures answered { λ r. ⌜ indexedOf r (now (log .exit)) (now (waiting .exit)) (now (reply .exit)) (now (index .exit)) ≡ stepKnown (knownOf (now (known .entry))) session (now (message .entry)) (now (date .entry)) (now (index .entry)) (now (log .entry)) (now (waiting .entry)) (now (reply .entry)) .indexed ⌝ }
-    ensures told { λ _. ⌜ now (known .exit) ≡ knownBytes (stepKnown (knownOf (now (known .entry))) session (now (message .entry)) (now (date .entry)) (now (index .entry)) (now (log .entry)) (now (waiting .entry)) (now (reply .entry)) .known) ⌝ }
+    ensures answered { λ r. ⌜ indexedOf r (now (log .exit)) (now (waiting .exit)) (now (reply .exit)) (now (index .exit))
+        ≡ stepKnown (knownOf (now (known .entry))) session (now (message .entry)) (now (date .entry)) (now (index .entry)) (now (log .entry)) (now (waiting .entry)) (now (reply .entry)) .indexed ⌝ }
+    ensures told { λ _. ⌜ now (known .exit)
+        ≡ knownBytes
+        (stepKnown (knownOf (now (known .entry))) session (now (message .entry)) (now (date .entry)) (now (index .entry)) (now (log .entry)) (now (waiting .entry)) (now (reply .entry)) .known) ⌝ }
 {
     let now = known_bytes::read_known(known);
     let served = quick::serve(now, session, message, date, log, waiting, index, reply);

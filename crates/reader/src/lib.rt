@@ -40,7 +40,8 @@ fn sound_behind<'a>(
     kind: u8,
     score: &[u8],
 ) -> Place
-    requires { ⌜ (end .0 ≤ sectors (length (now log))) × (first .0 < end .0 + sectors (length (now waiting))) × (now front ≡ frontOf (dateField (at (joined (end .0) (now log) (now waiting)) (first .0)))) × (length (now score) ≡ 20) ⌝ }
+    requires { ⌜ (end .0 ≤ sectors (length (now log))) × (first .0 < end .0 + sectors (length (now waiting)))
+        × (now front ≡ frontOf (dateField (at (joined (end .0) (now log) (now waiting)) (first .0)))) × (length (now score) ≡ 20) ⌝ }
     ensures { λ r. ⌜ r ≡ placed (soundAs (joined (end .0) (now (log .entry)) (now (waiting .entry))) (first .0) kind (now (score .entry))) ⌝ }
 {
     let k = front.len();

@@ -33,7 +33,8 @@ fn read_anywhere<'a>(
     count: usize,
 ) -> Answer
     requires { ⌜ (requestOf (now message) ≡ Read kind count) × (replyRoom ≤ length (now reply)) ⌝ }
-    ensures { λ r. ⌜ indexedOf r (now (log .entry)) (now (waiting .entry)) (now (reply .exit)) (now (index .entry)) ≡ readBy kind count (tagOf (now (message .entry))) (scoreOf (now (message .entry))) (now (index .entry)) (beside (now (log .entry)) (now (waiting .entry))) (now (reply .entry)) ⌝ }
+    ensures { λ r. ⌜ indexedOf r (now (log .entry)) (now (waiting .entry)) (now (reply .exit)) (now (index .entry))
+        ≡ readBy kind count (tagOf (now (message .entry))) (scoreOf (now (message .entry))) (now (index .entry)) (beside (now (log .entry)) (now (waiting .entry))) (now (reply .entry)) ⌝ }
 {
     let tag = message::tag_of(message);
     if !kind::is_lawful(kind) {
@@ -51,7 +52,8 @@ fn read_anywhere<'a>(
 // The answer to a read of a block that stands among the log's own sectors: test 13.
 fn answer_settled(log: &[u8], b: Block, count: usize, tag: u8, reply: &mut [u8]) -> Answer
     requires { ⌜ Inside (sectors (length (now log))) b × (b .size ≤ longest) × (replyRoom ≤ length (now reply)) ⌝ }
-    ensures { λ r. ⌜ ((waiting : Bytes) → outcomeOf r (now (log .entry)) waiting (now (reply .exit)) ≡ settledRead (now (log .entry)) b count tag (beside (now (log .entry)) waiting) (now (reply .entry))) ⌝ }
+    ensures { λ r. ⌜ ((waiting : Bytes) → outcomeOf r (now (log .entry)) waiting (now (reply .exit))
+        ≡ settledRead (now (log .entry)) b count tag (beside (now (log .entry)) waiting) (now (reply .entry))) ⌝ }
 {
     if count < b.size {
         return answer::refuse(Refusal::OverCount, tag, Session::Greeted, reply);
@@ -71,7 +73,8 @@ pub fn serve_read<'a>(
     count: usize,
 ) -> Answer
     requires { ⌜ (requestOf (now message) ≡ Read kind count) × (replyRoom ≤ length (now reply)) ⌝ }
-    ensures { λ r. ⌜ indexedOf r (now (log .entry)) (now (waiting .entry)) (now (reply .exit)) (now (index .entry)) ≡ readBy kind count (tagOf (now (message .entry))) (scoreOf (now (message .entry))) (now (index .entry)) (beside (now (log .entry)) (now (waiting .entry))) (now (reply .entry)) ⌝ }
+    ensures { λ r. ⌜ indexedOf r (now (log .entry)) (now (waiting .entry)) (now (reply .exit)) (now (index .entry))
+        ≡ readBy kind count (tagOf (now (message .entry))) (scoreOf (now (message .entry))) (now (index .entry)) (beside (now (log .entry)) (now (waiting .entry))) (now (reply .entry)) ⌝ }
 {
     if kind::is_lawful(kind) {
         let score = message::score_of(message);

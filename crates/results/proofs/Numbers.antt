@@ -2,7 +2,8 @@
 use Prim.Native.Nat.{_≤_}
 use native.Mathlib.Omega.{arith}
 use Rattle.refusal.specs.declared.Refusal.{Refusal}
-use Rattle.refusal.specs.declared.Refusal.the-variants.{Frame, Buffer, LogLength, Closed, MessageType, Body, NoHello, Hello, BlockType, DataLength, NotHeld, NotKnown, OverCount, NoRoom, Clash, Entry, Offset, Pointers, Page, Nest, Spent, Pad, Allowance, Date, Card, Query}
+use Rattle.refusal.specs.declared.Refusal.the-variants.{Frame, Buffer, LogLength, Closed, MessageType, Body, NoHello, Hello, BlockType, DataLength, NotHeld, NotKnown}
+use Rattle.refusal.specs.declared.Refusal.the-variants.{OverCount, NoRoom, Clash, Entry, Offset, Pointers, Page, Nest, Spent, Pad, Allowance, Date, Card, Query}
 use Rattle.refusal.specs.Number.{numberOf}
 
 pub number-bounds : (w : Refusal) → (1 ≤ numberOf w) × (numberOf w ≤ 26)

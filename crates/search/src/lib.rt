@@ -41,7 +41,8 @@ fn read_and_judge<'a>(
     d: &mut [u8],
 ) -> Answer
     requires { ⌜ (lentAllowed (length (now log)) (length (now waiting)) ≡ true) × (entryReadable (now entry) ≡ true) × (size ≡ entryOf (now entry) .size) × (size ≤ length (now d)) ⌝ }
-    ensures { λ r. ⌜ r ≡ onceRead (cardOf (now (log .entry)) (now (waiting .entry)) (now (entry .entry)) .stop) (cardOf (now (log .entry)) (now (waiting .entry)) (now (entry .entry)) .bytes) (now (query .entry)) ⌝ }
+    ensures { λ r. ⌜ r
+        ≡ onceRead (cardOf (now (log .entry)) (now (waiting .entry)) (now (entry .entry)) .stop) (cardOf (now (log .entry)) (now (waiting .entry)) (now (entry .entry)) .bytes) (now (query .entry)) ⌝ }
 {
     if size == 0 {
         return judge(&d[..0], query);

@@ -13,7 +13,7 @@ use Rattle.entry.specs.Entry.{entryOf, wellFormed}
 use Rattle.file.specs.File.{pageAllowed, entryReadable, located}
 use Rattle.file.specs.declared.Located.the-variants as run
 use Rattle.fill.specs.Fill.{gathered}
-use Rattle.card.specs.Name.{letterOrDigit, reserved, isName}
+use Rattle.antigen.specs.Name.{letterOrDigit, reserved, isName}
 use Rattle.card.specs.Card.{text, goodFrom, linesAt, frontLines, wellFormed as isCard, say, valueIn}
 use Rattle.query.specs.Grammar.{words, after, nameAt, listAt, readingOf}
 use Rattle.query.specs.Value.{valueOf}

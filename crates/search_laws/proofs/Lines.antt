@@ -16,10 +16,11 @@ use Rattle.refusal.specs.declared.Refusal.the-variants as why
 use Rattle.kleene.specs.declared.Value.{Value}
 use Rattle.kleene.specs.declared.Value.the-variants.{NotKnown}
 use Rattle.kleene.specs.Kleene.{notOf}
-use Rattle.card.specs.Name.{isName, reserved, lettersAndDigits}
+use Rattle.antigen.specs.Name.{isName, reserved, lettersAndDigits}
 use Rattle.card.specs.Card.{valueIn}
 use Rattle.card.proofs.Says.{says, lines-added}
-use Rattle.query.specs.Reading.{Reading, choice, term, name, negated, notWord, tokens, choiceTokens, termTokens, joined, spaced, text, named, choiceNamed, termNamed, depth, choiceDepth, termDepth, Within}
+use Rattle.query.specs.Reading.{Reading, choice, term, name, negated, notWord, tokens, choiceTokens, termTokens, joined}
+use Rattle.query.specs.Reading.{spaced, text, named, choiceNamed, termNamed, depth, choiceDepth, termDepth, Within}
 use Rattle.query.specs.Grammar.{readingOf}
 use Rattle.query.specs.Value.{valueOf, choiceValue, termValue}
 use Rattle.query.proofs.OneToOne.{every-reading-one-text}

@@ -25,7 +25,7 @@ use Rattle.file_laws.specs.Elsewhere.{BlocksHeldBy}
 use Rattle.trees.specs.Again.{waitingOf}
 use Rattle.kleene.specs.declared.Value.{Value}
 use Rattle.kleene.specs.declared.Value.the-variants.{NotKnown}
-use Rattle.card.specs.Name.{isName}
+use Rattle.antigen.specs.Name.{isName}
 use Rattle.card.specs.Card.{Line, linesOf}
 use Rattle.card.specs.Says.{Among}
 use Rattle.query.specs.Reading.{notWord}

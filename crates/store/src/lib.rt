@@ -27,7 +27,8 @@ pub fn compare<'a>(
     data: &[u8],
 ) -> Stored
     requires { ⌜ (end .0 ≤ sectors (length (now log))) × Inside (end .0 + sectors (length (now waiting))) b ⌝ }
-    ensures { λ r. ⌜ ((L : Lent) → afterStore (receipt (sha1Of (now («data» .entry))) r) L ≡ compared L (bytesOf (joined (end .0) (now (log .entry)) (now (waiting .entry))) b) (b .first .0) (now («data» .entry))) ⌝ }
+    ensures { λ r. ⌜ ((L : Lent) → afterStore (receipt (sha1Of (now («data» .entry))) r) L
+        ≡ compared L (bytesOf (joined (end .0) (now (log .entry)) (now (waiting .entry))) b) (b .first .0) (now («data» .entry))) ⌝ }
 {
     if b.size != data.len() {
         return Stored::Refused(Refusal::Clash);

@@ -13,9 +13,9 @@ use Rattle.buffer.specs.Bytes.{Bytes, same}
 use Rattle.buffer.proofs.Bytes.{same-refl, same-true}
 use Rattle.entry.specs.declared.Entry.{Entry}
 use Rattle.entry.specs.Entry.{entryOf, wellFormed}
-use Rattle.pair.specs.declared.Verdict.{Verdict}
-use Rattle.pair.specs.declared.Verdict.the-variants.{Skip, IllFormed, Open, Differ}
-use Rattle.pair.specs.Verdict.{sameShape, verdictOf, verdict}
+use Rattle.verdict.specs.declared.Verdict.{Verdict}
+use Rattle.verdict.specs.declared.Verdict.the-variants.{Skip, IllFormed, Open, Differ}
+use Rattle.verdict.specs.Verdict.{sameShape, verdictOf, verdict}
 
 -- ---- what each verdict says
 

@@ -4,8 +4,8 @@ use lib.Dec.{eqb}
 use Rattle.buffer.specs.Bytes.{Bytes, same}
 use Rattle.entry.specs.declared.Entry.{Entry}
 use Rattle.entry.specs.Entry.{entryOf, wellFormed}
-use Rattle.pair.specs.declared.Verdict.{Verdict}
-use Rattle.pair.specs.declared.Verdict.the-variants.{Skip, IllFormed, Open, Differ}
+use Rattle.verdict.specs.declared.Verdict.{Verdict}
+use Rattle.verdict.specs.declared.Verdict.the-variants.{Skip, IllFormed, Open, Differ}
 
 -- "an ill-formed active entry"
 abbrev pub illFormed : Entry → Bool

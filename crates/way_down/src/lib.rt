@@ -38,7 +38,8 @@ pub fn descend<'a>(
 ) -> Look
     requires { ⌜ (end .0 ≤ sectors (length (now log))) × Open e offset × (length (now top) ≡ 20) ⌝ }
     ensures room { λ r. ⌜ LiesIn (end .0 + sectors (length (now (waiting .entry)))) r ⌝ }
-    ensures run { λ r. ⌜ ((page o : ℕ) → o / e .dsize ≡ offset / e .dsize → runIn page e o r ≡ under (joined (end .0) (now (log .entry)) (now (waiting .entry))) page e o (e .depth) (now (top .entry))) ⌝ }
+    ensures run { λ r. ⌜ ((page o : ℕ) → o / e .dsize ≡ offset / e .dsize → runIn page e o r
+        ≡ under (joined (end .0) (now (log .entry)) (now (waiting .entry))) page e o (e .depth) (now (top .entry))) ⌝ }
 {
     let mut score = [0u8; 20];
     buffer::copy_at(&mut score, 0, top);

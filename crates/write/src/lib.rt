@@ -58,7 +58,8 @@ fn cut_length(kind: u8, block: &[u8]) -> usize
 // Stores a block of a type, cut.
 fn store_cut(log: &[u8], waiting: &mut [u8], date: &[u8], kind: u8, block: &[u8]) -> Receipt
     requires { ⌜ (length (now block) ≤ longest) × (length (now date) ≡ 8) × (lawful kind ≡ true) × (wholeUnits (unitOf kind) (length (now block)) ≡ true) ⌝ }
-    ensures { λ r. ⌜ afterStore r (beside (now (log .entry)) (now (waiting .exit))) ≡ storeOf (beside (now (log .entry)) (now (waiting .entry))) (now (date .entry)) kind (cutBlock kind (now (block .entry))) ⌝ }
+    ensures { λ r. ⌜ afterStore r (beside (now (log .entry)) (now (waiting .exit)))
+        ≡ storeOf (beside (now (log .entry)) (now (waiting .entry))) (now (date .entry)) kind (cutBlock kind (now (block .entry))) ⌝ }
 {
     let n = cut_length(kind, block);
     store::store(log, waiting, date, kind, &block[..n])
@@ -85,8 +86,10 @@ fn store_piece(
     source: &[u8],
     i: usize,
 ) -> Receipt
-    requires { ⌜ (length (now date) ≡ 8) × (lawful kind ≡ true) × (1 ≤ width) × (width ≤ longest) × (length (now source) ≤ 20 * longest) × (i < partsOf width (length (now source))) × (wholeUnits (unitOf kind) (length (piece width i (now source))) ≡ true) ⌝ }
-    ensures { λ r. ⌜ afterStore r (beside (now (log .entry)) (now (waiting .exit))) ≡ storeOf (beside (now (log .entry)) (now (waiting .entry))) (now (date .entry)) kind (cutBlock kind (piece width i (now (source .entry)))) ⌝ }
+    requires { ⌜ (length (now date) ≡ 8) × (lawful kind ≡ true) × (1 ≤ width) × (width ≤ longest) × (length (now source) ≤ 20 * longest)
+        × (i < partsOf width (length (now source))) × (wholeUnits (unitOf kind) (length (piece width i (now source))) ≡ true) ⌝ }
+    ensures { λ r. ⌜ afterStore r (beside (now (log .entry)) (now (waiting .exit)))
+        ≡ storeOf (beside (now (log .entry)) (now (waiting .entry))) (now (date .entry)) kind (cutBlock kind (piece width i (now (source .entry)))) ⌝ }
 {
     let at = width * i;
     let to = smaller(at + width, source.len());
@@ -119,7 +122,8 @@ fn write_leaves(
     scores: &mut [u8],
 ) -> End
     requires { ⌜ (length (now date) ≡ 8) × (length (now slice) ≤ longest) × (1 ≤ dsize) × (dsize ≤ longest) × (length (now scores) ≡ 20 * partsOf dsize (length (now slice))) ⌝ }
-    ensures blocks { λ r. ⌜ afterAll r (beside (now (log .entry)) (now (waiting .exit))) ≡ storeAll (beside (now (log .entry)) (now (waiting .entry))) (now (date .entry)) (leaves dsize (now (slice .entry))) ⌝ }
+    ensures blocks { λ r. ⌜ afterAll r (beside (now (log .entry)) (now (waiting .exit)))
+        ≡ storeAll (beside (now (log .entry)) (now (waiting .entry))) (now (date .entry)) (leaves dsize (now (slice .entry))) ⌝ }
     ensures scores { λ r. ⌜ (r ≡ Done → now (scores .exit) ≡ scoresOf (leaves dsize (now (slice .entry)))) ⌝ }
 {
     let count = pieces(dsize, slice.len());
@@ -146,7 +150,8 @@ fn write_level(
     scores: &mut [u8],
 ) -> End
     requires { ⌜ (length (now date) ≡ 8) × (isPointer kind ≡ true) × (20 ≤ width) × (width ≤ longest) × (width % 20 ≡ 0) × (length (now scores) % 20 ≡ 0) × (length (now scores) ≤ 20 * longest) ⌝ }
-    ensures blocks { λ r. ⌜ afterAll r (beside (now (log .entry)) (now (waiting .exit))) ≡ storeAll (beside (now (log .entry)) (now (waiting .entry))) (now (date .entry)) (level kind width (now (scores .entry))) ⌝ }
+    ensures blocks { λ r. ⌜ afterAll r (beside (now (log .entry)) (now (waiting .exit)))
+        ≡ storeAll (beside (now (log .entry)) (now (waiting .entry))) (now (date .entry)) (level kind width (now (scores .entry))) ⌝ }
     ensures scores { λ r. ⌜ (r ≡ Done → take (20 * partsOf width (length (now (scores .entry)))) (now (scores .exit)) ≡ scoresOf (level kind width (now (scores .entry)))) ⌝ }
 {
     let count = pieces(width, scores.len());
@@ -172,7 +177,8 @@ fn write_levels(
     scores: &mut [u8],
 ) -> End
     requires { ⌜ (length (now date) ≡ 8) × (20 ≤ width) × (width ≤ longest) × (width % 20 ≡ 0) × (depth ≤ 7) × (length (now scores) % 20 ≡ 0) × (length (now scores) ≤ 20 * longest) ⌝ }
-    ensures blocks { λ r. ⌜ afterAll r (beside (now (log .entry)) (now (waiting .exit))) ≡ storeAll (beside (now (log .entry)) (now (waiting .entry))) (now (date .entry)) (pointerBlocks width (now (scores .entry)) depth) ⌝ }
+    ensures blocks { λ r. ⌜ afterAll r (beside (now (log .entry)) (now (waiting .exit)))
+        ≡ storeAll (beside (now (log .entry)) (now (waiting .entry))) (now (date .entry)) (pointerBlocks width (now (scores .entry)) depth) ⌝ }
     ensures top { λ r. ⌜ (r ≡ Done → topOf (now (scores .exit)) ≡ topOf (scoresAt width (now (scores .entry)) depth)) ⌝ }
 {
     let mut n = scores.len();
@@ -200,8 +206,10 @@ fn write_blocks(
     depth: usize,
     scores: &mut [u8],
 ) -> End
-    requires { ⌜ (length (now date) ≡ 8) × (length (now slice) ≤ longest) × (1 ≤ dsize) × (dsize ≤ longest) × (40 ≤ psize) × (psize ≤ longest) × (depth ≤ 7) × (length (now scores) ≡ 20 * partsOf dsize (length (now slice))) ⌝ }
-    ensures blocks { λ r. ⌜ afterAll r (beside (now (log .entry)) (now (waiting .exit))) ≡ storeAll (beside (now (log .entry)) (now (waiting .entry))) (now (date .entry)) (fileBlocks (now (slice .entry)) dsize psize depth) ⌝ }
+    requires { ⌜ (length (now date) ≡ 8) × (length (now slice) ≤ longest) × (1 ≤ dsize) × (dsize ≤ longest) × (40 ≤ psize) × (psize ≤ longest) × (depth ≤ 7)
+        × (length (now scores) ≡ 20 * partsOf dsize (length (now slice))) ⌝ }
+    ensures blocks { λ r. ⌜ afterAll r (beside (now (log .entry)) (now (waiting .exit)))
+        ≡ storeAll (beside (now (log .entry)) (now (waiting .entry))) (now (date .entry)) (fileBlocks (now (slice .entry)) dsize psize depth) ⌝ }
     ensures top { λ r. ⌜ (r ≡ Done → topOf (now (scores .exit)) ≡ topScore (now (slice .entry)) dsize psize depth) ⌝ }
 {
     let ended = write_leaves(log, waiting, date, slice, dsize, scores);
@@ -245,8 +253,10 @@ fn write_tested(
     entry: &mut [u8],
     scores: &mut [u8],
 ) -> End
-    requires { ⌜ (length (now date) ≡ 8) × (length (now slice) ≤ longest) × (1 ≤ dsize) × (dsize ≤ longest) × (40 ≤ psize) × (psize ≤ longest) × (depth ≤ 7) × (length (now entry) ≡ 40) × (20 * longest ≤ length (now scores)) ⌝ }
-    ensures { λ r. ⌜ outcome r (beside (now (log .entry)) (now (waiting .exit))) (now (entry .exit)) (now (scores .exit)) ≡ wrote (now (log .entry)) (now (waiting .entry)) (now (date .entry)) (now (slice .entry)) dsize psize (now (entry .entry)) (now (scores .entry)) depth ⌝ }
+    requires { ⌜ (length (now date) ≡ 8) × (length (now slice) ≤ longest) × (1 ≤ dsize) × (dsize ≤ longest) × (40 ≤ psize) × (psize ≤ longest) × (depth ≤ 7)
+        × (length (now entry) ≡ 40) × (20 * longest ≤ length (now scores)) ⌝ }
+    ensures { λ r. ⌜ outcome r (beside (now (log .entry)) (now (waiting .exit))) (now (entry .exit)) (now (scores .exit))
+        ≡ wrote (now (log .entry)) (now (waiting .entry)) (now (date .entry)) (now (slice .entry)) dsize psize (now (entry .entry)) (now (scores .entry)) depth ⌝ }
 {
     let n = 20 * pieces(dsize, slice.len());
     let ended = write_blocks(
@@ -279,7 +289,8 @@ pub fn write_file(
     entry: &mut [u8],
     scores: &mut [u8],
 ) -> End
-    ensures { λ r. ⌜ outcome r (beside (now (log .entry)) (now (waiting .exit))) (now (entry .exit)) (now (scores .exit)) ≡ writeFile (now (log .entry)) (now (waiting .entry)) (now (date .entry)) (now (slice .entry)) dsize psize (now (entry .entry)) (now (scores .entry)) ⌝ }
+    ensures { λ r. ⌜ outcome r (beside (now (log .entry)) (now (waiting .exit))) (now (entry .exit)) (now (scores .exit))
+        ≡ writeFile (now (log .entry)) (now (waiting .entry)) (now (date .entry)) (now (slice .entry)) dsize psize (now (entry .entry)) (now (scores .entry)) ⌝ }
 {
     if entry.len() != ENTRY {
         return End::Refused(Refusal::Buffer);

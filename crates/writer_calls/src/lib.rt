@@ -26,7 +26,8 @@ pub fn write_file(
     entry: &mut [u8],
     scores: &mut [u8],
 ) -> u32
-    ensures { λ r. ⌜ wroteFile r (beside (now (log .entry)) (now (waiting .exit))) (now (entry .exit)) (now (scores .exit)) ≡ wroteResult (writeFile (now (log .entry)) (now (waiting .entry)) (now (date .entry)) (now (slice .entry)) dsize psize (now (entry .entry)) (now (scores .entry))) ⌝ }
+    ensures { λ r. ⌜ wroteFile r (beside (now (log .entry)) (now (waiting .exit))) (now (entry .exit)) (now (scores .exit))
+        ≡ wroteResult (writeFile (now (log .entry)) (now (waiting .entry)) (now (date .entry)) (now (slice .entry)) dsize psize (now (entry .entry)) (now (scores .entry))) ⌝ }
 {
     let end = write::write_file(log, waiting, date, slice, dsize, psize, entry, scores);
     end_number(end)

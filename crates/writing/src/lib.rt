@@ -23,7 +23,9 @@ pub fn serve_write(
     kind: u8,
 ) -> Answer
     requires { ⌜ (requestOf (now message) ≡ Write kind) × (replyRoom ≤ length (now reply)) × (length (now date) ≡ 8) ⌝ }
-    ensures { λ r. ⌜ indexedOf r (now (log .entry)) (now (waiting .exit)) (now (reply .exit)) (now (index .exit)) ≡ writeBy (now (date .entry)) kind (tagOf (now (message .entry))) (dataOf (now (message .entry))) (now (index .entry)) (beside (now (log .entry)) (now (waiting .entry))) (now (reply .entry)) ⌝ }
+    ensures { λ r. ⌜ indexedOf r (now (log .entry)) (now (waiting .exit)) (now (reply .exit)) (now (index .exit))
+        ≡ writeBy (now (date .entry)) kind (tagOf (now (message .entry))) (dataOf (now (message .entry))) (now (index .entry))
+        (beside (now (log .entry)) (now (waiting .entry))) (now (reply .entry)) ⌝ }
 {
     let tag = message::tag_of(message);
     if !kind::is_lawful(kind) {
@@ -34,6 +36,6 @@ pub fn serve_write(
         return answer::refuse(Refusal::DataLength, tag, Session::Greeted, reply);
     }
     let receipt = store::store(log, waiting, date, kind, data);
-    answer::enter_stored(index, receipt.stored, &receipt.score, kind);
+    index_stored::enter_stored(index, receipt.stored, &receipt.score, kind);
     answer::answer_store(receipt, tag, reply)
 }

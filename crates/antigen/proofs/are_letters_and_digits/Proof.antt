@@ -1,14 +1,14 @@
--- `card::are_letters_and_digits` meets its contract: what is left passes just if the whole does.
+-- `antigen::are_letters_and_digits` meets its contract: what is left passes just if the whole does.
 use mathlib.Core.Path.{_≡_, refl, _∙_}
 use Prim.Native.Nat.{_-_, _≤_}
 use native.Mathlib.Omega.{arith}
 use lib.ListN.{length, drop}
 use borrow.Author.Tests.{not-true, not-false}
-use Rattle.card.specs.Name.{lettersAndDigits}
-use Rattle.card.proofs.Names.{letters-on, letters-stop, letters-end}
+use Rattle.antigen.specs.Name.{lettersAndDigits}
+use Rattle.antigen.proofs.Names.{letters-on, letters-stop, letters-end}
 use borrow.Author.Needs.{needs}
-use Rattle.card.proofs.are_letters_and_digits.Statement.{statement}
-use Rattle.card.proofs.are_letters_and_digits.Tie as tie
+use Rattle.antigen.proofs.are_letters_and_digits.Statement.{statement}
+use Rattle.antigen.proofs.are_letters_and_digits.Tie as tie
 
 abbrev Inv-loop : tie.InvT-loop
 Inv-loop s i₀ i = (i ≤ length s) × (lettersAndDigits (drop i s) ≡ lettersAndDigits s)

@@ -1,13 +1,13 @@
--- `card::is_before` meets its contract: what is left of both is in order just if the whole is.
+-- `antigen::is_before` meets its contract: what is left of both is in order just if the whole is.
 use mathlib.Core.Path.{_≡_, refl, _∙_}
 use Prim.Native.Nat.{_-_, _≤_}
 use native.Mathlib.Omega.{arith}
 use lib.ListN.{length, drop}
-use Rattle.card.specs.Name.{before}
-use Rattle.card.proofs.Names.{before-shorter, before-differ, before-on, before-end}
+use Rattle.antigen.specs.Name.{before}
+use Rattle.antigen.proofs.Names.{before-shorter, before-differ, before-on, before-end}
 use borrow.Author.Needs.{needs}
-use Rattle.card.proofs.is_before.Statement.{statement}
-use Rattle.card.proofs.is_before.Tie as tie
+use Rattle.antigen.proofs.is_before.Statement.{statement}
+use Rattle.antigen.proofs.is_before.Tie as tie
 
 abbrev Inv-loop : tie.InvT-loop
 Inv-loop a b i₀ i = (i ≤ length a) × (i ≤ length b) × (before (drop i a) (drop i b) ≡ before a b)

@@ -1,7 +1,7 @@
--- `card::is_letter_or_digit` meets its contract: a case for each range.
-use Rattle.card.proofs.Names.{byte-1, byte-2, byte-3, byte-4, byte-5, byte-6}
-use Rattle.card.proofs.is_letter_or_digit.Statement.{statement}
-use Rattle.card.proofs.is_letter_or_digit.Tie as tie
+-- `antigen::is_letter_or_digit` meets its contract: a case for each range.
+use Rattle.antigen.proofs.Names.{byte-1, byte-2, byte-3, byte-4, byte-5, byte-6}
+use Rattle.antigen.proofs.is_letter_or_digit.Statement.{statement}
+use Rattle.antigen.proofs.is_letter_or_digit.Tie as tie
 
 returns : tie.Need-returns
 returns c = byte-1 _ (c .if1 .taken)

@@ -1,8 +1,8 @@
--- `card::is_name` meets its contract, test by test.
-use Rattle.card.proofs.Names.{name-short, name-long, name-reserved, name-letters}
+-- `antigen::is_name` meets its contract, test by test.
+use Rattle.antigen.proofs.Names.{name-short, name-long, name-reserved, name-letters}
 use borrow.Author.Needs.{needs}
-use Rattle.card.proofs.is_name.Statement.{statement}
-use Rattle.card.proofs.is_name.Tie as tie
+use Rattle.antigen.proofs.is_name.Statement.{statement}
+use Rattle.antigen.proofs.is_name.Tie as tie
 
 returns : tie.Need-returns
 returns c = name-short _ (c .if1 .taken)

@@ -1,8 +1,8 @@
--- `card::is_reserved` meets its contract, word by word.
-use Rattle.card.proofs.Names.{word-first, word-second, word-third}
+-- `antigen::is_reserved` meets its contract, word by word.
+use Rattle.antigen.proofs.Names.{word-first, word-second, word-third}
 use borrow.Author.Needs.{needs}
-use Rattle.card.proofs.is_reserved.Statement.{statement}
-use Rattle.card.proofs.is_reserved.Tie as tie
+use Rattle.antigen.proofs.is_reserved.Statement.{statement}
+use Rattle.antigen.proofs.is_reserved.Tie as tie
 
 slice-aggregate-equal : tie.Need-slice-aggregate-equal
 slice-aggregate-equal c = search needs

@@ -1,9 +1,9 @@
--- `answer::enter_stored` meets its contract: by what the store did.
-use Rattle.answer.proofs.Returns.{entered-new, entered-none}
+-- `index_stored::enter_stored` meets its contract: by what the store did.
+use Rattle.index_stored.proofs.Entered.{entered-new, entered-none}
 use mathlib.Core.Path.{_∙_}
 use borrow.Author.Needs.{needs}
-use Rattle.answer.proofs.enter_stored.Statement.{statement}
-use Rattle.answer.proofs.enter_stored.Tie as tie
+use Rattle.index_stored.proofs.enter_stored.Statement.{statement}
+use Rattle.index_stored.proofs.enter_stored.Tie as tie
 
 enum-known-stored : tie.Need-enum-known-stored
 enum-known-stored c = search needs

@@ -66,10 +66,11 @@ same-length c = search needs
 returns : tie.Need-returns
 returns c =
     let u = c .before .before .before .before .before .before .before .before .before .before in
-    let a = u .before .before .before .before .before .before .before .before .before .before .before .before .before .before .before .before .before .before .before .before .before .before .before .args in
-    let given = u .before .before .before .before .before .before .before .before .before .before .before .before .before .before .before .before .before .before .before .before .before .before .before .pre in
-    let write-line = u .before .before .before .before .before .before .before .before .before .before .before .before .before .before .before .before .before .write-line in
-    let write-line2 = u .before .before .before .before .before .before .before .before .before .before .before .before .write-line2 in
+    let v = u .before .before .before .before .before .before .before .before .before .before .before .before in
+    let a = v .before .before .before .before .before .before .before .before .before .before .before .args in
+    let given = v .before .before .before .before .before .before .before .before .before .before .before .pre in
+    let write-line = v .before .before .before .before .before .write-line in
+    let write-line2 = v .write-line2 in
     let write-line3 = u .before .before .before .before .before .before .before .write-line3 in
     let write-line4 = u .before .write-line4 in
     let write-line5 = c .before .before .before .before .before .before .write-line5 in

@@ -1,9 +1,9 @@
--- `pair::judge` meets its contract: equal bytes, else by the entries.
+-- `verdict::judge` meets its contract: equal bytes, else by the entries.
 use mathlib.Core.Path.{sym, _∙_}
 use borrow.Author.Needs.{needs}
-use Rattle.pair.proofs.Verdicts.{equal-bytes, other-bytes}
-use Rattle.pair.proofs.judge.Statement.{statement}
-use Rattle.pair.proofs.judge.Tie as tie
+use Rattle.verdict.proofs.Verdicts.{equal-bytes, other-bytes}
+use Rattle.verdict.proofs.judge.Statement.{statement}
+use Rattle.verdict.proofs.judge.Tie as tie
 
 equal : tie.Need-returns
 equal c = let a = c .before .before .before .before .args in equal-bytes (a .x .now) (a .y .now) (sym (c .before .equal .ensures) ∙ c .if1 .taken)

@@ -1,10 +1,10 @@
--- `pair::judge_entries` meets its contract, case by case.
+-- `verdict::judge_entries` meets its contract, case by case.
 use mathlib.Core.Path.{refl, sym, _∙_}
 use borrow.Author.Needs.{needs}
 use borrow.Author.Tests.{not-true, not-false}
-use Rattle.pair.proofs.Verdicts.{by-tests, only-first, only-second}
-use Rattle.pair.proofs.judge_entries.Statement.{statement}
-use Rattle.pair.proofs.judge_entries.Tie as tie
+use Rattle.verdict.proofs.Verdicts.{by-tests, only-first, only-second}
+use Rattle.verdict.proofs.judge_entries.Statement.{statement}
+use Rattle.verdict.proofs.judge_entries.Tie as tie
 
 skip : tie.Need-returns
 skip c =

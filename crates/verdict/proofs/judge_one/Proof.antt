@@ -1,8 +1,8 @@
--- `pair::judge_one` meets its contract.
+-- `verdict::judge_one` meets its contract.
 use mathlib.Core.Path.{sym, _∙_}
 use borrow.Author.Needs.{needs}
-use Rattle.pair.proofs.judge_one.Statement.{statement}
-use Rattle.pair.proofs.judge_one.Tie as tie
+use Rattle.verdict.proofs.judge_one.Statement.{statement}
+use Rattle.verdict.proofs.judge_one.Tie as tie
 
 formed : tie.Need-returns
 formed c = rw (sym (c .before .is-well-formed .ensures) ∙ c .if1 .taken)

@@ -1,8 +1,8 @@
--- `pair::same_shape` meets its contract, test by test.
+-- `verdict::same_shape` meets its contract, test by test.
 use borrow.Author.Tests.{not-true, not-false}
-use Rattle.pair.proofs.Verdicts.{first-no-directory, second-no-directory, other-psize, other-dsize, by-depth}
-use Rattle.pair.proofs.same_shape.Statement.{statement}
-use Rattle.pair.proofs.same_shape.Tie as tie
+use Rattle.verdict.proofs.Verdicts.{first-no-directory, second-no-directory, other-psize, other-dsize, by-depth}
+use Rattle.verdict.proofs.same_shape.Statement.{statement}
+use Rattle.verdict.proofs.same_shape.Tie as tie
 
 first : tie.Need-returns
 first c = first-no-directory _ _ (not-true _ (c .if1 .taken))

@@ -19,7 +19,7 @@ use Rattle.open_pair.proofs.open.Reads as opening
 use Rattle.open_pair.proofs.one_unit.Reads as one-unit
 use Rattle.compare_below.proofs.positions_of_both.Reads as positions-of-both
 use Rattle.entry.proofs.entry_at.Reads as entry-at
-use Rattle.pair.proofs.judge.Reads as judge
+use Rattle.verdict.proofs.judge.Reads as judge
 use Rattle.tree.proofs.score_at.Reads as score-at
 use Rattle.visit.proofs.entry_bytes.Reads as entry-bytes
 

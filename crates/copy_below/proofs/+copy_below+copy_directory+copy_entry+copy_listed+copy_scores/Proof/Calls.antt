@@ -63,7 +63,8 @@ scores-at = at-measure 3 scores-kinds.ps μ-scores scores.Pre
 
 -- the functions that each calls
 abbrev pub below-calls : ℕ → below-lts.Claims
-below-calls t = (below-block.Asked, below-block.Learnt, below-measure 3 directory-kinds.ps μ-directory directory.Pre t, directory.Post, below-measure 3 scores-kinds.ps μ-scores scores.Pre t, scores.Post)
+below-calls t =
+    (below-block.Asked, below-block.Learnt, below-measure 3 directory-kinds.ps μ-directory directory.Pre t, directory.Post, below-measure 3 scores-kinds.ps μ-scores scores.Pre t, scores.Post)
 
 abbrev pub directory-calls : ℕ → directory-lts.Claims
 directory-calls t = (below-measure 3 listed-kinds.ps μ-listed listed.Pre t, listed.Post)

@@ -42,10 +42,28 @@ term-at = at-measure 2 term-kinds.ps μ-term term.Pre
 
 -- the functions that each calls
 abbrev pub list-calls : ℕ → list-lts.Claims
-list-calls t = (below-measure 2 choice-kinds.ps μ-choice choice.Pre t, choice.Post, next-is.Asked, next-is.Learnt, below-measure 2 list-kinds.ps μ-list list.Pre t, list.Post, either.Asked, either.Learnt)
+list-calls t = (
+  below-measure 2 choice-kinds.ps μ-choice choice.Pre t,
+  choice.Post,
+  next-is.Asked,
+  next-is.Learnt,
+  below-measure 2 list-kinds.ps μ-list list.Pre t,
+  list.Post,
+  either.Asked,
+  either.Learnt,
+)
 
 abbrev pub choice-calls : ℕ → choice-lts.Claims
-choice-calls t = (below-measure 2 term-kinds.ps μ-term term.Pre t, term.Post, next-is.Asked, next-is.Learnt, below-measure 2 choice-kinds.ps μ-choice choice.Pre t, choice.Post, both.Asked, both.Learnt)
+choice-calls t = (
+  below-measure 2 term-kinds.ps μ-term term.Pre t,
+  term.Post,
+  next-is.Asked,
+  next-is.Learnt,
+  below-measure 2 choice-kinds.ps μ-choice choice.Pre t,
+  choice.Post,
+  both.Asked,
+  both.Learnt,
+)
 
 abbrev pub term-calls : ℕ → term-lts.Claims
 term-calls t = (

@@ -1,0 +1,2 @@
+-- What the clauses of `antigen` cite.
+pub mod Name

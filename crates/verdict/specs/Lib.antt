@@ -1,0 +1,2 @@
+-- What the clauses of `verdict` cite.
+pub mod Verdict
