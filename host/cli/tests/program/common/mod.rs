@@ -6,6 +6,8 @@ pub mod terminal;
 use std::ffi::OsStr;
 use std::fs;
 use std::io::{Read, Write};
+use std::os::fd::AsRawFd;
+use std::os::raw::{c_int, c_short, c_ulong};
 use std::os::unix::fs::{chown, MetadataExt};
 use std::os::unix::process::CommandExt;
 use std::path::{Path, PathBuf};
@@ -262,6 +264,20 @@ impl Drop for Place {
     }
 }
 
+/// A descriptor that is waited for, as poll(2) has it.
+#[repr(C)]
+struct Awaited {
+    descriptor: c_int,
+    events: c_short,
+    told: c_short,
+}
+
+const READABLE: c_short = 1;
+
+extern "C" {
+    fn poll(awaited: *mut Awaited, count: c_ulong, milliseconds: c_int) -> c_int;
+}
+
 /// A running `serve`.
 pub struct Server {
     pub child: Child,
@@ -284,8 +300,23 @@ impl Server {
         input.write_all(message).expect("it listens");
     }
 
+    /// Waits for output or its end. A server that holds a reply back is to fail its test, not to stop it.
+    #[track_caller]
+    fn has_answered(&self) {
+        let mut output = Awaited {
+            descriptor: self.output.as_raw_fd(),
+            events: READABLE,
+            told: 0,
+        };
+        // SAFETY: the pointer is to one such record, which `poll` writes while it runs.
+        let ready = unsafe { poll(&mut output, 1, 60_000) };
+        assert_ne!(ready, 0, "no reply within a minute");
+    }
+
     /// The next reply, whole; none where the output ends.
+    #[track_caller]
     pub fn reply(&mut self) -> Option<Vec<u8>> {
+        self.has_answered();
         let mut reply = vec![0; 2];
         self.output.read_exact(&mut reply).ok()?;
         let size = u16::from_be_bytes([reply[0], reply[1]]);
@@ -294,6 +325,7 @@ impl Server {
         Some(reply)
     }
 
+    #[track_caller]
     pub fn ask(&mut self, message: &[u8]) -> Vec<u8> {
         self.send(message);
         self.reply().expect("a reply")
