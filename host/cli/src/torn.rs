@@ -23,9 +23,10 @@ use crate::writer::Writer;
 
 /// How many logs are tried, unless the environment has another number in `TORN_ROUNDS`.
 const ROUNDS: u64 = 400;
+/// Of so many logs one has long blocks.
+const LONG: u64 = 5;
 /// How often a log is opened while the disk may fail.
 const LIVES: usize = 4;
-const SECTORS: usize = 96;
 const DATE: Date = *b"20261116";
 const WAITING: usize = MOST_WAITING * SECTOR;
 
@@ -58,12 +59,14 @@ fn ask(log: &mut dyn Answers, message: &[u8], ahead: bool) -> Result<Answer, Fai
 }
 
 /// Opens the log and sends messages until a step fails, some of them ahead. What was answered, the ledger takes as
-/// well. What was held back when it failed is to the ledger as if it waited: no sync of it took place.
+/// well, and so it takes the syncs that are on disk while their replies are held back. What else was held back when it
+/// failed is to the ledger as if it waited: no sync of it took place. Counts how often some were on disk early.
 fn live(
     path: &Path,
     messages: &[Vec<u8>],
     account: &mut Account,
     random: &mut Random,
+    early: &mut u64,
 ) -> Result<(), Failure> {
     let writer = quietly(|streams| Writer::open(path, false, streams))?;
     let mut writer = writer.dated(Dates::Fixed(DATE));
@@ -74,16 +77,25 @@ fn live(
             account.request(greeted, message, Some(&DATE), REPLY);
         assert_eq!(answer, (number, reply));
     };
-    let mut held = Vec::new();
+    let mut held: Vec<(&Vec<u8>, Answer)> = Vec::new();
     let last = messages.len() - 1;
     let ended = messages.iter().enumerate().try_for_each(|(at, message)| {
-        let ahead = at < last && random.below(2) == 0;
-        held.push((message, ask(&mut writer, message, ahead)?));
+        let ahead = at < last && random.below(4) != 0;
+        let before = writer.on_disk();
+        let answer = ask(&mut writer, message, ahead)?;
         assert!(ahead || !writer.is_owing());
-        if !writer.is_owing() {
-            held.drain(..)
-                .for_each(|(message, answer)| agreed(message, answer));
-        }
+        let synced = held.iter().rposition(|(message, _)| !is_write(message));
+        let settled = match (writer.is_owing(), writer.on_disk() > before) {
+            (true, false) => 0,
+            (true, true) => {
+                *early += 1;
+                synced.expect("a sync") + 1
+            }
+            (false, _) => held.len() + 1,
+        };
+        held.push((message, answer));
+        held.drain(..settled)
+            .for_each(|(message, answer)| agreed(message, answer));
         Ok(())
     });
     let writes = held.into_iter().filter(|(message, _)| is_write(message));
@@ -132,65 +144,107 @@ fn check(path: &Path, blocks: &[Vec<u8>], account: &Account) -> (usize, bool) {
     (held, numbers.contains(&12))
 }
 
-/// A log that was begun before blocks had dates: these blocks, of the first edition.
-fn begin_undated(path: &Path, blocks: &[Vec<u8>], account: &mut Account) {
+/// The sectors of a log, the blocks for it, how many at most are written before a sync, and how many groups of them at
+/// most while it is open.
+struct Trial {
+    sectors: usize,
+    blocks: Vec<Vec<u8>>,
+    group: usize,
+    groups: usize,
+}
+
+impl Trial {
+    /// Blocks that are shorter and longer than a sector's payload; or such that more of them are asked ahead than may be
+    /// on their way to the disk at once.
+    fn new(long: bool) -> Trial {
+        let (sectors, lengths, group, groups) = match long {
+            false => (96, [1, 300, 389, 390, 900, 1167, 2000], 4, 4),
+            true => (
+                2_000,
+                [57_344, 40_000, 31_000, 50_000, 389, 44_000, 28_000],
+                1,
+                12,
+            ),
+        };
+        let blocks = lengths.map(|length| vec![length as u8 | 1; length]);
+        Trial {
+            sectors,
+            blocks: blocks.to_vec(),
+            group,
+            groups,
+        }
+    }
+
+    /// The first blocks in groups, with a sync after each.
+    fn all(&self, count: usize) -> Vec<Vec<u8>> {
+        let groups = self.blocks[..count].chunks(self.group);
+        let grouped = groups.flat_map(|group| {
+            let writes = group.iter().map(|block| write(block));
+            writes.chain([SYNC.to_vec()])
+        });
+        grouped.collect()
+    }
+
+    /// Some groups of some blocks, with a sync after each.
+    fn messages(&self, random: &mut Random) -> Vec<Vec<u8>> {
+        let mut messages = Vec::new();
+        for _ in 0..=random.below(self.groups) {
+            for _ in 0..=random.below(self.group) {
+                messages.push(write(&self.blocks[random.below(self.blocks.len())]));
+            }
+            messages.push(SYNC.to_vec());
+        }
+        messages
+    }
+}
+
+/// A log that was begun before blocks had dates: what it was told then, of the first edition.
+fn begin_undated(path: &Path, messages: &[Vec<u8>], account: &mut Account) {
     account.request(Origin::Fresh, &hello(), None, REPLY);
-    let writes = blocks.iter().map(|block| write(block));
-    for message in writes.chain([SYNC.to_vec()]) {
-        let answer = account.request(Origin::After(0), &message, None, REPLY);
+    for message in messages {
+        let answer = account.request(Origin::After(0), message, None, REPLY);
         assert_eq!(answer.number, 0);
     }
     fs::write(path, account.log()).unwrap();
     let marked = Mark {
-        sectors: SECTORS,
+        sectors: account.log().len() / SECTOR,
         used: used(account.log()),
     };
     fs::write(mark::path_of(path), marked.text()).unwrap();
 }
 
-/// Some groups of some blocks, with a sync after each.
-fn messages(blocks: &[Vec<u8>], random: &mut Random) -> Vec<Vec<u8>> {
-    let mut messages = Vec::new();
-    for _ in 0..=random.below(4) {
-        for _ in 0..=random.below(4) {
-            messages.push(write(&blocks[random.below(blocks.len())]));
-        }
-        messages.push(SYNC.to_vec());
-    }
-    messages
-}
-
 #[test]
 fn torn_writes() {
     let rounds = env::var("TORN_ROUNDS").map_or(ROUNDS, |rounds| rounds.parse().unwrap());
-    let blocks = [1, 300, 389, 390, 900, 1167, 2000].map(|length| vec![length as u8 | 1; length]);
-    let (mut stops, mut doubts, mut adopted) = (0, 0, 0);
+    let (mut stops, mut doubts, mut adopted, mut early) = (0, 0, 0, 0);
     for seed in 0..rounds {
         let mut random = Random(seed);
+        let trial = Trial::new(seed % LONG == 0);
+        let blocks = &trial.blocks;
         let folder = Folder::new();
         let path = folder.log();
-        let init = ["--sectors", &SECTORS.to_string()];
+        let init = ["--sectors", &trial.sectors.to_string()];
         assert_eq!(on_good_disk(|| folder.run("init", &init)), 0);
         let mut account = Account::new(Lent {
-            log: SECTORS * SECTOR,
+            log: trial.sectors * SECTOR,
             waiting: Some(WAITING),
         });
         if random.below(2) == 0 {
             let count = random.below(blocks.len());
-            begin_undated(&path, &blocks[..count], &mut account);
+            begin_undated(&path, &trial.all(count), &mut account);
         }
         for _ in 0..LIVES {
-            let messages = messages(&blocks, &mut random);
+            let messages = trial.messages(&mut random);
             let how = [How::Before, How::Half, How::After, How::Forgets][random.below(4)];
             let lost = Lost::Torn(random.below(usize::MAX) as u64);
             let step = random.below(14);
             let failed = on_failing_disk(step, how, lost, || {
-                let _ = live(&path, &messages, &mut account, &mut random);
+                let _ = live(&path, &messages, &mut account, &mut random, &mut early);
             });
             stop(&path, &mut account);
             stops += u64::from(failed);
             adopted += u64::from(adopt_torn(&path));
-            doubts += u64::from(check(&path, &blocks, &account).1);
+            doubts += u64::from(check(&path, blocks, &account).1);
             if random.below(3) == 0 {
                 // Another reader renews the mark first, where a crash left it behind.
                 let log = on_good_disk(|| quietly(|streams| reader::read(&path, false, streams)));
@@ -199,16 +253,15 @@ fn torn_writes() {
         }
         // All that is stored later is there, as if nothing had happened.
         on_good_disk(|| {
-            let all = blocks.iter().map(|block| write(block));
-            let all: Vec<_> = all.chain([SYNC.to_vec()]).collect();
-            let stored = live(&path, &all, &mut account, &mut random);
+            let all = trial.all(blocks.len());
+            let stored = live(&path, &all, &mut account, &mut random, &mut early);
             stored.map_err(|failure| failure.words).unwrap();
             stop(&path, &mut account);
-            assert_eq!(check(&path, &blocks, &account).0, blocks.len());
+            assert_eq!(check(&path, blocks, &account).0, blocks.len());
         });
     }
-    let enough = stops > rounds && doubts > rounds / 2;
-    assert!(enough, "{stops} stops, {doubts} doubts");
+    let enough = stops > rounds && doubts > rounds / 2 && early > rounds / 20;
+    assert!(enough, "{stops} stops, {doubts} doubts, {early} early");
     let seldom = adopted > 0 && adopted * 5 < stops;
     assert!(seldom, "{adopted} of {stops} stops left no good mark");
 }

@@ -192,6 +192,12 @@ impl Writer {
         self.used + self.moved + self.waits
     }
 
+    /// How many sectors are on disk, marked or not.
+    #[cfg(test)]
+    pub fn on_disk(&self) -> usize {
+        self.used
+    }
+
     /// Asks the proved archive. What it moves into the log is to be kept before anyone is answered.
     fn ask(
         &mut self,
