@@ -302,7 +302,7 @@ impl Server {
 
     /// Waits for output or its end. A server that holds a reply back is to fail its test, not to stop it.
     #[track_caller]
-    fn has_answered(&self) {
+    fn has_answered(&mut self) {
         let mut output = Awaited {
             descriptor: self.output.as_raw_fd(),
             events: READABLE,
@@ -310,7 +310,10 @@ impl Server {
         };
         // SAFETY: the pointer is to one such record, which `poll` writes while it runs.
         let ready = unsafe { poll(&mut output, 1, 60_000) };
-        assert_ne!(ready, 0, "no reply within a minute");
+        if ready == 0 {
+            let _ = self.child.kill();
+            panic!("no reply within a minute");
+        }
     }
 
     /// The next reply, whole; none where the output ends.
@@ -321,6 +324,7 @@ impl Server {
         self.output.read_exact(&mut reply).ok()?;
         let size = u16::from_be_bytes([reply[0], reply[1]]);
         reply.resize(2 + usize::from(size), 0);
+        self.has_answered();
         self.output.read_exact(&mut reply[2..]).ok()?;
         Some(reply)
     }
