@@ -1,4 +1,6 @@
 // A block stored in a log for which nothing waits.
+#![tactic(auto)]
+
 ghost use Rattle.std.specs.Prelude.{◌≡◌, ◌≤◌, length};
 ghost use Rattle.kind.specs.Kind.{longest};
 ghost use Rattle.sector_log.specs.Parts.{alone};

@@ -1,4 +1,6 @@
 // The replies of a request: refusals, acknowledgements, a request in a fresh session, what a read and a write say.
+#![tactic(auto)]
+
 ghost use Rattle.std.specs.Prelude.{◌≡◌, [], ◌+◌, ◌≤◌, length};
 ghost use Rattle.buffer.specs.Bytes.{Bytes};
 ghost use Rattle.kind.specs.Kind.{longest};

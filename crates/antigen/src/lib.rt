@@ -1,4 +1,6 @@
 // The names of antigens, in cards and in queries, and their order.
+#![tactic(auto)]
+
 ghost use Rattle.std.specs.Prelude.{◌≡◌};
 ghost use Rattle.antigen.specs.Name.{letter_or_digit, letters_and_digits, reserved, is_name, before};
 

@@ -1,4 +1,6 @@
 // A block written behind a log, sector by sector.
+#![tactic(auto)]
+
 ghost use Rattle.std.specs.Prelude.{◌≡◌, ◌+◌, ◌-◌, ◌*◌, ◌≤◌, ◌<◌, min, length};
 ghost use Rattle.buffer.specs.Bytes.{Bytes, put};
 ghost use Rattle.sector.specs.Sector.{front_of, sector_length, body_length, lines_length};

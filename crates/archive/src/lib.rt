@@ -1,4 +1,6 @@
 // One request: a session, a message, a date, the lent log with its waiting part, an index, and the lent reply buffer. Any bytes are answered.
+#![tactic(auto)]
+
 ghost use Rattle.std.specs.Prelude.{◌≡◌};
 ghost use Rattle.sector_log.specs.Parts.{beside};
 ghost use Rattle.std.proofs.Math.Option.{some};

@@ -1,5 +1,7 @@
 // A block at its place in the log, what a write of it makes, and what makes it sound: specs/ has the definitions, proofs/ their laws.
 // All that runs here is the count of a block's sectors.
+#![tactic(auto)]
+
 ghost use Rattle.std.specs.Prelude.{◌≡◌, ◌+◌, ◌^◌, ◌≤◌, ◌<◌};
 ghost use Rattle.sector.specs.Sector.{payload_of, body_length};
 ghost use Rattle.block.specs.Block.{parts_of};
@@ -8,7 +10,7 @@ use sector::BODY;
 use sector_number::SectorNumber;
 
 // Where a block stands: its first sector, its size in bytes, and how long its sectors' labels are.
-#[derive(Drop)]
+#[derive(Clone, Copy)]
 pub struct Block {
     pub first: SectorNumber,
     pub size: usize,

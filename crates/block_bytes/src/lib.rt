@@ -1,5 +1,7 @@
 // The bytes of a block where they lie, piece by piece: their digest, compared, copied out. The block is read from the first `end` sectors of a log and the
 // sectors that wait behind them, read as one.
+#![tactic(auto)]
+
 ghost use Rattle.std.specs.Prelude.{◌≡◌, ◌+◌, ◌≤◌, ◌<◌, length, take, drop};
 ghost use Rattle.buffer.specs.Bytes.{same, put};
 ghost use Rattle.sha1_digest.specs.Sha1.{sha1_of};

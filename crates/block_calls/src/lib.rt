@@ -1,4 +1,6 @@
 // Blocks by themselves: their types, and the zeros at their ends.
+#![tactic(auto)]
+
 ghost use Rattle.std.specs.Prelude.{◌≡◌, length};
 ghost use Rattle.kind.specs.Kind.{wire_type};
 ghost use Rattle.cut.specs.Cut.{cut_of};

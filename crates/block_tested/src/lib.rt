@@ -1,5 +1,7 @@
 // Whether the sectors of a block bear out what its first label says. The block is read from the first `end` sectors of a log and the sectors that wait
 // behind them, read as one.
+#![tactic(auto)]
+
 ghost use Rattle.std.specs.Prelude.{◌≡◌, ◌+◌, ◌≤◌, ◌<◌, length};
 ghost use Rattle.sector.specs.Sector.{front_of, date_field, lines_length};
 ghost use Rattle.block.specs.Block.{Inside};

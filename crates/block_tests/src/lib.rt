@@ -1,5 +1,7 @@
 // What a sound block is tested for: its labels, its checks, the zeros behind its bytes, and the numbers in a label. The block is read from the first `end`
 // sectors of a log and the sectors that wait behind them, read as one.
+#![tactic(auto)]
+
 ghost use Rattle.std.specs.Prelude.{◌≡◌, ◌+◌, ◌≤◌, ◌<◌, length, take, drop};
 ghost use Rattle.buffer.specs.Bytes.{Bytes, zeros};
 ghost use Rattle.sector.specs.Sector.{front_of, date_field, behind, lines_length};

@@ -1,5 +1,7 @@
 // The functions that other languages call: numbers and bytes only, and none with a `requires`. Each hands on to the crate of its subject.
 // A slice is a pointer and a length, an array a pointer. `host/include/skywimple.h` declares them for C.
+#![tactic(auto)]
+
 pub mod blocks;
 pub mod cards;
 pub mod changes;

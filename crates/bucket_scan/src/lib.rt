@@ -1,4 +1,6 @@
 // Whether the bucket of a score has a block's entry, by scan of its places.
+#![tactic(auto)]
+
 ghost use Rattle.std.specs.Prelude.{◌≡◌, length};
 ghost use Rattle.known.specs.Known.{listed};
 

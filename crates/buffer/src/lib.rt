@@ -1,4 +1,6 @@
 // Byte buffers: compared, tested for zeros, and written in part.
+#![tactic(auto)]
+
 ghost use Rattle.std.specs.Prelude.{◌≡◌, ◌+◌, ◌≤◌, length, replicate};
 ghost use Rattle.buffer.specs.Bytes.{same, zeros, put};
 

@@ -1,4 +1,6 @@
 // Cards: lines that say of antigens whether they are present or absent.
+#![tactic(auto)]
+
 ghost use Rattle.std.specs.Prelude.{◌≡◌, ◌+◌, ◌≤◌, length, drop};
 ghost use Rattle.card.specs.Card.{up_to, begins, line_of, told, well_formed, value_in};
 ghost use Rattle.card.specs.Scan.{place_of};
@@ -6,7 +8,7 @@ ghost use Rattle.card.specs.Scan.{place_of};
 use kleene::Value;
 
 // A line by its places: where its name ends, where the line ends, and whether it says present; or that there is none.
-#[derive(Drop)]
+#[derive(Clone, Copy)]
 pub enum Place {
     Line {
         equals: usize,

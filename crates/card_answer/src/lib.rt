@@ -1,4 +1,6 @@
 // What a card says to a query, once it is read or could not be.
+#![tactic(auto)]
+
 ghost use Rattle.std.specs.Prelude.{◌≡◌};
 ghost use Rattle.card_answer.specs.CardAnswer.{judged, once_read, answer_number};
 

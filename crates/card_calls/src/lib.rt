@@ -1,4 +1,6 @@
 // The card search, of a log and of the sectors that wait behind its used part, and whether bytes are a card.
+#![tactic(auto)]
+
 ghost use Rattle.std.specs.Prelude.{◌≡◌};
 ghost use Rattle.search.specs.Search.{search_of};
 ghost use Rattle.results.specs.Search.{value_number, told_number, answer_sector, search_result, is_card, card_number};

@@ -1,1 +1,2 @@
 // What the card search answers of a damaged or missing card, whatever happened to the log; nothing runs here.
+#![tactic(auto)]

@@ -1,5 +1,7 @@
 // What changed between two days: the first difference of two directory blocks, and the differences between two trees, of a log and of the
 // sectors that wait behind its used part.
+#![tactic(auto)]
+
 ghost use Rattle.std.specs.Prelude.{◌≡◌};
 ghost use Rattle.difference.specs.Difference.{difference_of};
 ghost use Rattle.comparison.specs.Differences.{differences_of};

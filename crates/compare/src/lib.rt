@@ -1,5 +1,7 @@
 // Counting the differences between two directory trees: the tests, then the two given entries. The blocks lie in two runs of sectors that
 // are read as one, as in `two_runs`.
+#![tactic(auto)]
+
 ghost use Rattle.std.specs.Prelude.{◌≡◌};
 ghost use Rattle.comparison.specs.Differences.{directory_allowed, differences_of};
 

@@ -1,5 +1,7 @@
 // What is below two blocks: two directory trees compared, pair by pair, while the allowance lasts. The blocks lie in two runs of sectors that
 // are read as one, as in `two_runs`.
+#![tactic(auto)]
+
 ghost use Rattle.std.specs.Prelude.{◌≡◌, ℕ, ◌+◌, ◌≤◌, ◌<◌, max, length};
 ghost use Rattle.kind.specs.Kind.{longest};
 ghost use Rattle.block.specs.Log.{sectors, joined, bytes_of};

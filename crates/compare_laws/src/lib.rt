@@ -1,1 +1,2 @@
 // The laws of a comparison that no contract needs. Nothing runs here.
+#![tactic(auto)]

@@ -1,8 +1,10 @@
 // Two directory trees compared, as a definition. Nothing here runs.
+#![tactic(auto)]
+
 use visit::End;
 
 // What a comparison answers: the differences counted, the units spent, and how it ended.
-#[derive(Drop)]
+#[derive(Clone, Copy)]
 pub struct Compared {
     pub count: usize,
     pub units: usize,

@@ -1,5 +1,7 @@
 // A copy of all that a root reaches into a second log: the tests, then the root.
 // The first log and the sectors that wait behind it are two runs that are read as one, as in `two_runs`.
+#![tactic(auto)]
+
 ghost use Rattle.std.specs.Prelude.{◌≡◌};
 ghost use Rattle.copying.specs.Copy.{copied, copy_allowed, copy_of};
 

@@ -1,5 +1,7 @@
 // What is below a block, copied into a second log: each block is stored there when all that is below it is.
 // The first log and the sectors that wait behind it are two runs that are read as one, as in `two_runs`.
+#![tactic(auto)]
+
 ghost use Rattle.std.specs.Prelude.{◌≡◌, ℕ, ◌+◌, ◌%◌, ◌≤◌, ◌<◌, length};
 ghost use Rattle.kind.specs.Kind.{longest};
 ghost use Rattle.block.specs.Block.{Inside};

@@ -1,4 +1,6 @@
 // A copy of all that a root reaches into another log, its outcome as numbers.
+#![tactic(auto)]
+
 ghost use Rattle.std.specs.Prelude.{◌≡◌};
 ghost use Rattle.copying.specs.Copy.{copy_of};
 ghost use Rattle.results.specs.Copies.{transfer, copy_result};

@@ -1,5 +1,7 @@
 // A root and its directory block copied into a second log, each behind all that is below it.
 // The first log and the sectors that wait behind it are two runs that are read as one, as in `two_runs`.
+#![tactic(auto)]
+
 ghost use Rattle.std.specs.Prelude.{◌≡◌, ◌≤◌, length};
 ghost use Rattle.block.specs.Log.{sectors, joined};
 ghost use Rattle.copying.specs.Copy.{copied, copy_top, copy_root};

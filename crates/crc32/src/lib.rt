@@ -1,4 +1,6 @@
 // CRC-32 of IEEE 802.3: sixteen bytes at once, what is left eight at once and one by one; below 128 bytes eight at once, below 16 one by one, by the table of bytes.
+#![tactic(auto)]
+
 ghost use Rattle.std.specs.Prelude.{◌≡◌, ◌%◌, length};
 ghost use Rattle.crc32_rule.specs.Crc32.{feed, crc32_of};
 ghost use Rattle.crc32_tables.specs.Digits.{rows};

@@ -1,5 +1,7 @@
 // The steps of CRC-32: one byte by the table of bytes or by its digits, eight and sixteen bytes at once by the tables of their hexadecimal digits.
 // The tables are lent: whoever makes one puts all of it on its stack.
+#![tactic(auto)]
+
 ghost use Rattle.std.specs.Prelude.{◌≡◌, ℕ, ◌+◌, ◌≤◌, length, take, drop};
 ghost use Rattle.std.specs.Int.Bits.{bit_xor};
 ghost use Rattle.crc32_rule.specs.Crc32.{bits, byte, table};

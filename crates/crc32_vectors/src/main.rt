@@ -1,4 +1,6 @@
 // CRC-32 of known messages, in hexadecimal, one to a line. What it must write was computed by another program, zlib.
+#![tactic(auto)]
+
 ghost use Rattle.std.specs.Prelude.{◌≡◌, length};
 
 fn show(checksum: u32) {

@@ -1,4 +1,6 @@
 // Cutting zeros off blocks, and padding blocks with them: zero bytes, or for pointer types zero scores.
+#![tactic(auto)]
+
 ghost use Rattle.std.specs.Prelude.{◌≡◌, true, ◌/◌, length};
 ghost use Rattle.kind.specs.Kind.{zero_score};
 ghost use Rattle.cut.specs.Cut.{zero_byte, unit_of, repeat, cut_length, whole_units, cut_of};
@@ -6,13 +8,13 @@ ghost use Rattle.cut.specs.Pad.{pad_allowed, after_pad, pad_of};
 
 use refusal::Refusal;
 
-#[derive(Drop)]
+#[derive(Clone, Copy)]
 pub enum Kept {
     Length(usize),
     Refused(Refusal),
 }
 
-#[derive(Drop)]
+#[derive(Clone, Copy)]
 pub enum Padded {
     Done,
     Refused(Refusal),
@@ -65,7 +67,7 @@ pub fn cut(kind: u8, block: &[u8]) -> Kept
     if !lawful {
         return Kept::Refused(Refusal::BlockType);
     }
-    if !wholeUnits {
+    if !whole_units {
         return Kept::Refused(Refusal::Pad);
     }
     if kind::is_pointer(kind) {

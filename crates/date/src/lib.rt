@@ -1,4 +1,6 @@
 // A date: eight decimal digits.
+#![tactic(auto)]
+
 ghost use Rattle.std.specs.Prelude.{◌≡◌};
 ghost use Rattle.date.specs.Date.{is_date};
 

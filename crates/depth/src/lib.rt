@@ -1,4 +1,6 @@
 // The depth of a file that is to be written.
+#![tactic(auto)]
+
 ghost use Rattle.std.specs.Prelude.{◌≡◌, ◌≤◌, ◌<◌};
 ghost use Rattle.bedrock.specs.Choice.{on};
 ghost use Rattle.kind.specs.Kind.{longest};

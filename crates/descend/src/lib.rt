@@ -1,5 +1,7 @@
 // What is below a block: the entries of a directory, and the scores of a pointer block, are visited in order while the allowance lasts.
 // The blocks lie in two runs of sectors that are read as one, as in `two_runs`.
+#![tactic(auto)]
+
 ghost use Rattle.std.specs.Prelude.{◌≡◌, ℕ, ◌+◌, ◌%◌, ◌≤◌, ◌<◌, length};
 ghost use Rattle.kind.specs.Kind.{longest};
 ghost use Rattle.block.specs.Block.{Inside};

@@ -1,4 +1,6 @@
 // What is below a block, as a definition, and its laws; what is done with a listed entry, the nest of its blocks, and which part is below one.
+#![tactic(auto)]
+
 ghost use Rattle.std.specs.Prelude.{◌≡◌, ◌≤◌};
 ghost use Rattle.descent.specs.Descent.{nest_of};
 ghost use Rattle.descent.specs.Parts.{judged_of, below_of};
@@ -8,7 +10,7 @@ use refusal::Refusal;
 use visit::End;
 
 // What is done with an entry of a directory block.
-#[derive(Drop)]
+#[derive(Clone, Copy)]
 pub enum Judged {
     // It is not visited: how it ends.
     Ends(End),
@@ -16,7 +18,7 @@ pub enum Judged {
 }
 
 // Which part is below a block.
-#[derive(Drop)]
+#[derive(Clone, Copy)]
 pub enum Below {
     // None: how the block ends.
     Ends(End),

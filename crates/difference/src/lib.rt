@@ -1,4 +1,6 @@
 // The first difference of two directory blocks: the entry, where it lies in the first or in the second.
+#![tactic(auto)]
+
 ghost use Rattle.std.specs.Prelude.{◌≡◌, ◌%◌, ◌^◌, ◌<◌, max, length};
 ghost use Rattle.difference.specs.Difference.{entry_at, active, side_of, block_allowed, difference_of, answer_of};
 ghost use Rattle.difference.specs.Handed.{part_of};
@@ -7,7 +9,7 @@ use kind::LONGEST;
 use refusal::Refusal;
 
 // Which of the two entries at a position is handed back: neither where there is no difference.
-#[derive(Drop)]
+#[derive(Clone, Copy)]
 pub enum Side {
     First,
     Second,
@@ -15,7 +17,7 @@ pub enum Side {
 }
 
 // Where two blocks first differ: at a byte of the first or of the second, or nowhere; or why they aren't compared.
-#[derive(Drop)]
+#[derive(Clone, Copy)]
 pub enum Difference {
     First { at: usize },
     Second { at: usize },

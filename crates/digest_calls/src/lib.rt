@@ -1,4 +1,6 @@
 // SHA-1 into a lent buffer.
+#![tactic(auto)]
+
 ghost use Rattle.std.specs.Prelude.{◌≡◌};
 ghost use Rattle.digest_calls.specs.Digest.{digest_number, digest_buffer};
 

@@ -1,4 +1,6 @@
 // Numbers as bytes, the highest first, of any width.
+#![tactic(auto)]
+
 ghost use Rattle.std.specs.Prelude.{◌≡◌, ◌≤◌, length};
 ghost use Rattle.digits.specs.Number.{be_bytes, be_number};
 

@@ -1,4 +1,6 @@
 // Why a block is missing: the end of the used part of a log and the sectors that wait behind it, and the first doubtful sector before it.
+#![tactic(auto)]
+
 ghost use Rattle.std.specs.Prelude.{◌≡◌, ◌≤◌, length};
 ghost use Rattle.block.specs.Log.{sectors, joined, used};
 ghost use Rattle.sector_log.specs.LookUp.{absence, first_doubtful};

@@ -1,4 +1,6 @@
 // Entries of directories, and roots.
+#![tactic(auto)]
+
 ghost use Rattle.std.specs.Prelude.{◌≡◌, ◌+◌, ◌*◌, ◌^◌, ◌≤◌, ◌<◌, leb, length, take, drop};
 ghost use Rattle.entry.specs.Entry.{entry_length, field, pad_of, entry_of, well_formed};
 ghost use Rattle.buffer.specs.Bytes.{zeros};
@@ -21,7 +23,7 @@ pub const ROOT_SCORE: usize = 258;
 pub const ROOT_SCORE_END: usize = 278;
 
 // An entry without its score, which stays where it is.
-#[derive(Drop)]
+#[derive(Clone, Copy)]
 pub struct Entry {
     pub active: bool,
     pub directory: bool,

@@ -1,4 +1,6 @@
 // The value of a query for a card, computed while the query is read.
+#![tactic(auto)]
+
 ghost use Rattle.std.specs.Prelude.{◌≡◌};
 ghost use Rattle.kleene.specs.Kleene.{and_of, or_of};
 ghost use Rattle.query.specs.Place.{words_from, next_is};
@@ -9,14 +11,14 @@ use kleene::Value;
 use refusal::Refusal;
 
 // What stands at a place of the text: its value and where the next word starts, or that no query goes on so.
-#[derive(Drop)]
+#[derive(Clone, Copy)]
 pub enum Read {
     Done { value: Value, next: usize },
     Ill,
 }
 
 // What a query says of a card, or why it was refused.
-#[derive(Drop)]
+#[derive(Clone, Copy)]
 pub enum Answer {
     Told(Value),
     Refused(Refusal),

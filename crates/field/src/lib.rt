@@ -1,4 +1,6 @@
 // Where a field of a message's body ends: a text, counted bytes, the five fields of a hello.
+#![tactic(auto)]
+
 ghost use Rattle.std.specs.Prelude.{◌≡◌, ◌≤◌, length};
 ghost use Rattle.field.specs.Field.{head_length, text_end, counted_end, hello_end};
 
@@ -6,7 +8,7 @@ ghost use Rattle.field.specs.Field.{head_length, text_end, counted_end, hello_en
 pub const HEAD: usize = 4;
 
 // Where a field of the body ends.
-#[derive(Drop)]
+#[derive(Clone, Copy)]
 pub enum Next {
     At(usize),
     Bad,

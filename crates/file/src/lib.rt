@@ -1,5 +1,7 @@
 // Reading a file through its hash tree: where the run of bytes at an offset lies, in the log, in the sectors that wait behind its used part, or in the
 // lent page of zeros.
+#![tactic(auto)]
+
 ghost use Rattle.std.specs.Prelude.{◌≡◌, ◌*◌, ◌<◌, length};
 ghost use Rattle.block.specs.Log.{addressable};
 ghost use Rattle.file.specs.File.{page_allowed, entry_readable, located, answer_of};
@@ -13,7 +15,7 @@ use sector::SECTOR;
 use sector_number::SectorNumber;
 
 // Where it lies in what is lent: at a byte of the log or of the waiting part, or at the front of the page; or why there is none.
-#[derive(Drop)]
+#[derive(Clone, Copy)]
 pub enum Located {
     Stored { at: usize, length: usize },
     Waiting { at: usize, length: usize },

@@ -1,4 +1,6 @@
 // The run of bytes of a file at an offset, as a part of the log, of the waiting part or of the lent page.
+#![tactic(auto)]
+
 ghost use Rattle.file.specs.File.{located};
 ghost use Rattle.file_read.specs.Run.{run_of};
 

@@ -1,4 +1,6 @@
 // Filling a lent buffer from a file: leaf by leaf, each leaf looked for once.
+#![tactic(auto)]
+
 ghost use Rattle.std.specs.Prelude.{◌≡◌, ◌-◌, ◌%◌, ◌≤◌, ◌<◌, min, length};
 ghost use Rattle.block.specs.Log.{sectors, joined};
 ghost use Rattle.leaf.specs.Fetch.{Open};
@@ -10,14 +12,14 @@ use refusal::Refusal;
 use sector_number::SectorNumber;
 
 // How filling a buffer ended: the buffer or the file is full, or the refusal at the first offset that has one.
-#[derive(Drop)]
+#[derive(Clone, Copy)]
 pub enum Stop {
     Done,
     Refused(Refusal),
 }
 
 // What filling a buffer answers: how many bytes are written to its front, and how it ended.
-#[derive(Drop)]
+#[derive(Clone, Copy)]
 pub struct Filled {
     pub count: usize,
     pub stop: Stop,

@@ -1,4 +1,6 @@
 // Reading a file into a lent buffer: the tests, then its leaves.
+#![tactic(auto)]
+
 ghost use Rattle.std.specs.Prelude.{◌≡◌};
 ghost use Rattle.fill.specs.Fill.{fill_outcome, fill_of};
 

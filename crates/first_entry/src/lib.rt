@@ -1,4 +1,6 @@
 // The first entry of a bucket that names a type and score.
+#![tactic(auto)]
+
 ghost use Rattle.std.specs.Prelude.{◌≡◌, length};
 ghost use Rattle.hint.specs.Tells.{tells};
 

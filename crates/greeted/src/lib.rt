@@ -1,4 +1,6 @@
 // A request in a greeted session, by what its message asks.
+#![tactic(auto)]
+
 ghost use Rattle.std.specs.Prelude.{◌≡◌, ◌≤◌, length};
 ghost use Rattle.sector_log.specs.Parts.{beside};
 ghost use Rattle.message.specs.Message.{head_length, tag_of, request_of};

@@ -1,8 +1,10 @@
 // Numbers and byte strings in lower-case hexadecimal.
+#![tactic(auto)]
+
 ghost use Rattle.std.specs.Prelude.{◌≡◌, ◌*◌, ◌<◌, ◌≤◌, true, length};
 ghost use Rattle.hexadecimal.specs.Hex.{digit_char, char_digit, hex, is_hex, read_hex, hex_bytes, read_bytes, reading, read_hex_bytes};
 
-#[derive(Drop)]
+#[derive(Clone, Copy)]
 pub enum Hex {
     Value(u64),
     Bad,

@@ -1,8 +1,10 @@
 // Look-up by index and rebuilding, as definitions, and what is promised of them, for any index and any log; nothing runs here.
+#![tactic(auto)]
+
 use refusal::Refusal;
 
 // What rebuilding the index answers.
-#[derive(Drop)]
+#[derive(Clone, Copy)]
 pub enum Rebuilding {
     Done,
     Refused(Refusal),

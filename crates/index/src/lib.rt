@@ -1,4 +1,6 @@
 // The index, a lent buffer of any bytes: an entry made in its bucket, and the buckets cleared.
+#![tactic(auto)]
+
 ghost use Rattle.std.specs.Prelude.{◌≡◌, ◌+◌, ◌-◌, ◌*◌, ◌≤◌, length, take};
 ghost use Rattle.buffer.specs.Bytes.{same};
 ghost use Rattle.index.specs.Index.{bucket_of, place_at, named, sector_at, entry_bytes, first_free, entered, cleared};
@@ -12,7 +14,7 @@ pub const ENTRY: usize = 25;
 pub const LAYER: usize = 6400;
 
 // The places of a bucket: from one on, up to another.
-#[derive(Drop)]
+#[derive(Clone, Copy)]
 pub struct Bucket {
     pub from: usize,
     pub to: usize,

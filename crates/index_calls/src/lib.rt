@@ -1,4 +1,6 @@
 // The index beside a log: look-up by it, and rebuilding, as numbers.
+#![tactic(auto)]
+
 ghost use Rattle.std.specs.Prelude.{◌≡◌};
 ghost use Rattle.hint.specs.Hint.{look_up_by_asked};
 ghost use Rattle.hint.specs.Rebuilt.{rebuilding_number, rebuilt_asked};

@@ -1,4 +1,6 @@
 // Look-up by index in a log and the sectors that wait behind its used part.
+#![tactic(auto)]
+
 ghost use Rattle.std.specs.Prelude.{◌≡◌, ◌+◌, ◌*◌, ◌≤◌, length};
 ghost use Rattle.block.specs.Log.{sectors, joined};
 ghost use Rattle.sector_log.specs.LookUp.{counted};

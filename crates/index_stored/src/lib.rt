@@ -1,4 +1,6 @@
 // A stored block entered into the index.
+#![tactic(auto)]
+
 ghost use Rattle.std.specs.Prelude.{◌≡◌, length};
 ghost use Rattle.indexed.specs.Indexed.{entered_by};
 

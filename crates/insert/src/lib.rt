@@ -1,4 +1,6 @@
 // A new block: the room for it asked for, and then appended.
+#![tactic(auto)]
+
 ghost use Rattle.std.specs.Prelude.{◌≡◌, ◌≤◌, ◌<◌, length};
 ghost use Rattle.buffer.specs.Bytes.{Bytes};
 ghost use Rattle.sha1_digest.specs.Sha1.{sha1_of};

@@ -1,4 +1,6 @@
 // Block types, the turning of the enumeration into them, and the zero score.
+#![tactic(auto)]
+
 ghost use Rattle.std.specs.Prelude.{◌≡◌};
 ghost use Rattle.buffer.specs.Bytes.{same};
 ghost use Rattle.kind.specs.Kind.{lawful, is_pointer, zero_score, wire_type};
@@ -8,7 +10,7 @@ use refusal::Refusal;
 // The most bytes that a block has.
 pub const LONGEST: usize = 57344;
 
-#[derive(Drop)]
+#[derive(Clone, Copy)]
 pub enum Wire {
     Type(u8),
     Refused(Refusal),

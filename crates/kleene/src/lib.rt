@@ -1,8 +1,10 @@
 // Three values, yes, no and not known, and the strong Kleene tables.
+#![tactic(auto)]
+
 ghost use Rattle.std.specs.Prelude.{◌≡◌};
 ghost use Rattle.kleene.specs.Kleene.{not_of, and_of, or_of};
 
-#[derive(Drop)]
+#[derive(Clone, Copy)]
 pub enum Value {
     Yes,
     No,

@@ -1,15 +1,17 @@
 // What a server knows of a log, its waiting part and its index from the last request, as definitions, and what is promised of it; nothing runs here.
+#![tactic(auto)]
+
 use sector_number::SectorNumber;
 
 // The first doubtful sector, or that there is none.
-#[derive(Drop)]
+#[derive(Clone, Copy)]
 pub enum Doubt {
     Clear,
     At(SectorNumber),
 }
 
 // How many sectors of the log and of the waiting part are used, what is doubtful in both, and whether the index leads to every sound block.
-#[derive(Drop)]
+#[derive(Clone, Copy)]
 pub struct Known {
     pub used: SectorNumber,
     pub waits: SectorNumber,

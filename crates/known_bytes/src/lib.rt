@@ -1,4 +1,6 @@
 // What is known, as 25 bytes: read and written.
+#![tactic(auto)]
+
 ghost use Rattle.std.specs.Prelude.{◌≡◌, ◌+◌, ◌≤◌, length, take, drop};
 ghost use Rattle.word.specs.Number.{be_bytes, be_number};
 ghost use Rattle.buffer.specs.Bytes.{put};

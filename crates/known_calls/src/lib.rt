@@ -1,4 +1,6 @@
 // What is known, lent as bytes: learning it, and one request by it, as numbers.
+#![tactic(auto)]
+
 ghost use Rattle.std.specs.Prelude.{◌≡◌};
 ghost use Rattle.known_calls.specs.Calls.{after_learn, learn_asked, served_known, serve_asked};
 

@@ -1,4 +1,6 @@
 // A read message, by what is known.
+#![tactic(auto)]
+
 ghost use Rattle.std.specs.Prelude.{◌≡◌, true, ◌≤◌, length};
 ghost use Rattle.known.specs.Known.{belongs};
 ghost use Rattle.message.specs.Message.{tag_of, score_of, request_of};

@@ -1,4 +1,6 @@
 // Look-up, store and sync by what is known: nobody looks for the end of the used part, nor scans where the index leads to every sound block.
+#![tactic(auto)]
+
 ghost use Rattle.std.specs.Prelude.{◌≡◌, true, cond, ◌&&◌, ◌+◌, ◌^◌, ◌≤◌, ◌<◌, length};
 ghost use Rattle.kind.specs.Kind.{longest};
 ghost use Rattle.block.specs.Log.{sectors};

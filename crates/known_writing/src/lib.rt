@@ -1,4 +1,6 @@
 // A write and a sync, by what is known.
+#![tactic(auto)]
+
 ghost use Rattle.std.specs.Prelude.{◌≡◌, true, ◌≤◌, length};
 ghost use Rattle.buffer.specs.Bytes.{Bytes};
 ghost use Rattle.kind.specs.Kind.{longest};

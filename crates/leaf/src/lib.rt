@@ -1,4 +1,6 @@
 // The run of bytes in the leaf of an offset.
+#![tactic(auto)]
+
 ghost use Rattle.std.specs.Prelude.{◌≡◌, ◌^◌, ◌<◌};
 ghost use Rattle.block.specs.Block.{Inside};
 ghost use Rattle.block.specs.Log.{addressable};
@@ -13,7 +15,7 @@ use refusal::Refusal;
 use sector::SECTOR;
 
 // Where the run at an offset lies in one log of bytes: at a byte of it, or at the front of the page; or why there is none.
-#[derive(Drop)]
+#[derive(Clone, Copy)]
 pub enum Extent {
     Stored { at: usize, length: usize },
     Zeros { length: usize },

@@ -1,4 +1,6 @@
 // What is known of a log, its waiting part and an index, learned from their bytes.
+#![tactic(auto)]
+
 ghost use Rattle.std.specs.Prelude.{◌≡◌, ◌≤◌, length};
 ghost use Rattle.block.specs.Log.{sectors, joined};
 ghost use Rattle.known.specs.Known.{doubt_of, learned};

@@ -1,4 +1,6 @@
 // The lengths that a log and a waiting part may have.
+#![tactic(auto)]
+
 ghost use Rattle.std.specs.Prelude.{◌≡◌};
 ghost use Rattle.sector_log.specs.LookUp.{log_allowed, lent_allowed};
 

@@ -1,4 +1,6 @@
 // Look-up of a score and type by scan, in a log and the sectors that wait behind its used part, read as one log.
+#![tactic(auto)]
+
 ghost use Rattle.std.specs.Prelude.{◌≡◌, ◌≤◌, length};
 ghost use Rattle.block.specs.Log.{sectors, Alike, joined};
 ghost use Rattle.sector_log.specs.Parts.{tape};

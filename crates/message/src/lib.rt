@@ -1,4 +1,6 @@
 // Requests taken apart, and replies as a definition.
+#![tactic(auto)]
+
 ghost use Rattle.std.specs.Prelude.{◌≡◌, [], ◌∷◌, ◌≤◌, length};
 ghost use Rattle.buffer.specs.Bytes.{same};
 ghost use Rattle.message.specs.Message.{head_length, framed, tag_of, exactly, score_of, read_of, data_of, write_of, request_of, version_of};
@@ -25,7 +27,7 @@ pub const WRITE_REPLY: u8 = 15;
 pub const SYNC_REPLY: u8 = 17;
 
 // What a message asks. The version of a hello, the score of a read and the data of a write stay where they are in the message.
-#[derive(Drop)]
+#[derive(Clone, Copy)]
 pub enum Request {
     Ping,
     Hello,

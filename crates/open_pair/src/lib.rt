@@ -1,5 +1,7 @@
 // A pair of blocks opened: the tests before it, then both are looked up. The blocks lie in two runs of sectors that are read as one, as in
 // `two_runs`.
+#![tactic(auto)]
+
 ghost use Rattle.std.specs.Prelude.{◌≡◌, ◌+◌, ◌≤◌, length};
 ghost use Rattle.block.specs.Log.{sectors, joined};
 ghost use Rattle.walk.specs.Walk.{most_allowance};
@@ -15,7 +17,7 @@ use sector_number::SectorNumber;
 use visit::End;
 
 // What opening a pair gives: what the comparison of the pair is, or where its two blocks are.
-#[derive(Drop)]
+#[derive(Clone, Copy)]
 pub enum Pair {
     Ended(Compared),
     Both(Block, Block),

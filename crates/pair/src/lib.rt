@@ -1,4 +1,6 @@
 // One block of a pair that is opened.
+#![tactic(auto)]
+
 ghost use Rattle.std.specs.Prelude.{◌≡◌, ◌≤◌, length};
 ghost use Rattle.block.specs.Log.{sectors, joined};
 ghost use Rattle.pair.specs.Opened.{place_at};

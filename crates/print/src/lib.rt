@@ -1,4 +1,6 @@
 // The text of a report: numbers in decimal, lines, the verdict.
+#![tactic(auto)]
+
 ghost use Rattle.std.specs.Prelude.{◌≡◌, ◌+◌, ◌≤◌, length};
 ghost use Rattle.buffer.specs.Bytes.{put};
 ghost use Rattle.sector.specs.Sector.{line};

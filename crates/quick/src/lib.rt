@@ -1,4 +1,6 @@
 // One request by what is known of the log, its waiting part and its index. Any bytes are answered, and anything may be said to be known.
+#![tactic(auto)]
+
 ghost use Rattle.std.specs.Prelude.{◌≡◌, true, length};
 ghost use Rattle.std.proofs.Math.Option.{some};
 ghost use Rattle.sector_log.specs.Parts.{beside};

@@ -1,4 +1,6 @@
 // One request by what is known, lent as bytes.
+#![tactic(auto)]
+
 ghost use Rattle.std.specs.Prelude.{◌≡◌, length};
 ghost use Rattle.indexed.specs.Indexed.{indexed_of};
 ghost use Rattle.known_request.specs.Quick.{step_known};

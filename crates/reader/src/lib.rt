@@ -1,5 +1,7 @@
 // Whether the block that starts at a sector is sound. It is read from two runs of sectors: the first `end` sectors of a log and the sectors that wait
 // behind them, read as one. They are any bytes: nothing assumes that the archive wrote them.
+#![tactic(auto)]
+
 ghost use Rattle.std.specs.Prelude.{◌≡◌, ◌+◌, ◌≤◌, ◌<◌, length};
 ghost use Rattle.sector.specs.Sector.{front_of, date_field};
 ghost use Rattle.block.specs.Log.{sectors, at, joined, sound_as, sound};
@@ -13,7 +15,7 @@ use sector_number::SectorNumber;
 pub use two_runs::{sector_at, used_part};
 
 // Where a block stands, if one does.
-#[derive(Drop)]
+#[derive(Clone, Copy)]
 pub enum Place {
     At(Block),
     Nowhere,

@@ -1,4 +1,6 @@
 // A read message, by index.
+#![tactic(auto)]
+
 ghost use Rattle.std.specs.Prelude.{◌≡◌, ◌≤◌, length};
 ghost use Rattle.buffer.specs.Bytes.{Bytes};
 ghost use Rattle.kind.specs.Kind.{longest};

@@ -1,4 +1,6 @@
 // The index rebuilt from a log: one pass over its sectors.
+#![tactic(auto)]
+
 ghost use Rattle.std.specs.Prelude.{◌≡◌, true, ◌<◌, length};
 ghost use Rattle.word.specs.Hex.{is_hex, hex_value};
 ghost use Rattle.sector.specs.Sector.{behind, kind_field, score_digits, score_field, sector_length, kind_digits, kind_width};

@@ -1,10 +1,12 @@
 // The reasons for which a call is refused, and the number of each.
+#![tactic(auto)]
+
 ghost use Rattle.std.specs.Prelude.{◌≡◌};
 ghost use Rattle.refusal.specs.Number.{number_of, doubt_of, told_sector};
 
 use sector_number::SectorNumber;
 
-#[derive(Drop)]
+#[derive(Clone, Copy)]
 pub enum Refusal {
     // Fewer than 4 bytes, or a size that isn't the count of bytes after it.
     Frame,
@@ -61,7 +63,7 @@ pub enum Refusal {
 }
 
 // Where the doubt is that a refusal tells of: the first doubtful sector for 12, and nowhere for all others.
-#[derive(Drop)]
+#[derive(Clone, Copy)]
 pub enum Doubt {
     At(SectorNumber),
     Nowhere,

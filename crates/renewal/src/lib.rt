@@ -1,4 +1,6 @@
 // What is known, learned anew where it cannot belong.
+#![tactic(auto)]
+
 ghost use Rattle.std.specs.Prelude.{◌≡◌, true, length};
 ghost use Rattle.known.specs.Known.{belongs};
 ghost use Rattle.known_request.specs.Quick.{renewed};

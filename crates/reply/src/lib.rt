@@ -1,4 +1,6 @@
 // Replies put together.
+#![tactic(auto)]
+
 ghost use Rattle.std.specs.Prelude.{◌≡◌, [], ◌∷◌, ◌++◌, ◌+◌, ◌≤◌, length};
 ghost use Rattle.buffer.specs.Bytes.{put};
 ghost use Rattle.word.specs.Number.{be_bytes};

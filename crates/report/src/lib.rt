@@ -1,4 +1,6 @@
 // The report of a log: its sectors, used part, sound blocks and doubtful sectors, counted and printed.
+#![tactic(auto)]
+
 ghost use Rattle.std.specs.Prelude.{◌≡◌};
 ghost use Rattle.report.specs.Report.{report_outcome, report_of};
 
@@ -6,7 +8,7 @@ use refusal::Refusal;
 use sector::SECTOR;
 
 // How many bytes of the lent buffer the report fills, or why there is none.
-#[derive(Drop)]
+#[derive(Clone, Copy)]
 pub enum Reported {
     Written(usize),
     Refused(Refusal),

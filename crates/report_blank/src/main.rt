@@ -1,4 +1,6 @@
 // Prints the report of a blank log of two sectors.
+#![tactic(auto)]
+
 use report::Reported;
 
 fn main() {

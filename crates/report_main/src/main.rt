@@ -1,4 +1,6 @@
 // Prints the report of the log on standard input, of at most 127 sectors.
+#![tactic(auto)]
+
 ghost use Rattle.std.specs.Prelude.{◌≡◌, ◌≤◌, length};
 ghost use Rattle.buffer.specs.Bytes.{put};
 ghost use Rattle.report_main.specs.Printed.{why, printed};

@@ -1,7 +1,9 @@
 // One request, as a definition: what is answered to a message, by the session and by what is lent as a log. Nothing runs here.
 
 // A session: open with no hello yet, greeted, or closed.
-#[derive(Drop)]
+#![tactic(auto)]
+
+#[derive(Clone, Copy)]
 pub enum Session {
     Fresh,
     Greeted,
@@ -9,7 +11,7 @@ pub enum Session {
 }
 
 // The number of the refusal, 0 for none, and the session afterwards.
-#[derive(Drop)]
+#[derive(Clone, Copy)]
 pub struct Answer {
     pub number: u8,
     pub session: Session,

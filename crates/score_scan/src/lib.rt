@@ -1,4 +1,6 @@
 // The first sound block of a score and type, by scan of a log and the sectors that wait behind its used part.
+#![tactic(auto)]
+
 ghost use Rattle.std.specs.Prelude.{◌≡◌, ◌≤◌, length};
 ghost use Rattle.block.specs.Log.{sectors, joined};
 ghost use Rattle.sector_log.specs.LookUp.{blocks, first_of, held};

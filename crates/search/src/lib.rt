@@ -1,4 +1,6 @@
 // The card search: a query asked of the card that an entry leads to.
+#![tactic(auto)]
+
 ghost use Rattle.std.specs.Prelude.{◌≡◌, true, ◌≤◌, length};
 ghost use Rattle.sector_log.specs.LookUp.{lent_allowed};
 ghost use Rattle.entry.specs.Entry.{entry_of};

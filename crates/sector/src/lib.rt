@@ -1,4 +1,6 @@
 // One sector of the log: where its parts stand, and whether it begins with the line of a date.
+#![tactic(auto)]
+
 ghost use Rattle.std.specs.Prelude.{◌≡◌, ◌≤◌, length};
 ghost use Rattle.sector.specs.Sector.{front_of, date_field, front_length};
 
@@ -7,7 +9,7 @@ use sector_number::SectorNumber;
 
 // What the label of a sector says beside the score: the sector where the block starts, which part this is and of how many,
 // the block's type, and the bytes in the block.
-#[derive(Drop)]
+#[derive(Clone, Copy)]
 pub struct Label {
     pub first: SectorNumber,
     pub part: usize,

@@ -1,4 +1,6 @@
 // The lines of a sector: label and check, written and tested; a whole sector written.
+#![tactic(auto)]
+
 ghost use Rattle.std.specs.Prelude.{◌≡◌, ◌++◌, ◌+◌, ◌≤◌, length, take};
 ghost use Rattle.buffer.specs.Bytes.{same, put};
 ghost use Rattle.word.specs.Hex.{hex, hex_bytes};

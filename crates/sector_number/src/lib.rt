@@ -1,5 +1,7 @@
 // The number of a sector.
 
 // The number of a sector of the log, so that it can't be mixed with byte offsets or part numbers.
-#[derive(Drop)]
+#![tactic(auto)]
+
+#[derive(Clone, Copy)]
 pub struct SectorNumber(pub usize);

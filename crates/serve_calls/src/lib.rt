@@ -1,4 +1,6 @@
 // One request, its session and its outcome as numbers.
+#![tactic(auto)]
+
 ghost use Rattle.std.specs.Prelude.{◌≡◌};
 ghost use Rattle.std.proofs.Math.Option.{some};
 ghost use Rattle.sector_log.specs.Parts.{beside};

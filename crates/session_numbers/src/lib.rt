@@ -1,4 +1,6 @@
 // A session, and a request's answer, as numbers.
+#![tactic(auto)]
+
 ghost use Rattle.std.specs.Prelude.{◌≡◌, ◌+◌, ◌*◌};
 ghost use Rattle.results.specs.Serve.{session_of, session_number};
 

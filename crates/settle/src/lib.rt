@@ -1,4 +1,6 @@
 // Settling: what waits behind a log is moved into it.
+#![tactic(auto)]
+
 ghost use Rattle.std.specs.Prelude.{◌≡◌, cond, ◌+◌, ◌≤◌, leb, length};
 ghost use Rattle.block.specs.Log.{sectors};
 ghost use Rattle.sector_log.specs.Parts.{beside, can_settle};

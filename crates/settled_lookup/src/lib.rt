@@ -1,4 +1,6 @@
 // A block among the log's own sectors, found without a look at those that wait.
+#![tactic(auto)]
+
 ghost use Rattle.std.specs.Prelude.{◌≡◌, length};
 ghost use Rattle.block.specs.declared.Block.{Block};
 ghost use Rattle.reader.specs.declared.Place.TheVariants.{At};

@@ -1,4 +1,6 @@
 // One block of SHA-1 (FIPS 180-4): the hash value after a block, by its message schedule and eighty rounds.
+#![tactic(auto)]
+
 ghost use Rattle.std.specs.Prelude.{◌≡◌, List, ℕ, ◌+◌, ◌-◌, ◌*◌, ◌%◌, ◌<◌, ◌≤◌, length};
 ghost use Rattle.sha1_schedule.specs.Schedule.{schedule_of};
 ghost use Rattle.sha1_schedule.specs.Ring.{Ring};
@@ -6,7 +8,7 @@ ghost use Rattle.sha1_block.specs.Block.{initial, round_of, rounds_of, add_hash,
 ghost use Rattle.sha1_block.specs.Rounds.{RoundsDone};
 
 // The five words of a hash value, and of the working variables.
-#[derive(Drop)]
+#[derive(Clone, Copy)]
 pub struct Hash {
     pub a: u32,
     pub b: u32,

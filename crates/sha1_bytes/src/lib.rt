@@ -1,4 +1,6 @@
 // The numbers of SHA-1 as bytes: a message's length in bits, and the words of a digest.
+#![tactic(auto)]
+
 ghost use Rattle.std.specs.Prelude.{◌≡◌, ◌*◌, ◌<◌};
 ghost use Rattle.std.proofs.lemmas.List.Edits.{sets};
 ghost use Rattle.word.specs.Number.{be_bytes};

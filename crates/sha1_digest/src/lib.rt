@@ -1,4 +1,6 @@
 // SHA-1 (FIPS 180-4): of a message at once, and of one that comes in pieces.
+#![tactic(auto)]
+
 ghost use Rattle.std.specs.Prelude.{◌≡◌, List, [], ◌++◌, ℕ, min};
 ghost use Rattle.sha1_digest.specs.Sha1.{digest_of, sha1_of};
 ghost use Rattle.sha1_digest.specs.Stream.{Holds};
@@ -7,7 +9,7 @@ use sha1_block::Hash;
 
 // A message that is being taken in: the hash value of its whole blocks, the bytes after them in a
 // block, and its length.
-#[derive(Drop)]
+#[derive(Clone, Copy)]
 pub struct Stream {
     h: Hash,
     buf: [u8; 64],

@@ -1,4 +1,6 @@
 // The functions and the constants of the rounds of SHA-1 (FIPS 180-4).
+#![tactic(auto)]
+
 ghost use Rattle.std.specs.Prelude.{◌≡◌};
 ghost use Rattle.sha1_functions.specs.Functions.{ch_of, parity_of, maj_of, f_of, k_of};
 

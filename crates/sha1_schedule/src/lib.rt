@@ -1,4 +1,6 @@
 // The message schedule of a block of SHA-1 (FIPS 180-4): its first sixteen words, and each later one in a ring of sixteen.
+#![tactic(auto)]
+
 ghost use Rattle.std.specs.Prelude.{◌≡◌, List, ℕ, ◌-◌, ◌<◌, ◌≤◌, length, get_or};
 ghost use Rattle.sha1_schedule.specs.Schedule.{word_at, words_of, schedule_of};
 ghost use Rattle.sha1_schedule.specs.Ring.{Ring};

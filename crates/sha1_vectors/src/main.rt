@@ -1,4 +1,6 @@
 // Prints digests that FIPS 180-4's examples and other implementations of SHA-1 give too.
+#![tactic(auto)]
+
 ghost use Rattle.std.specs.Prelude.{◌<◌, ◌≤◌};
 
 fn wide(x: u8) -> u64 {

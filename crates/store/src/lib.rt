@@ -1,5 +1,7 @@
 // Storing a block: at most one is appended, right after the used part of the log and of what waits behind it, and nothing else is
 // written.
+#![tactic(auto)]
+
 ghost use Rattle.std.specs.Prelude.{◌≡◌, ◌+◌, ◌≤◌, length};
 ghost use Rattle.sha1_digest.specs.Sha1.{sha1_of};
 ghost use Rattle.kind.specs.Kind.{longest};

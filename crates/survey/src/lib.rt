@@ -1,4 +1,6 @@
 // The survey of a log: its sound blocks and doubtful sectors, counted.
+#![tactic(auto)]
+
 ghost use Rattle.std.specs.Prelude.{◌≡◌};
 ghost use Rattle.block.specs.Log.{used};
 ghost use Rattle.survey.specs.Survey.{survey_of};
@@ -8,7 +10,7 @@ use sector::SECTOR;
 use sector_number::SectorNumber;
 
 // The sound blocks of a log and its doubtful sectors, counted.
-#[derive(Drop)]
+#[derive(Clone, Copy)]
 pub struct Survey {
     pub records: usize,
     pub doubtful: usize,

@@ -1,4 +1,6 @@
 // What a log holds: its report, and the sound block at a sector.
+#![tactic(auto)]
+
 ghost use Rattle.std.specs.Prelude.{◌≡◌, ◌≤◌};
 ghost use Rattle.report.specs.Report.{report_of};
 ghost use Rattle.results.specs.Survey.{text_length, report_number, reported, report_result, sound_result};

@@ -1,4 +1,6 @@
 // A sync message.
+#![tactic(auto)]
+
 ghost use Rattle.std.specs.Prelude.{◌≡◌, ◌≤◌, length};
 ghost use Rattle.sector_log.specs.Parts.{beside};
 ghost use Rattle.request.specs.Step.{reply_room, outcome_of, sync};

@@ -1,5 +1,7 @@
 // What reading a file and walking share: parts of a block copied out, the scores of a pointer block, an entry's blocks by their level.
 // A block lies in two runs of sectors that are read as one, as in `two_runs`.
+#![tactic(auto)]
+
 ghost use Rattle.std.specs.Prelude.{◌≡◌, ◌+◌, ◌-◌, ◌%◌, ◌^◌, ◌≤◌, ◌<◌, min, length, take, drop};
 ghost use Rattle.sector.specs.Sector.{payload_of, filled};
 ghost use Rattle.block.specs.Block.{Inside};

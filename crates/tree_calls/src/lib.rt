@@ -1,5 +1,7 @@
 // Trees: the run of a file's bytes at an offset, and a buffer filled with a file's bytes. Each is of a log and of the sectors that wait
 // behind its used part.
+#![tactic(auto)]
+
 ghost use Rattle.std.specs.Prelude.{◌≡◌, ◌≤◌};
 ghost use Rattle.file.specs.File.{located};
 ghost use Rattle.fill.specs.Fill.{fill_of};

@@ -1,4 +1,6 @@
 // Builds small trees in a log, reads and walks them, and prints a line for each answer.
+#![tactic(auto)]
+
 ghost use Rattle.std.specs.Prelude.{◌≡◌, ◌+◌, ◌*◌, ◌≤◌, ◌<◌, length};
 
 use file::Located;

@@ -1,4 +1,6 @@
 // Sectors of two runs: the first `end` sectors of a log and the sectors that wait behind them, read as one; and the end of a run's used part.
+#![tactic(auto)]
+
 ghost use Rattle.std.specs.Prelude.{◌≡◌, ◌+◌, ◌≤◌, ◌<◌, length};
 ghost use Rattle.block.specs.Log.{sectors, at, joined, used};
 

@@ -1,10 +1,12 @@
 // Whether bytes are well-formed UTF-8, in one pass.
+#![tactic(auto)]
+
 ghost use Rattle.std.specs.Prelude.{◌≡◌, []};
 ghost use Rattle.utf8.specs.Grammar.{well_formed_text};
 ghost use Rattle.utf8.specs.Scan.{low_after, high_after, wait, due, Tells};
 
 // What is due of a character: `left` bytes, the next one from `low` to `high`, those after it from 80 to BF.
-#[derive(Drop)]
+#[derive(Clone, Copy)]
 pub struct Due {
     left: u8,
     low: u8,
@@ -12,7 +14,7 @@ pub struct Due {
 }
 
 // What is due after a byte, or that no text goes on so.
-#[derive(Drop)]
+#[derive(Clone, Copy)]
 pub enum After {
     Wait(Due),
     Ill,

@@ -1,4 +1,6 @@
 // Two entries at one position of two directory blocks: what is done with them.
+#![tactic(auto)]
+
 ghost use Rattle.std.specs.Prelude.{◌≡◌, cond, length};
 ghost use Rattle.entry.specs.Entry.{well_formed};
 ghost use Rattle.verdict.specs.declared.Verdict.TheVariants as verdicts;
@@ -7,7 +9,7 @@ ghost use Rattle.verdict.specs.Verdict.{same_shape, verdict_of, verdict};
 use entry::Entry;
 
 // What is done with two entries.
-#[derive(Drop)]
+#[derive(Clone, Copy)]
 pub enum Verdict {
     // They are equal, or both inactive.
     Skip,

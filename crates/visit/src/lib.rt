@@ -1,4 +1,6 @@
 // One visit of a walk: a block looked up, and what is read of it, in two runs of sectors that are read as one, as in `two_runs`.
+#![tactic(auto)]
+
 ghost use Rattle.std.specs.Prelude.{◌≡◌, ◌+◌, ◌*◌, ◌≤◌, ◌<◌, ◌^◌, length, drop};
 ghost use Rattle.sector.specs.Sector.{filled};
 ghost use Rattle.block.specs.Block.{Inside};
@@ -14,21 +16,21 @@ use refusal::Refusal;
 use sector_number::SectorNumber;
 
 // How a walk ended.
-#[derive(Drop)]
+#[derive(Clone, Copy)]
 pub enum End {
     Done,
     Refused(Refusal),
 }
 
 // What a walk answers: the visits spent, and how it ended.
-#[derive(Drop)]
+#[derive(Clone, Copy)]
 pub struct Walked {
     pub visits: usize,
     pub end: End,
 }
 
 // What a visit meets: the visits spent on it, one or none, and the block or the reason why there is none.
-#[derive(Drop)]
+#[derive(Clone, Copy)]
 pub struct Met {
     pub spent: usize,
     pub look: Look,

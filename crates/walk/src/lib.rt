@@ -1,4 +1,6 @@
 // Walking from a root score: every block below it is visited, in order, while the allowance lasts.
+#![tactic(auto)]
+
 ghost use Rattle.std.specs.Prelude.{◌≡◌, ◌≤◌, length};
 ghost use Rattle.block.specs.Log.{sectors, joined};
 ghost use Rattle.visit.specs.Visit.{end_number};

@@ -1,4 +1,6 @@
 // The walk from a root, of a log and of the sectors that wait behind its used part; where a walk, a copy or a comparison ended.
+#![tactic(auto)]
+
 ghost use Rattle.std.specs.Prelude.{◌≡◌};
 ghost use Rattle.walk.specs.Walk.{walk_of};
 ghost use Rattle.results.specs.Tree.{end_sector, walk_result};

@@ -1,4 +1,6 @@
 // The way down to the leaf of an offset, through the pointer blocks.
+#![tactic(auto)]
+
 ghost use Rattle.std.specs.Prelude.{◌≡◌, ℕ, ◌+◌, ◌/◌, ◌%◌, ◌^◌, ◌≤◌, ◌<◌, length};
 ghost use Rattle.block.specs.Log.{sectors, joined};
 ghost use Rattle.leaf.specs.Leaf.{under};

@@ -1,4 +1,6 @@
 // 32-bit words as FIPS 180-4 uses them, and numbers as bytes and as hexadecimal.
+#![tactic(auto)]
+
 pub mod hex;
 pub mod number;
 

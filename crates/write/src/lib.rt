@@ -1,4 +1,6 @@
 // Writing a file: a slice cut into leaves, pointer blocks over their scores, each block stored as a write of it would be, and the entry over them.
+#![tactic(auto)]
+
 ghost use Rattle.std.specs.Prelude.{◌≡◌, true, ◌+◌, ◌*◌, ◌/◌, ◌%◌, ◌≤◌, ◌<◌, min, length, take};
 ghost use Rattle.buffer.specs.Bytes.{put};
 ghost use Rattle.kind.specs.Kind.{lawful, is_pointer, longest};

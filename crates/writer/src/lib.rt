@@ -1,8 +1,10 @@
 // The writer of files, as definitions: the blocks of a slice, the least depth, storing them one after the other, the tests and the entry; their laws. Nothing runs here.
+#![tactic(auto)]
+
 use refusal::Refusal;
 
 // How writing a file ended: all of its blocks are stored, or the refusal.
-#[derive(Drop)]
+#[derive(Clone, Copy)]
 pub enum End {
     Done,
     Refused(Refusal),

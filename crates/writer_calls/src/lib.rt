@@ -1,4 +1,6 @@
 // A file written, its outcome as numbers and byte strings.
+#![tactic(auto)]
+
 ghost use Rattle.std.specs.Prelude.{◌≡◌};
 ghost use Rattle.sector_log.specs.Parts.{beside};
 ghost use Rattle.writer.specs.WriteFile.{end_number, write_file};

@@ -1,4 +1,6 @@
 // A write message: tests 9 and 10, then the store.
+#![tactic(auto)]
+
 ghost use Rattle.std.specs.Prelude.{◌≡◌, ◌≤◌, length};
 ghost use Rattle.sector_log.specs.Parts.{beside};
 ghost use Rattle.message.specs.Message.{tag_of, data_of, request_of};

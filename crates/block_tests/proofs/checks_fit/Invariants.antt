@@ -1,0 +1,17 @@
+use mathlib.Core.Path.{◌≡◌, refl, sym, ap, ◌∙◌}
+use Prim.Native.Nat.{ℕ, ◌+◌, ◌-◌, ◌≤◌}
+use native.Mathlib.Omega.{arith}
+use borrow.Author.Tests.{not-true, not-false}
+use lib.ListN.{length}
+use Rattle.sector.specs.Sector.{fits}
+use Rattle.block.specs.Log.{joined, at, checked}
+use Rattle.block.proofs.At.{length_at}
+use Rattle.block_tests.proofs.Turns.{all_turn, all-stop, all_end}
+use Rattle.block_tests.proofs.checks_fit.Given as goal
+
+-- `block_tests::checks_fit` meets its contract: the test of the sectors that are left is that of all.
+abbrev pub invariant-loop-n : goal.invariant-loop-n
+invariant-loop-n l = (l.initial.n ≤ l.n) × (l.n ≤ l.last) × (checked (joined l.end.0 l.log l.waiting) (l.last - l.n) l.n ≡ checked (joined l.end.0 l.log l.waiting) l.count l.initial.n)
+
+abbrev pub decreases-loop-n : goal.decreases-loop-n
+decreases-loop-n l = l.last - l.n

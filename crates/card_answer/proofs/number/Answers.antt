@@ -1,0 +1,8 @@
+use mathlib.Core.Path.{sym, ap, ◌∙◌}
+use Rattle.card_answer.specs.CardAnswer.{answer_number}
+use Rattle.card_answer.proofs.number.Goals as goal
+
+pub returns-in-Refused : goal.returns-in-Refused
+returns-in-Refused c =
+    let number = c.number in
+    number.ensures ∙ sym (ap answer_number c.in-Refused.is)

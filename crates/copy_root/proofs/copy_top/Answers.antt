@@ -1,0 +1,42 @@
+use Prim.Native.Nat.{◌+◌, ◌<◌, ◌^◌}
+use native.Mathlib.Omega.{arith}
+use Rattle.kind.specs.Kind.{longest}
+use Rattle.block.specs.Log.{joined}
+use Rattle.visit.proofs.Visits.{Known, found-known, in_both}
+use Rattle.copy_root.proofs.FromRoot.{top-refused, top_kept}
+use Rattle.copy_root.proofs.copy_top.Goals as goal
+
+-- what is known of the block that was found
+found : (c : tie.After-look)
+    → let a = (start c.before.before).args in
+    Known (joined a.end.0 a.log.now a.waiting.now) 1 a.left 2 longest a.score.now c.look.given.0.0 c.before.before.visit.result.spent
+found c = found-known _ _ _ _ _ _ _ c.before.before.visit.ensures _ c.look.given.1
+
+pub returns-in_default : goal.returns-in_default
+returns-in_default c =
+    let a = c.args in
+    top-refused (joined a.end.0 a.log.now a.waiting.now) a.date.now a.score.now a.left a.second.now _ c.visit-m.ensures _ c.in_default.is _
+    c.answer.ensures -- TODO clauses ['within', 'exact']
+
+pub overflow_sub-left : goal.overflow_sub-left
+overflow_sub-left c = omega (arith, (found TODO.c.before.before).some_left)
+
+pub copy_directory-below-requires : goal.copy_directory-below-requires
+copy_directory-below-requires c =
+    let a = c.args in
+    (TODO.f.pre.0, in_both a.end.0 a.log.now a.waiting.now TODO.f.pre.0 _ (found TODO.k).in_log, (found TODO.k).not_many, omega arith, TODO.f.pre.2)
+
+pub keep-requires : goal.keep-requires
+keep-requires c =
+    let w = c.copy_directory-below in
+    let a = c.args in
+    let h : w.result.visits + 1 < 2 ^ 64 = omega (arith, (found TODO.k).some_left, w.ensures.0, TODO.f.fits.left) in
+    (TODO.f.pre.0, in_both a.end.0 a.log.now a.waiting.now TODO.f.pre.0 _ (found TODO.k).in_log, (found TODO.k).not_many, TODO.f.pre.2, h)
+
+pub returns : goal.returns
+returns c = let copy-directory = c.copy_directory-below in
+    let w = copy-directory in
+    let a = c.args in
+    let q = c.keep.ensures in
+    top_kept (joined a.end.0 a.log.now a.waiting.now) a.date.now a.score.now a.left a.second.now _ c.visit-m.ensures _ c.in-Found.is _ _ w.ensures _ _ q.0
+    q.1 -- TODO clauses ['within', 'exact']

@@ -1,0 +1,14 @@
+use mathlib.Core.Path.{sym, ◌∙◌}
+use borrow.Author.Tests.{not-true, not-false}
+use Rattle.cut.proofs.Tests.{whole-scores, whole-bytes}
+use Rattle.cut.proofs.is_whole.Goals as goal
+
+pub returns-then-not-is_pointer : goal.returns-then-not-is_pointer
+returns-then-not-is_pointer c =
+    let a = c.args in
+    c.if-not-is_pointer.true ∙ whole-bytes a.kind a.n (sym c.is_pointer.ensures ∙ not-true _ c.if-not-is_pointer.true)
+
+pub returns-else-not-is_pointer : goal.returns-else-not-is_pointer
+returns-else-not-is_pointer c =
+    let a = c.args in
+    whole-scores a.kind a.n (sym c.is_pointer.ensures ∙ not-false _ c.if-not-is_pointer.false)

@@ -1,0 +1,68 @@
+use mathlib.Core.Path.{ap, ◌∙◌}
+use native.Mathlib.Omega.{arith}
+use Rattle.word.specs.Hex.{is_hex, hex_value, read_bytes}
+use Rattle.sector.proofs.Dates.{front-most}
+use Rattle.block.specs.Log.{joined}
+use Rattle.rebuild.proofs.Turns.{kind_part, kind_fits, score_part, score-read}
+use Rattle.exact_index.proofs.Turns.{found_nowhere, found_at}
+use Rattle.exact_index.proofs.Tells.{told-leads}
+use Rattle.exact_index.proofs.leads_from.Goals as goal
+
+pub overflow_add-at : goal.overflow_add-at
+overflow_add-at c =
+    omega (arith, TODO.c.Front-length.ensures, front-most c.args.s.now)
+
+pub overflow_add-to : goal.overflow_add-to
+overflow_add-to c =
+    omega (arith, TODO.c.Front-length.ensures, front-most c.args.s.now)
+
+-- TODO no such goal
+-- part-read-kind-end : tie.Need-slice-bounds-read-kind-end
+-- part-read-kind-end c =
+--     omega (arith, c.Front-length.ensures, front-most c.before.before.before.before.before.args.s.now, c.before.before.before.before.before.requires.1)
+
+pub read_kind-kind-requires : goal.read_kind-kind-requires
+read_kind-kind-requires c = let args = c.args in
+    let given = c.requires in
+    kind_fits args.s.now _ TODO.c.before.Front-length.ensures given.1 given.2
+
+pub overflow_add-from : goal.overflow_add-from
+overflow_add-from c =
+    omega (arith, TODO.c.before.before.Front-length.ensures, front-most c.args.s.now)
+
+pub overflow_add-last : goal.overflow_add-last
+overflow_add-last c =
+    omega (arith, TODO.c.before.before.Front-length.ensures, front-most c.args.s.now)
+
+-- TODO no such goal
+-- part-read-hex-bytes-end : tie.Need-slice-bounds-read-hex-bytes-end
+-- part-read-hex-bytes-end c = let args = c.before.before.before.before.before.before.before.before.args in
+--     let Front-length = c.before.before.before.Front-length in
+--     let given = c.before.before.before.before.before.before.before.before.requires in
+--     omega (arith, Front-length.ensures, front-most args.s.now, given.1)
+
+pub returns-then-tells_first : goal.returns-then-tells_first
+returns-then-tells_first c =
+    let a = c.args in
+    let digits = score_part a.s.now _ TODO.f.Front-length.ensures in
+    let kind = c.read_kind-kind.ensures ∙ ap hex_value (kind_part a.s.now _ TODO.f.Front-length.ensures) in
+    let score = score-read _ _ _ _ (ap is_hex digits ∙ c.requires.3) c.read_hex_bytes.ensures ∙ ap read_bytes digits in
+    told-leads (joined a.end.0 a.log.now a.waiting.now) a.index.now _ _ a.n.0 c.requires.4 _ _ _
+    c.tells_first.ensures kind score c.if-tells_first.true
+
+pub returns-in_default : goal.returns-in_default
+returns-in_default c =
+    let a = c.args in
+    let digits = score_part a.s.now _ TODO.f.Front-length.ensures in
+    let kind = c.read_kind-kind.ensures ∙ ap hex_value (kind_part a.s.now _ TODO.f.Front-length.ensures) in
+    let score = score-read _ _ _ _ (ap is_hex digits ∙ c.requires.3) c.read_hex_bytes.ensures ∙ ap read_bytes digits in
+    found_nowhere (joined a.end.0 a.log.now a.waiting.now) a.index.now a.n.0 _ _ _ _ _ c.find_hint-place.ensures kind score c.in_default.is
+
+pub returns : goal.returns
+returns c =
+    let a = c.args in
+    let digits = score_part a.s.now _ TODO.f.Front-length.ensures in
+    let kind = c.read_kind-kind.ensures ∙ ap hex_value (kind_part a.s.now _ TODO.f.Front-length.ensures) in
+    let score = score-read _ _ _ _ (ap is_hex digits ∙ c.requires.3) c.read_hex_bytes.ensures ∙ ap read_bytes digits in
+    found_at (joined a.end.0 a.log.now a.waiting.now) a.index.now a.n.0 _ _ _ _ _ c.find_hint-place.ensures kind score
+    _ c.in-At.is

@@ -1,0 +1,60 @@
+use mathlib.Core.Path.{refl, sym}
+use native.Mathlib.Nat.{add-sub_cancel_left, zero-add}
+use native.Mathlib.Omega.{arith}
+use lib.ListN.{length-take}
+use Rattle.file.proofs.Inside.{stored_in_lem, waiting_in, zeros_in}
+use Rattle.file_read.proofs.read.Goals as goal
+
+pub overflow_add-end : goal.overflow_add-end
+overflow_add-end c =
+    let a = c.args in
+    let locate = c.locate-run in
+    omega (arith, stored_in_lem a.log.now a.waiting.now a.page.now a.entry.now a.offset _ locate.ensures _ _ c.in-Stored.is)
+
+-- TODO no such goal
+-- part-result-end : tie.Need-slice-bounds-result-end
+-- part-result-end c =
+--     let a = c.before.before.before.before.before.before.before.before.args in
+--     let locate = c.before.before.before.locate in
+--     let run = c.before.run in
+--     omega (arith, stored_in_lem a.log.now a.waiting.now a.page.now a.entry.now a.offset _ locate.ensures _ _ run.given.1)
+
+pub returns-in-Stored : goal.returns-in-Stored
+returns-in-Stored c =
+    let locate = c.locate-run in
+    rw (← locate.ensures, c.in-Stored.is) (record { bytes = rw (add-sub_cancel_left _ _); block = refl; place = refl })
+
+pub overflow_add-end-in-Waiting : goal.overflow_add-end-in-Waiting
+overflow_add-end-in-Waiting c =
+    let a = c.args in
+    let locate = c.locate-run in
+    omega (arith, waiting_in a.log.now a.waiting.now a.page.now a.entry.now a.offset _ locate.ensures _ _ c.in-Waiting.is)
+
+-- TODO no such goal
+-- part-result-end-2 : tie.Need-slice-bounds-result-end-2
+-- part-result-end-2 c =
+--     let a = c.before.before.before.before.before.before.before.before.args in
+--     let locate = c.before.before.before.locate in
+--     let run2 = c.before.run2 in
+--     omega (arith, waiting_in a.log.now a.waiting.now a.page.now a.entry.now a.offset _ locate.ensures _ _ run2.given.1)
+
+pub returns-in-Waiting : goal.returns-in-Waiting
+returns-in-Waiting c =
+    let locate = c.locate-run in
+    rw (← locate.ensures, c.in-Waiting.is) (record { bytes = rw (add-sub_cancel_left _ _); block = refl; place = refl })
+
+pub slice_bounds-result-end-in-Zeros : goal.slice_bounds-result-end-in-Zeros
+slice_bounds-result-end-in-Zeros c =
+    let a = c.args in
+    let locate = c.locate-run in
+    simp length-take (omega (arith, zeros_in a.log.now a.waiting.now a.page.now a.entry.now a.offset _ locate.ensures _ c.in-Zeros.is))
+
+pub returns-in-Zeros : goal.returns-in-Zeros
+returns-in-Zeros c =
+    let locate = c.locate-run in
+    rw (← locate.ensures, c.in-Zeros.is) (record { bytes = refl; block = refl; place = sym (zero-add _) })
+
+pub returns-in-Refused : goal.returns-in-Refused
+returns-in-Refused c =
+    let locate = c.locate-run in
+    rw (← locate.ensures, c.in-Refused.is) (record { bytes = refl; block = refl; place = sym (zero-add _) })

@@ -1,0 +1,21 @@
+use native.Mathlib.Omega.{arith}
+use Rattle.index.proofs.Turns.{named-length, entry-written, entry_length_lem}
+use Rattle.index.proofs.write_entry.Goals as goal
+
+-- TODO no such goal
+-- part-put-be-end : tie.Need-slice-bounds-put-be-end
+-- part-put-be-end c = let args = c.before.before.before.before.before.before.args in
+--     let given = c.before.before.before.before.before.before.requires in
+--     let a = args in
+--     let k = named-length a.place.now _ a.score.now a.kind given.0 given.1 c.before.before.copy_at.ensures in
+--     omega (arith, k)
+
+pub shape_of-place : goal.shape_of-place
+shape_of-place c = let copy_at = c.copy_at in
+    let a = c.args in
+    entry_length_lem a.place.now _ a.score.now a.kind c.requires.0 c.requires.1 copy_at.ensures _ a.first.0 c.put_be.ensures
+
+pub returns : goal.returns
+returns c = let copy_at = c.copy_at in
+    let a = c.args in
+    entry-written a.place.now _ a.score.now a.kind c.requires.0 c.requires.1 copy_at.ensures _ a.first.0 c.put_be.ensures

@@ -1,0 +1,34 @@
+use mathlib.Core.Logic.{⊎_elim}
+use Rattle.block.specs.Log.{joined}
+use Rattle.lookup.proofs.Outcomes.{not-lawful, not-zero}
+use Rattle.index_lookup.proofs.Turns.{by_zero, by_hint, by_scan}
+use Rattle.index_lookup.proofs.find_held_by.Goals as goal
+
+pub returns-then-is_zero_score : goal.returns-then-is_zero_score
+returns-then-is_zero_score c = let args = c.args in
+    let if1 = c.if-is_lawful in
+    let is_lawful = c.is_lawful in
+    let is-zero-score = c.is_zero_score in
+    let a = args in
+    let log = joined a.end.0 a.log.now a.waiting.now in
+    by_zero log a.index.now a.kind a.score.now _ _ _ is_lawful.ensures if1.true is-zero-score.ensures c.if-is_zero_score.true c.find_held.ensures
+
+pub returns-in_default : goal.returns-in_default
+returns-in_default c =
+    let a = c.args in
+    let log = joined a.end.0 a.log.now a.waiting.now in
+    let not-empty = ⊎_elim
+    (λ w. not-zero a.kind a.score.now _ w.1.ensures w.2.left)
+    (λ w. not-lawful a.kind a.score.now _ c.is_lawful.ensures w.left)
+    c.if-is_lawful.branch in
+    by_hint log a.index.now a.kind a.score.now _ _ not-empty c.find_hint-place.ensures c.in_default.is
+
+pub returns : goal.returns
+returns c =
+    let a = c.args in
+    let log = joined a.end.0 a.log.now a.waiting.now in
+    let not-empty = ⊎_elim
+    (λ w. not-zero a.kind a.score.now _ w.1.ensures w.2.left)
+    (λ w. not-lawful a.kind a.score.now _ c.is_lawful.ensures w.left)
+    c.if-is_lawful.branch in
+    by_scan log a.index.now a.kind a.score.now _ _ not-empty c.find_hint-place.ensures c.in-Nowhere.is c.find_held-2.ensures

@@ -1,0 +1,45 @@
+use mathlib.Core.Path.{◌≡◌, ap, ◌∙◌}
+use Prim.Native.Nat.{◌-◌, ◌≤◌}
+use native.Mathlib.Omega.{arith}
+use Rattle.block.specs.Log.{joined}
+use Rattle.reader.specs.Reader.{placed}
+use Rattle.hint.specs.Hint.{true_at, first_found, hint}
+use Rattle.index_lookup.proofs.Turns.{found_here, found-next, found_nowhere, hint-starts}
+use Rattle.index_lookup.proofs.find_hint.Goals as goal
+
+pub loop-p-init : goal.loop-p-init
+loop-p-init c =
+    let a = c.args in
+    let log = joined a.end.0 a.log.now a.waiting.now in
+    let b = c.bucket_of-b in
+    (omega (arith, b.ensures.1.0), hint-starts log a.index.now a.kind a.score.now b.result b.ensures.0)
+
+pub returns-in_default : goal.returns-in_default
+returns-in_default c = let args = c.args in
+    let bucket-of = c.bucket_of-b in
+    let if1 = c.loop-p-test in
+    let turn = c.loop-p in
+    let a = args in
+    let log = joined a.end.0 a.log.now a.waiting.now in
+    let l = turn in
+    let f = true_at log a.index.now a.kind a.score.now in
+    found_here f l.p bucket-of.result.to if1.true _ c.true_at-place.ensures _ c.in_default.is ∙ ap placed l.invariant.1
+
+pub loop-p-preserved : goal.loop-p-preserved
+loop-p-preserved c = let args = c.args in
+    let bucket-of = c.bucket_of-b in
+    let if1 = c.loop-p-test in
+    let turn = c.loop-p in
+    let a = args in
+    let log = joined a.end.0 a.log.now a.waiting.now in
+    let l = turn in
+    let f = true_at log a.index.now a.kind a.score.now in
+    (omega (arith, if1.true), found-next f l.p bucket-of.result.to if1.true _ c.true_at-place.ensures c.in-Nowhere.is ∙ l.invariant.1)
+
+pub returns : goal.returns
+returns c =
+    let a = c.args in
+    let log = joined a.end.0 a.log.now a.waiting.now in
+    let l = c.loop-p in
+    let f = true_at log a.index.now a.kind a.score.now in
+    found_nowhere f l.p c.bucket_of-b.result.to c.loop-p-test.false ∙ ap placed l.invariant.1

@@ -1,0 +1,48 @@
+use mathlib.Core.Logic.{⊎_elim}
+use Rattle.lookup.proofs.Outcomes.{not-lawful, not-zero}
+use Rattle.known_store.proofs.Found.{by_zero, by_hint, by_nothing, by_scan}
+use Rattle.known_store.proofs.find_known.Goals as goal
+
+pub returns-then-is_zero_score : goal.returns-then-is_zero_score
+returns-then-is_zero_score c = let args = c.args in
+    let if1 = c.if-is_lawful in
+    let is_lawful = c.is_lawful in
+    let is-zero-score = c.is_zero_score in
+    let a = args in
+    by_zero a.known a.log.now a.waiting.now a.index.now a.kind a.score.now _ _ _ is_lawful.ensures if1.true is-zero-score.ensures c.if-is_zero_score.true
+    c.find_held.ensures
+
+pub returns-in_default : goal.returns-in_default
+returns-in_default c =
+    let a = c.args in
+    let not-empty = ⊎_elim
+    (λ w. not-zero a.kind a.score.now _ w.1.ensures w.2.left)
+    (λ w. not-lawful a.kind a.score.now _ c.is_lawful.ensures w.left)
+    c.if-is_lawful.branch in
+    by_hint a.known a.log.now a.waiting.now a.index.now a.kind a.score.now _ not-empty _ c.find_hint-place.ensures c.in_default.is
+
+pub returns-then-known : goal.returns-then-known
+returns-then-known c = let args = c.args in
+    let find-hint = c.find_hint-place in
+    let if1 = c.if-is_lawful in
+    let is_lawful = c.is_lawful in
+    let a = args in
+    let not-empty = ⊎_elim
+    (λ w. not-zero a.kind a.score.now _ w.1.ensures w.2.left)
+    (λ w. not-lawful a.kind a.score.now _ is_lawful.ensures w.left)
+    if1.branch in
+    by_nothing a.known a.log.now a.waiting.now a.index.now a.kind a.score.now find-hint.result not-empty _ find-hint.ensures c.in-Nowhere.is
+    c.if-known.true
+
+pub returns : goal.returns
+returns c = let args = c.args in
+    let find-hint = c.find_hint-place in
+    let if1 = c.if-is_lawful in
+    let is_lawful = c.is_lawful in
+    let a = args in
+    let not-empty = ⊎_elim
+    (λ w. not-zero a.kind a.score.now _ w.1.ensures w.2.left)
+    (λ w. not-lawful a.kind a.score.now _ is_lawful.ensures w.left)
+    if1.branch in
+    by_scan a.known a.log.now a.waiting.now a.index.now a.kind a.score.now _ not-empty _ find-hint.ensures c.in-Nowhere.is c.if-known.false
+    c.find_held-2.ensures

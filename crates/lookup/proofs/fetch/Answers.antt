@@ -1,0 +1,16 @@
+use Rattle.lookup.proofs.Outcomes.{count-refused, count-over, count-found}
+use Rattle.lookup.proofs.fetch.Goals as goal
+
+pub returns-in_default : goal.returns-in_default
+returns-in_default c =
+    count-refused (c.args.count) _ _ _ (c.look_up-look.ensures) (c.in_default.is)
+
+pub returns-then-count-b : goal.returns-then-count-b
+returns-then-count-b c = let a = c.args in
+    let look_up = c.look_up-look in
+    count-over a.count _ _ _ look_up.ensures c.in-Found.is (c.if-count-b.true)
+
+pub returns : goal.returns
+returns c = let a = c.args in
+    let look_up = c.look_up-look in
+    count-found a.count _ _ _ look_up.ensures c.in-Found.is (c.if-count-b.false)

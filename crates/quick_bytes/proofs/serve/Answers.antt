@@ -1,0 +1,16 @@
+use Rattle.quick_bytes.proofs.Served.{served_by}
+use Rattle.quick_bytes.proofs.serve.Goals as goal
+
+pub write_served-requires : goal.write_served-requires
+write_served-requires c =
+    let q = c.requires in
+    q
+
+pub returns : goal.returns
+returns c =
+    let a = c.args in
+    let read_Known = TODO.earlier.before.before.before.before.before.before.before.read_Known in
+    let serve = c.serve-served in
+    let write-served = c.write_served in
+    served_by a.known.now a.session a.message.now a.date.now a.index.now a.log.now a.waiting.now a.reply.now _ read_Known.ensures serve.result _ _ _ _
+    serve.ensures _ write-served.ensures.0 _ write-served.ensures.1 -- TODO clauses ['answered', 'told']

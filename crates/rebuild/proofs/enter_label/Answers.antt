@@ -1,0 +1,43 @@
+use mathlib.Core.Path.{ap, ap₂, ◌∙◌}
+use Prim.Native.Nat.{ℕ}
+use native.Mathlib.Omega.{arith}
+use Rattle.buffer.specs.Bytes.{Bytes}
+use Rattle.word.specs.Hex.{is_hex, hex_value, read_bytes}
+use Rattle.sector.proofs.Dates.{front-most}
+use Rattle.index.specs.Index.{entered}
+use Rattle.rebuild.proofs.Turns.{kind_part, kind_fits, score_part, score-read}
+use Rattle.rebuild.proofs.enter_label.Goals as goal
+
+pub overflow_add-at : goal.overflow_add-at
+overflow_add-at c = omega (arith, TODO.c.Front-length.ensures, front-most c.args.s.now)
+
+pub overflow_add-end : goal.overflow_add-end
+overflow_add-end c = omega (arith, TODO.c.Front-length.ensures, front-most c.args.s.now)
+
+-- TODO no such goal
+-- part-read-kind-end : tie.Need-slice-bounds-read-kind-end
+-- part-read-kind-end c = omega (arith, c.Front-length.ensures, front-most c.before.before.before.args.s.now)
+
+pub read_kind-kind-requires : goal.read_kind-kind-requires
+read_kind-kind-requires c =
+    kind_fits c.args.s.now _ TODO.c.before.Front-length.ensures c.requires.0 c.requires.1
+
+pub overflow_add-from : goal.overflow_add-from
+overflow_add-from c = omega (arith, TODO.c.before.before.Front-length.ensures, front-most c.args.s.now)
+
+pub overflow_add-to : goal.overflow_add-to
+overflow_add-to c = omega (arith, TODO.c.before.before.Front-length.ensures, front-most c.args.s.now)
+
+-- TODO no such goal
+-- part-read-hex-bytes-end : tie.Need-slice-bounds-read-hex-bytes-end
+-- part-read-hex-bytes-end c = omega (arith, c.before.before.before.Front-length.ensures, front-most c.before.before.before.before.before.before.args.s.now)
+
+pub returns : goal.returns
+returns c =
+    let a = c.args in
+    let front = TODO.c.before.before.before.before.before.before.before.before.before.before.before.Front-length in
+    let digits = score_part a.s.now _ front.ensures in
+    c.enter.ensures
+    ∙ ap₂ (λ (x : Bytes) (k : ℕ). entered a.index.now x k a.first.0)
+    (score-read _ _ _ _ (ap is_hex digits ∙ c.requires.2) c.read_hex_bytes.ensures ∙ ap read_bytes digits)
+    (c.read_kind-kind.ensures ∙ ap hex_value (kind_part a.s.now _ front.ensures))

@@ -1,0 +1,55 @@
+use mathlib.Core.Path.{sym, ◌∙◌}
+use native.Mathlib.Omega.{arith}
+use lib.Seq.{length-take-le}
+use Rattle.block.specs.Log.{joined}
+use Rattle.block.proofs.Used.{used_le_sectors}
+use Rattle.block.proofs.Joined.{sectors-joined}
+use Rattle.lookup.proofs.Both.{used-before}
+use Rattle.sector_log.specs.Parts.{beside}
+use Rattle.store.proofs.Outcomes.{found_within, store_found, store-new}
+use Rattle.store.proofs.store.Goals as goal
+
+pub slice_bounds-used_part-end : goal.slice_bounds-used_part-end
+slice_bounds-used_part-end c =
+    let border = c.border-end in
+    sym (length-take-le _ _ (omega (arith, border.ensures.0)))
+
+pub append_new-stored-requires : goal.append_new-stored-requires
+append_new-stored-requires c =
+    let border = c.border-end in
+    let a = c.args in
+    let pre = c.requires in
+    let used = c.used_part-used.ensures ∙ used-before a.log.now a.waiting.now border.result.0 border.ensures.0 border.ensures.1 in
+    (pre.0, pre.1, c.sha1-score.ensures, omega (arith, used, used_le_sectors a.log.now, border.ensures.0))
+
+pub returns-in_default : goal.returns-in_default
+returns-in_default c =
+    let border = c.border-end in
+    let find-held = c.find_held-place in
+    let a = c.args in
+    let used = c.used_part-used.ensures ∙ used-before a.log.now a.waiting.now border.result.0 border.ensures.0 border.ensures.1 in
+    store-new a.log.now a.waiting.now _ a.kind a.date.now a.«data».now _ _ _ border.ensures.1 c.sha1-score.ensures find-held.ensures _
+    c.in_default.is
+    (c.append_new-stored.ensures a.log.now (omega arith) (sym used))
+
+pub compare-stored-requires : goal.compare-stored-requires
+compare-stored-requires c = let args = c.args in
+    let border-here = c.border-end in
+    let find-held-here = c.find_held-place in
+    let find-held = find-held-here in
+    let border = border-here in
+    let a = args in
+    let J = joined border.result.0 a.log.now a.waiting.now in (
+      border.ensures.0,
+      found_within J a.kind _ _ _ _ find-held.ensures c.in-At.is
+          (sectors-joined border.result.0 a.log.now a.waiting.now border.ensures.0),
+    )
+
+pub returns : goal.returns
+returns c =
+    let find-held = c.find_held-place in
+    let border = c.border-end in
+    let a = c.args in
+    store_found a.log.now a.waiting.now _ a.kind a.date.now a.«data».now _ _ _ border.ensures.1 c.sha1-score.ensures find-held.ensures _
+    c.in-At.is
+    (c.compare-stored.ensures (beside a.log.now a.waiting.now))

@@ -1,0 +1,18 @@
+use mathlib.Core.Path.{◌≡◌, refl, sym, ap, ◌∙◌}
+use Prim.Native.Nat.{ℕ, ◌+◌, ◌-◌, ◌%◌, ◌≤◌, ◌<◌, min}
+use native.Mathlib.Omega.{arith}
+use lib.ListN.{length, take, drop}
+use Rattle.buffer.proofs.Put.{length-put}
+use Rattle.sector.specs.Sector.{payload_of}
+use Rattle.block.specs.Log.{joined, bytes_of}
+use Rattle.reader.proofs.Pieces.{length-bytes}
+use Rattle.tree.proofs.Pieces.{Left, left-all, left-none, left-zeros, Piece, piece}
+use Rattle.tree.proofs.read_part.Given as goal
+
+-- `tree::read_part` meets its contract: filling in what is left makes what filling in the whole makes.
+abbrev pub invariant-loop-done : goal.invariant-loop-done
+invariant-loop-done l =
+    (l.done ≤ length l.d) × (length l.d ≡ length l.initial.d) × Left (bytes_of (joined l.end.0 l.log l.waiting) l.b) l.from l.initial.d l.d l.done
+
+abbrev pub decreases-loop-done : goal.decreases-loop-done
+decreases-loop-done l = length l.initial.d - l.done

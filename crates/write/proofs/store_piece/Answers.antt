@@ -1,0 +1,47 @@
+use mathlib.Core.Path.{ap, ◌∙◌}
+use Prim.Native.Nat.{◌+◌, ◌*◌, ◌≤◌}
+use native.Mathlib.Omega.{arith}
+use lib.ListN.{length, length-take}
+use Rattle.buffer.specs.Bytes.{Bytes}
+use Rattle.append.proofs.Images.{part_start}
+use Rattle.sector_log.specs.Parts.{beside}
+use Rattle.sector_log.specs.Store.{store}
+use Rattle.tree.specs.Tree.{piece}
+use Rattle.cut.specs.Cut.{unit_of, whole_units}
+use Rattle.writer.specs.Blocks.{cut_block}
+use Rattle.write.proofs.OnePiece.{part_piece}
+use Rattle.write.proofs.store_piece.Goals as goal
+
+-- `write::store_piece` meets its contract: the part that is stored is the piece.
+-- where the piece begins
+begins : (s : tie.Start) → s.args.width * s.args.i + 1 ≤ length s.args.source.now
+begins s = omega (arith, part_start s.args.width (length s.args.source.now) s.args.i s.pre.2 s.pre.5)
+
+pub overflow_mul-at : goal.overflow_mul-at
+overflow_mul-at c = omega (arith, begins TODO.c.before.before.before.before, TODO.c.before.before.before.before.pre.4)
+
+pub overflow_add-at : goal.overflow_add-at
+overflow_add-at c = let p = TODO.c.before.before.before.before.pre in omega (arith, begins TODO.c.before.before.before.before, p.3, p.4)
+
+pub slice_bounds-store_cut-count : goal.slice_bounds-store_cut-count
+slice_bounds-store_cut-count c = omega (arith, begins TODO.c.before.before.before.before.before.before, c.smaller-to.ensures)
+
+pub slice_bounds-store_cut-start : goal.slice_bounds-store_cut-start
+slice_bounds-store_cut-start c = omega (arith, begins TODO.c.before.before.before.before.before.before, c.smaller-to.ensures)
+
+pub slice_bounds-store_cut-end : goal.slice_bounds-store_cut-end
+slice_bounds-store_cut-end c = omega (arith, c.smaller-to.ensures)
+
+pub store_cut-requires : goal.store_cut-requires
+store_cut-requires c =
+    let a = c.args in
+    let p = part_piece a.width a.i c.smaller-to.result a.source.now c.smaller-to.ensures in
+    let short : length (piece a.width a.i a.source.now) ≤ a.width = simp length-take (omega arith) in
+    (omega (arith, ap length p, short, TODO.s.pre.3), TODO.s.pre.0, TODO.s.pre.1, ap (λ (x : Bytes). whole_units (unit_of a.kind) (length x)) p ∙ TODO.s.pre.6)
+
+pub returns : goal.returns
+returns c =
+    let a = c.args in
+    c.store_cut.ensures
+    ∙ ap (λ (x : Bytes). store (beside a.log.now a.waiting.now) a.date.now a.kind (cut_block a.kind x))
+    (part_piece a.width a.i c.smaller-to.result a.source.now c.smaller-to.ensures)

@@ -1,0 +1,31 @@
+use mathlib.Core.Path.{◌≡◌}
+use Prim.Native.Nat.{ℕ, ◌*◌, ◌≤◌}
+use native.Mathlib.Omega.{arith}
+use lib.ListN.{length}
+use Rattle.block.specs.Block.{parts_of}
+use Rattle.sector_log.specs.Parts.{beside}
+use Rattle.writer.proofs.Levels.{few_pieces, leaf-refused, leaves-stored, top-is, width_bounds}
+use borrow.Author.Rules.{rules}
+use Rattle.write.proofs.write_blocks.Goals as goal
+
+pub returns-in_default : goal.returns-in_default
+returns-in_default c = let a = c.args in
+    let write-leaves = c.write_leaves-ended in record { blocks = leaf-refused a.slice.now a.dsize a.psize a.depth a.date.now (beside a.log.now a.waiting.now) _ _ write-leaves.ensures.0 _ (c.in_default.is); top = λ q. let p = (c.in_default.is) in let z : ◌≡◌ {A = ℕ} 0 1 = cc in absurd (omega arith) }
+
+pub overflow_mul-psize : goal.overflow_mul-psize
+overflow_mul-psize c = omega (arith, (c.requires.5))
+
+pub write_levels-requires : goal.write_levels-requires
+write_levels-requires c = let a = c.args in
+    let given = c.requires in
+    let w = width_bounds a.psize given.4 given.5 in
+    let few = few_pieces a.dsize (length a.slice.now) given.2 in
+    let most : 20 * parts_of a.dsize (length a.slice.now) ≤ 1146880 = omega (arith, few, given.1) in
+    (given.0, omega (arith, w.0), w.1, w.2, given.6, search rules, search rules)
+
+pub returns : goal.returns
+returns c = let a = c.args in
+    let write-leaves = c.write_leaves-ended in
+    let write-levels = c.write_levels in
+    let f = write-leaves.ensures.1 c.in-Done.is in record { blocks = leaves-stored a.slice.now a.dsize a.psize a.depth a.date.now (beside a.log.now a.waiting.now) _ _ write-leaves.ensures.0 c.in-Done.is _ f _ _
+          write-levels.ensures.0; top = λ q. top-is a.slice.now a.dsize a.psize a.depth _ _ f (write-levels.ensures.1 q) }

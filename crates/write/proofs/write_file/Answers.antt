@@ -1,0 +1,79 @@
+use borrow.Author.Tests.{not-true, not-false}
+use mathlib.Core.Path.{sym, ◌∙◌}
+use lib.ListN.{length}
+use Rattle.sector.proofs.Dates.{date-length}
+use Rattle.writer.proofs.Depth.{depth-some, depth-none, depth_lies}
+use Rattle.writer.proofs.Tested.{entry-short, scores-short, log-refused, date-refused, slice-long, sizes-refused, tests_passed}
+use Rattle.write.proofs.write_file.Goals as goal
+
+pub returns-then-entry-ne-ENTRY : goal.returns-then-entry-ne-ENTRY
+returns-then-entry-ne-ENTRY c = let a = c.args in
+    entry-short a.log.now a.waiting.now a.date.now a.slice.now a.dsize a.psize a.entry.now a.scores.now (c.if-entry-ne-ENTRY.true)
+
+pub returns-then-scores-lt-SCORES : goal.returns-then-scores-lt-SCORES
+returns-then-scores-lt-SCORES c = let a = c.args in
+    scores-short a.log.now a.waiting.now a.date.now a.slice.now a.dsize a.psize a.entry.now a.scores.now (c.if-entry-ne-ENTRY.false) (c.if-scores-lt-SCORES.true)
+
+pub returns-then-not-are_allowed : goal.returns-then-not-are_allowed
+returns-then-not-are_allowed c = let a = c.args in
+    let if1 = c.if-entry-ne-ENTRY in
+    log-refused a.log.now a.waiting.now a.date.now a.slice.now a.dsize a.psize a.entry.now a.scores.now if1.false (c.if-scores-lt-SCORES.false) _
+    (c.are_allowed.ensures) (not-true _ (c.if-not-are_allowed.true))
+
+pub returns-then-not-is_date : goal.returns-then-not-is_date
+returns-then-not-is_date c = let are-allowed = c.are_allowed in
+    let a = c.args in
+    let if1 = c.if-entry-ne-ENTRY in
+    let if2 = c.if-scores-lt-SCORES in
+    date-refused a.log.now a.waiting.now a.date.now a.slice.now a.dsize a.psize a.entry.now a.scores.now if1.false if2.false _ are-allowed.ensures
+    (not-false _ (c.if-not-are_allowed.false)) _ (c.is_date.ensures) (not-true _ (c.if-not-is_date.true))
+
+pub returns-then-slice-gt-LONGEST : goal.returns-then-slice-gt-LONGEST
+returns-then-slice-gt-LONGEST c = let are-allowed = c.are_allowed in
+    let a = c.args in
+    let if1 = c.if-entry-ne-ENTRY in
+    let if2 = c.if-scores-lt-SCORES in
+    let if3 = c.if-not-are_allowed in
+    slice-long a.log.now a.waiting.now a.date.now a.slice.now a.dsize a.psize a.entry.now a.scores.now if1.false if2.false _ are-allowed.ensures
+    (not-false _ if3.false) _ (c.is_date.ensures) (not-false _ (c.if-not-is_date.false)) (c.if-slice-gt-LONGEST.true)
+
+pub returns-then-depth-gt7 : goal.returns-then-depth-gt7
+returns-then-depth-gt7 c = let are-allowed = c.are_allowed in
+    let a = c.args in
+    let if1 = c.if-entry-ne-ENTRY in
+    let if2 = c.if-scores-lt-SCORES in
+    let if3 = c.if-not-are_allowed in
+    let if4 = c.if-not-is_date in
+    let is-date = c.is_date in
+    sizes-refused a.log.now a.waiting.now a.date.now a.slice.now a.dsize a.psize a.entry.now a.scores.now if1.false if2.false _ are-allowed.ensures
+    (not-false _ if3.false) _ is-date.ensures (not-false _ if4.false) (c.if-slice-gt-LONGEST.false)
+    (depth-none (length a.slice.now) a.dsize a.psize _ (c.depth_of-depth.ensures) (c.if-depth-gt7.true))
+
+pub write_tested-requires : goal.write_tested-requires
+write_tested-requires c = let a = c.args in
+    let depth-of = c.depth_of-depth in
+    let if1 = c.if-entry-ne-ENTRY in
+    let if2 = c.if-scores-lt-SCORES in
+    let if4 = c.if-not-is_date in
+    let if5 = c.if-slice-gt-LONGEST in
+    let if6 = c.if-depth-gt7 in
+    let is-date = c.is_date in
+    let d = depth_lies (length a.slice.now) a.dsize a.psize _ (depth-some (length a.slice.now) a.dsize a.psize _ depth-of.ensures if6.false) in
+    (date-length a.date.now (sym is-date.ensures ∙ not-false _ if4.false), if5.false, d.dsize-from, d.dsize-to, d.psize-from, d.psize-to, if6.false, if1.false, if2.false)
+
+pub returns : goal.returns
+returns c =
+    let are-allowed = c.are_allowed in
+    let a = c.args in
+    let depth-of = c.depth_of-depth in
+    let if1 = c.if-entry-ne-ENTRY in
+    let if2 = c.if-scores-lt-SCORES in
+    let if3 = c.if-not-are_allowed in
+    let if4 = c.if-not-is_date in
+    let if5 = c.if-slice-gt-LONGEST in
+    let if6 = c.if-depth-gt7 in
+    let is-date = c.is_date in
+    let write-tested = c.write_tested in
+    write-tested.ensures ∙ tests_passed a.log.now a.waiting.now a.date.now a.slice.now a.dsize a.psize a.entry.now a.scores.now if1.false if2.false _
+    are-allowed.ensures (not-false _ if3.false) _ is-date.ensures (not-false _ if4.false) if5.false _
+    (depth-some (length a.slice.now) a.dsize a.psize _ depth-of.ensures if6.false)

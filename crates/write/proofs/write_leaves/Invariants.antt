@@ -1,0 +1,18 @@
+use mathlib.Core.Path.{◌≡◌, refl, sym, ◌∙◌}
+use Prim.Native.Nat.{◌+◌, ◌-◌, ◌*◌, ◌≤◌, ◌<◌}
+use native.Mathlib.Omega.{arith}
+use lib.ListN.{length}
+use lib.Seq.{take_all}
+use Rattle.block.specs.Block.{parts_of}
+use Rattle.sector_log.specs.Parts.{beside}
+use Rattle.writer.proofs.Cutting.{data_lawful, data_whole}
+use Rattle.write.proofs.Level.{refused-not-done, Going, going_start, going_end, Turn, score-length, going-stopped, going_next}
+use Rattle.write.proofs.write_leaves.Given as goal
+
+-- `write::write_leaves` meets its contract: the leaves one after the other.
+abbrev pub invariant-loop-i : goal.invariant-loop-i
+invariant-loop-i l = Going 13 l.dsize l.slice l.date (beside l.log l.initial.waiting) (parts_of l.dsize (length l.slice)) (beside l.log l.waiting) l.scores l.i
+    × (length l.scores ≡ length l.initial.scores) × (length l.waiting ≡ length l.initial.waiting)
+
+abbrev pub decreases-loop-i : goal.decreases-loop-i
+decreases-loop-i l = l.count - l.i
