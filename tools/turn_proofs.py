@@ -106,6 +106,8 @@ class Function:
                         best = (new, path)
             if best:
                 return [arm[0], best[0], *rest[len(best[1]) :]]
+            if plain(step) == "match" and any(f[1] == step and f[0].endswith("-own") for f in arm[2]):
+                return [arm[0], arm[0] + "-own", *rest]
         return None
 
     def step(self, chain, offset, step, rest):
@@ -249,7 +251,11 @@ class Function:
         if body.strip() == "search rules" and not unfolding:
             return ""
         new = self.n["needs"][at][1]
+        body = body.replace("\u2032", "'")
         body = self.turn(body, self.n["asked_at"][at][0])
+        # The test of a negation is told of what it negates.
+        body = re.sub(rf"\(not-(?:true|false) _ (c\.if-not-{W}(?:\.{W})*)\)", r"\1", body)
+        body = re.sub(rf"not-(?:true|false) _ (c\.if-not-{W}(?:\.{W})*)", r"\1", body)
         names = self.n["asked"].get(self.n["needs"][at][0])
         if names:
             parts = final_tuple(body)

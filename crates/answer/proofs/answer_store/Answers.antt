@@ -23,4 +23,4 @@ pub returns : goal.returns
 returns c = λ log w.
     let a = c.args in
     outcome _ _ _ log w _ _ refl c.write_reply.ensures
-    ∙ kept a.receipt.stored _ _ (beside log w) _ c.in_default.keys2
+    ∙ kept a.receipt.stored _ _ (beside log w) _ c.in_default.in_default-own.keys2

@@ -19,13 +19,13 @@ pub returns-then-not-is_letter_or_digit : goal.returns-then-not-is_letter_or_dig
 returns-then-not-is_letter_or_digit c =
     let l = c.loop-i in
     let s = c.args.s.now in
-    letters-stop s l.i _ (omega arith) c.is_letter_or_digit.ensures (not-true _ c.if-not-is_letter_or_digit.true) ∙ l.invariant.1
+    letters-stop s l.i _ (omega arith) c.is_letter_or_digit.ensures c.if-not-is_letter_or_digit.true ∙ l.invariant.1
 
 pub loop-i-preserved : goal.loop-i-preserved
 loop-i-preserved c =
     let l = c.loop-i in
     let s = c.args.s.now in
-    (omega arith, letters-on s l.i _ (omega arith) c.is_letter_or_digit.ensures (not-false _ c.if-not-is_letter_or_digit.false) ∙ l.invariant.1)
+    (omega arith, letters-on s l.i _ (omega arith) c.is_letter_or_digit.ensures c.if-not-is_letter_or_digit.false ∙ l.invariant.1)
 
 pub returns : goal.returns
 returns c =

@@ -11,7 +11,7 @@ pub returns-then-not-is_framed : goal.returns-then-not-is_framed
 returns-then-not-is_framed c = let args = c.args in
     let a = args in
     let L = beside a.log.now a.waiting.now in
-    step-frame _ a.message.now (some a.date.now) a.index.now L _ _ c.is_framed.ensures (not-true _ c.if-not-is_framed.true) _
+    step-frame _ a.message.now (some a.date.now) a.index.now L _ _ c.is_framed.ensures c.if-not-is_framed.true _
     (c.refuse_silently.ensures _ _ a.reply.now)
 
 pub returns-then-reply-lt-REPLY_ROOM : goal.returns-then-reply-lt-REPLY_ROOM
@@ -19,7 +19,7 @@ returns-then-reply-lt-REPLY_ROOM c = let args = c.args in
     let is_framed = c.is_framed in
     let a = args in
     let L = beside a.log.now a.waiting.now in
-    step-buffer _ a.message.now (some a.date.now) a.index.now L _ _ is_framed.ensures (not-false _ c.if-not-is_framed.false) c.if-reply-lt-REPLY_ROOM.true _
+    step-buffer _ a.message.now (some a.date.now) a.index.now L _ _ is_framed.ensures c.if-not-is_framed.false c.if-reply-lt-REPLY_ROOM.true _
     (c.refuse_silently-then-reply-lt-REPLY_ROOM.ensures _ _ a.reply.now)
 
 pub returns-then-not-are_allowed : goal.returns-then-not-are_allowed
@@ -30,7 +30,7 @@ returns-then-not-are_allowed c = let are-allowed = c.are_allowed in
     let is_framed = c.is_framed in
     let a = args in
     let L = beside a.log.now a.waiting.now in
-    step-log _ a.message.now (some a.date.now) a.index.now L _ _ is_framed.ensures (not-false _ if1.false) if2.false _ are-allowed.ensures (not-true _ c.if-not-are_allowed.true)
+    step-log _ a.message.now (some a.date.now) a.index.now L _ _ is_framed.ensures (not-false _ if1.false) if2.false _ are-allowed.ensures c.if-not-are_allowed.true
     _ (c.refuse_silently-then-not-are_allowed.ensures _ _ a.reply.now)
 
 pub returns-then-not-is_date : goal.returns-then-not-is_date
@@ -44,7 +44,7 @@ returns-then-not-is_date c = let are-allowed = c.are_allowed in
     let L = beside a.log.now a.waiting.now in
     step_in _ a.message.now (some a.date.now) a.index.now L _ _ is_framed.ensures (not-false _ if1.false) if2.false _ are-allowed.ensures (not-false _ if3.false) _ _
     c.in-Fresh.is
-    (fresh-undated a.message.now a.date.now a.index.now L _ _ c.is_date.ensures (not-true _ c.if-not-is_date.true) _ _
+    (fresh-undated a.message.now a.date.now a.index.now L _ _ c.is_date.ensures c.if-not-is_date.true _ _
     (c.refuse_silently-then-not-is_date.ensures _ _ a.reply.now) c.in-Fresh.is)
 
 pub serve_fresh-requires : goal.serve_fresh-requires
@@ -64,7 +64,7 @@ returns-then-not-is_date-2 c = let are-allowed = c.are_allowed in
     let L = beside a.log.now a.waiting.now in
     step_in _ a.message.now (some a.date.now) a.index.now L _ _ is_framed.ensures (not-false _ if1.false) if2.false _ are-allowed.ensures (not-false _ if3.false) _ _
     c.in-Greeted.is
-    (greeted-undated a.message.now a.date.now a.index.now L _ _ c.is_date-in-Greeted.ensures (not-true _ c.if-not-is_date-2.true) _ _
+    (greeted-undated a.message.now a.date.now a.index.now L _ _ c.is_date-in-Greeted.ensures c.if-not-is_date-2.true _ _
     (c.refuse_silently-then-not-is_date-2.ensures _ _ a.reply.now) c.in-Greeted.is)
 
 pub serve_greeted-requires : goal.serve_greeted-requires

@@ -72,7 +72,7 @@ returns-then-not-agree c =
     let p = piece-at.result.now in
     let k = piece-length a.b.label q.1.1 log l.n (length x) l.done t p e in
     let g = piece-next a.b.label q.1.1 log l.n (length x) l.done t p e in
-    sym (same_stop _ p _ x l.done (omega (arith, k)) g (sym c.agree.ensures ∙ not-true _ c.if-not-agree.true)) ∙ l.invariant.2
+    sym (same_stop _ p _ x l.done (omega (arith, k)) g (sym c.agree.ensures ∙ c.if-not-agree.true)) ∙ l.invariant.2
 
 pub overflow_add-n : goal.overflow_add-n
 overflow_add-n c =
@@ -107,7 +107,7 @@ loop-done-preserved c =
     let g = piece-next a.b.label q.1.1 log l.n (length x) l.done t p e in (
       omega (arith, k),
       piece-room a.b.label q.1.1 log l.n (length x) l.done t p e _ l.invariant.1,
-      same_turn _ p _ x l.done (omega (arith, k)) g (sym c.agree.ensures ∙ not-false _ c.if-not-agree.false) ∙ l.invariant.2,
+      same_turn _ p _ x l.done (omega (arith, k)) g (sym c.agree.ensures ∙ c.if-not-agree.false) ∙ l.invariant.2,
     )
 
 pub returns : goal.returns

@@ -36,7 +36,7 @@ returns-then-not-has_check c =
     let log = joined a.end.0 a.log.now a.waiting.now in
     let l = c.loop-n in
     let sector-at = c.sector_at-s in
-    let z = sym (ap fits sector-at.ensures) ∙ sym c.has_check.ensures ∙ not-true _ c.if-not-has_check.true in
+    let z = sym (ap fits sector-at.ensures) ∙ sym c.has_check.ensures ∙ c.if-not-has_check.true in
     sym (all-stop (checked log) (λ m. fits (at log m)) (λ k m. refl) (a.first.0 + a.count) l.n (omega arith) z) ∙ l.invariant.2
 
 pub loop-n-preserved : goal.loop-n-preserved
@@ -46,7 +46,7 @@ loop-n-preserved c =
     let log = joined a.end.0 a.log.now a.waiting.now in
     let l = c.loop-n in
     let sector-at = c.sector_at-s in
-    let z = sym (ap fits sector-at.ensures) ∙ sym c.has_check.ensures ∙ not-false _ c.if-not-has_check.false in
+    let z = sym (ap fits sector-at.ensures) ∙ sym c.has_check.ensures ∙ c.if-not-has_check.false in
     (omega arith, omega arith, all_turn (checked log) (λ m. fits (at log m)) (λ k m. refl) (a.first.0 + a.count) l.n (omega arith) z ∙ l.invariant.2)
 
 pub returns : goal.returns

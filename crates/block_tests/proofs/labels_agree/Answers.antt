@@ -56,7 +56,7 @@ returns-then-not-has_label c =
     let T = label_test log date of a.b.first.0 a.kind a.b.size score in
     let F = labelled log date of a.b.first.0 a.kind a.b.size score in
     let z : T l.i ≡ false =
-    label-tested log date score _ a.front.now of a.b.first.0 a.kind a.b.size l.i _ g sector-at.ensures has-label.ensures ∙ not-true _ c.if-not-has_label.true in
+    label-tested log date score _ a.front.now of a.b.first.0 a.kind a.b.size l.i _ g sector-at.ensures has-label.ensures ∙ c.if-not-has_label.true in
     sym (all-stop F T (λ k j. refl) of l.i test.true z) ∙ l.invariant.1 date g
     ∙ ap (λ (k : ℕ). labelled log date k a.b.first.0 a.kind a.b.size score k 0) parts-of.ensures
 
@@ -77,7 +77,7 @@ loop-i-preserved c =
           let T = label_test log date of a.b.first.0 a.kind a.b.size score in
           let F = labelled log date of a.b.first.0 a.kind a.b.size score in
           let z : T l.i ≡ true =
-          label-tested log date score _ a.front.now of a.b.first.0 a.kind a.b.size l.i _ g sector-at.ensures has-label.ensures ∙ not-false _ c.if-not-has_label.false in
+          label-tested log date score _ a.front.now of a.b.first.0 a.kind a.b.size l.i _ g sector-at.ensures has-label.ensures ∙ c.if-not-has_label.false in
           all_turn F T (λ k j. refl) of l.i test.true z ∙ l.invariant.1 date g,
     )
 

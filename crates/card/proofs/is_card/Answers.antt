@@ -50,7 +50,7 @@ returns-then-not-is_name c =
     let l = c.loop-at in
     let line_at_lem = c.line_at-place in
     let p = placed s l.at (omega arith) line_at_lem.result line_at_lem.ensures _ _ _ c.in-Line.is in
-    ill-name s (take (l.to - l.from) (drop l.from s)) l.at _ _ _ p.0 p.1 _ c.is_name.ensures (not-true _ c.if-not-is_name.true) ∙ l.invariant.3
+    ill-name s (take (l.to - l.from) (drop l.from s)) l.at _ _ _ p.0 p.1 _ c.is_name.ensures c.if-not-is_name.true ∙ l.invariant.3
 
 pub slice_bounds-is_before-count-in-loop-at : goal.slice_bounds-is_before-count-in-loop-at
 slice_bounds-is_before-count-in-loop-at c =
@@ -87,7 +87,7 @@ returns-then-not-is_before c =
     let is_name = c.is_name in
     let if1 = c.if-not-is_name in
     let p = placed s l.at (omega arith) line_at_lem.result line_at_lem.ensures _ _ _ c.in-Line.is in
-    ill-order s n l.at _ _ _ p.0 p.1 _ is_name.ensures (not-false _ if1.false) _ c.is_before.ensures (not-true _ c.if-not-is_before.true) ∙ l.invariant.3
+    ill-order s n l.at _ _ _ p.0 p.1 _ is_name.ensures (not-false _ if1.false) _ c.is_before.ensures c.if-not-is_before.true ∙ l.invariant.3
 
 pub loop-at-smaller : goal.loop-at-smaller
 loop-at-smaller c =
@@ -109,7 +109,7 @@ loop-at-preserved c =
       p.1.fits,
       omega (arith, p.1.starts),
       omega (arith, p.1.ends, p.1.fits),
-      lawful-on s n l.at _ _ _ p.0 p.1 _ is_name.ensures (not-false _ if1.false) _ c.is_before.ensures (not-false _ c.if-not-is_before.false) ∙ l.invariant.3,
+      lawful-on s n l.at _ _ _ p.0 p.1 _ is_name.ensures (not-false _ if1.false) _ c.is_before.ensures c.if-not-is_before.false ∙ l.invariant.3,
     )
 
 pub returns : goal.returns

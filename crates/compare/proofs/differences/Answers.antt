@@ -16,7 +16,7 @@ pub returns-then-not-are_allowed : goal.returns-then-not-are_allowed
 returns-then-not-are_allowed c =
     let a = c.args in
     c.refused.ensures
-    ∙ log-not-allowed _ (tape a.log.now a.waiting.now) a.x.now a.y.now a.allowance (sym c.are_allowed.ensures ∙ not-true _ c.if-not-are_allowed.true)
+    ∙ log-not-allowed _ (tape a.log.now a.waiting.now) a.x.now a.y.now a.allowance (sym c.are_allowed.ensures ∙ c.if-not-are_allowed.true)
 
 -- test 3 was passed
 lent : (c : tie.Else1) → lent_allowed (length (start c.before).args.log.now) (length (start c.before).args.waiting.now) ≡ true
@@ -32,14 +32,14 @@ returns-then-not-is_directory c =
     let a = c.args in
     c.refused-then-not-is_directory.ensures
     ∙ first-not-allowed _ (tape a.log.now a.waiting.now) a.x.now a.y.now a.allowance (lent TODO.i.before) c.if-allowance-gt-MOST_ALLOWANCE.false
-    (sym c.is_directory.ensures ∙ not-true _ c.if-not-is_directory.true)
+    (sym c.is_directory.ensures ∙ c.if-not-is_directory.true)
 
 pub returns-then-not-is_directory-2 : goal.returns-then-not-is_directory-2
 returns-then-not-is_directory-2 c =
     let a = c.args in
     c.refused-then-not-is_directory-2.ensures
     ∙ second-not-allowed _ (tape a.log.now a.waiting.now) a.x.now a.y.now a.allowance (lent TODO.i.before) c.if-allowance-gt-MOST_ALLOWANCE.false
-    (sym c.is_directory-2.ensures ∙ not-true _ c.if-not-is_directory-2.true)
+    (sym c.is_directory-2.ensures ∙ c.if-not-is_directory-2.true)
 
 -- test 16 was passed
 first-directory : (c : tie.Else3) → directory_allowed (start c.before.before.before.before).args.x.now ≡ true

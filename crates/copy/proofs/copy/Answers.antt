@@ -11,29 +11,29 @@ use Rattle.copy.proofs.copy.Goals as goal
 pub returns-then-not-are_allowed : goal.returns-then-not-are_allowed
 returns-then-not-are_allowed c =
     let a = c.args in
-    log-not-allowed _ (tape a.log.now a.waiting.now) a.date.now a.score.now a.allowance a.second.now _ c.are_allowed.ensures (not-true _ c.if-not-are_allowed.true)
+    log-not-allowed _ (tape a.log.now a.waiting.now) a.date.now a.score.now a.allowance a.second.now _ c.are_allowed.ensures c.if-not-are_allowed.true
 
 pub returns-then-not-is_date : goal.returns-then-not-is_date
 returns-then-not-is_date c =
     let a = c.args in
-    not-a-date _ (tape a.log.now a.waiting.now) a.date.now a.score.now a.allowance a.second.now _ c.are_allowed.ensures (not-false _ c.if-not-are_allowed.false)
-    _ c.is_date.ensures (not-true _ c.if-not-is_date.true)
+    not-a-date _ (tape a.log.now a.waiting.now) a.date.now a.score.now a.allowance a.second.now _ c.are_allowed.ensures c.if-not-are_allowed.false
+    _ c.is_date.ensures c.if-not-is_date.true
 
 pub returns-then-allowance-gt-MOST_ALLOWANCE : goal.returns-then-allowance-gt-MOST_ALLOWANCE
 returns-then-allowance-gt-MOST_ALLOWANCE c =
     let a = c.args in
     allowance_too_large _ (tape a.log.now a.waiting.now) a.date.now a.score.now a.allowance a.second.now _ c.are_allowed.ensures
-    (not-false _ c.if-not-are_allowed.false) _ c.is_date.ensures (not-false _ c.if-not-is_date.false) c.if-allowance-gt-MOST_ALLOWANCE.true
+    c.if-not-are_allowed.false _ c.is_date.ensures c.if-not-is_date.false c.if-allowance-gt-MOST_ALLOWANCE.true
 
 pub returns : goal.returns
 returns c =
     let a = c.args in
     let both = tape a.log.now a.waiting.now in
     let u = c.border-end.result.0 in
-    tests_passed _ both a.date.now a.score.now a.allowance a.second.now _ c.are_allowed.ensures (not-false _ c.if-not-are_allowed.false)
-    _ c.is_date.ensures (not-false _ c.if-not-is_date.false) c.if-allowance-gt-MOST_ALLOWANCE.false _
+    tests_passed _ both a.date.now a.score.now a.allowance a.second.now _ c.are_allowed.ensures c.if-not-are_allowed.false
+    _ c.is_date.ensures c.if-not-is_date.false c.if-allowance-gt-MOST_ALLOWANCE.false _
     (c.copy_root.ensures ∙ root_alike (joined u a.log.now a.waiting.now) both c.border-end.ensures.1 a.date.now a.score.now a.allowance a.second.now)
 
 pub copy_root-requires : goal.copy_root-requires
 copy_root-requires c =
-    (c.border-end.ensures.0, search rules, date-length _ (sym c.is_date.ensures ∙ not-false _ c.if-not-is_date.false))
+    (c.border-end.ensures.0, search rules, date-length _ (sym c.is_date.ensures ∙ c.if-not-is_date.false))

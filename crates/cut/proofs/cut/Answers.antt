@@ -9,19 +9,19 @@ use Rattle.cut.proofs.cut.Goals as goal
 pub returns-then-not-lawful : goal.returns-then-not-lawful
 returns-then-not-lawful c =
     let a = c.args in
-    cut_unlawful a.kind a.block.now (sym c.is_lawful-lawful.ensures ∙ not-true _ c.if-not-lawful.true)
+    cut_unlawful a.kind a.block.now (sym c.is_lawful-lawful.ensures ∙ c.if-not-lawful.true)
 
 pub returns-then-not-whole_units : goal.returns-then-not-whole_units
 returns-then-not-whole_units c = let args = c.args in
     let is_lawful = c.is_lawful-lawful in
     let a = args in
-    cut_ragged a.kind a.block.now (sym is_lawful.ensures ∙ not-false _ c.if-not-lawful.false) (sym c.is_whole-whole_units.ensures ∙ not-true _ c.if-not-whole_units.true)
+    cut_ragged a.kind a.block.now (sym is_lawful.ensures ∙ c.if-not-lawful.false) (sym c.is_whole-whole_units.ensures ∙ c.if-not-whole_units.true)
 
 pub cut_scores-requires : goal.cut_scores-requires
 cut_scores-requires c =
     let a = c.args in
     ap (λ (u : Bytes). whole_units u (length a.block.now)) (sym (unit_pointer a.kind (sym c.is_pointer.ensures ∙ c.if-is_pointer.true)))
-    ∙ (sym c.is_whole-whole_units.ensures ∙ not-false _ c.if-not-whole_units.false)
+    ∙ (sym c.is_whole-whole_units.ensures ∙ c.if-not-whole_units.false)
 
 pub returns-then-is_pointer : goal.returns-then-is_pointer
 returns-then-is_pointer c = let args = c.args in

@@ -21,14 +21,14 @@ returns-then-not-is_zero_score c =
     let a = c.args in
     let l = c.loop-n in
     cut_stop zero_score a.b.now 20 l.n length-zero-score l.invariant (omega arith)
-    (cut_test zero_score a.b.now 20 l.n length-zero-score l.invariant (omega arith) c.is_zero_score.result false c.is_zero_score.ensures (not-true _ c.if-not-is_zero_score.true))
+    (cut_test zero_score a.b.now 20 l.n length-zero-score l.invariant (omega arith) c.is_zero_score.result false c.is_zero_score.ensures c.if-not-is_zero_score.true)
 
 pub loop-n-preserved : goal.loop-n-preserved
 loop-n-preserved c =
     let a = c.args in
     let l = c.loop-n in
     cut_again zero_score a.b.now 20 l.n length-zero-score l.invariant (omega arith) (omega arith)
-    (cut_test zero_score a.b.now 20 l.n length-zero-score l.invariant (omega arith) c.is_zero_score.result true c.is_zero_score.ensures (not-false _ c.if-not-is_zero_score.false))
+    (cut_test zero_score a.b.now 20 l.n length-zero-score l.invariant (omega arith) c.is_zero_score.result true c.is_zero_score.ensures c.if-not-is_zero_score.false)
 
 pub returns : goal.returns
 returns c =

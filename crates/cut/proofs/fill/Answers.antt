@@ -17,7 +17,7 @@ pub fill_scores-requires : goal.fill_scores-requires
 fill_scores-requires c = let args = c.args in
     let given = c.requires in
     let a = args in
-    ap (λ (u : Bytes). whole_units u (length a.d.now)) (sym (unit_pointer a.kind (sym c.is_pointer.ensures ∙ not-false _ c.if-not-is_pointer.false))) ∙ given
+    ap (λ (u : Bytes). whole_units u (length a.d.now)) (sym (unit_pointer a.kind (sym c.is_pointer.ensures ∙ c.if-not-is_pointer.false))) ∙ given
 
 pub returns : goal.returns
 returns c = let args = c.args in

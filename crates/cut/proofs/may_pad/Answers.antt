@@ -18,11 +18,11 @@ returns-then-size-target c =
 pub returns-then-not-is_whole : goal.returns-then-not-is_whole
 returns-then-not-is_whole c =
     let a = c.args in
-    pad_ragged (unit_of a.kind) a.size a.len a.target c.if-target-len.false c.if-size-target.false (sym c.is_whole.ensures ∙ not-true _ c.if-not-is_whole.true)
+    pad_ragged (unit_of a.kind) a.size a.len a.target c.if-target-len.false c.if-size-target.false (sym c.is_whole.ensures ∙ c.if-not-is_whole.true)
 
 pub returns : goal.returns
 returns c = let args = c.args in
     let if1 = c.if-target-len in
     let if2 = c.if-size-target in
     let a = args in
-    c.is_whole-2.ensures ∙ pad_units (unit_of a.kind) a.size a.len a.target if1.false if2.false (sym c.is_whole.ensures ∙ not-false _ c.if-not-is_whole.false)
+    c.is_whole-2.ensures ∙ pad_units (unit_of a.kind) a.size a.len a.target if1.false if2.false (sym c.is_whole.ensures ∙ c.if-not-is_whole.false)

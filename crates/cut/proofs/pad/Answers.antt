@@ -11,18 +11,18 @@ use Rattle.cut.proofs.pad.Goals as goal
 pub returns-then-not-lawful_type : goal.returns-then-not-lawful_type
 returns-then-not-lawful_type c =
     let a = c.args in
-    pad_unlawful a.kind a.buffer.now a.len a.target (sym c.is_lawful-lawful_type.ensures ∙ not-true _ c.if-not-lawful_type.true)
+    pad_unlawful a.kind a.buffer.now a.len a.target (sym c.is_lawful-lawful_type.ensures ∙ c.if-not-lawful_type.true)
 
 pub returns-then-not-allowed : goal.returns-then-not-allowed
 returns-then-not-allowed c = let args = c.args in
     let is_lawful = c.is_lawful-lawful_type in
     let a = args in
-    pad_refused a.kind a.buffer.now a.len a.target (sym is_lawful.ensures ∙ not-false _ c.if-not-lawful_type.false) (sym c.may_pad-allowed.ensures ∙ not-true _ c.if-not-allowed.true)
+    pad_refused a.kind a.buffer.now a.len a.target (sym is_lawful.ensures ∙ c.if-not-lawful_type.false) (sym c.may_pad-allowed.ensures ∙ c.if-not-allowed.true)
 
 pub slice_bounds-fill-count : goal.slice_bounds-fill-count
 slice_bounds-fill-count c =
     let a = c.args in
-    let h = allowed (unit_of a.kind) (length a.buffer.now) a.len a.target (sym c.may_pad-allowed.ensures ∙ not-false _ c.if-not-allowed.false) in
+    let h = allowed (unit_of a.kind) (length a.buffer.now) a.len a.target (sym c.may_pad-allowed.ensures ∙ c.if-not-allowed.false) in
     omega (arith, h.longer, h.within)
 
 -- TODO no such goal
@@ -42,7 +42,7 @@ slice_bounds-fill-count c =
 pub fill-requires : goal.fill-requires
 fill-requires c =
     let a = c.args in
-    let h = allowed (unit_of a.kind) (length a.buffer.now) a.len a.target (sym c.may_pad-allowed.ensures ∙ not-false _ c.if-not-allowed.false) in
+    let h = allowed (unit_of a.kind) (length a.buffer.now) a.len a.target (sym c.may_pad-allowed.ensures ∙ c.if-not-allowed.false) in
     part_whole (unit_of a.kind) a.buffer.now a.len a.target h
 
 pub returns : goal.returns

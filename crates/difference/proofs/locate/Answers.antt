@@ -9,12 +9,12 @@ use Rattle.difference.proofs.Rest.{Rest, rest-at-first, none_left, ends_here, go
 use Rattle.difference.proofs.locate.Goals as goal
 
 pub returns-then-not-is_block : goal.returns-then-not-is_block
-returns-then-not-is_block c = let a = c.args in first-refused a.a.now a.b.now (sym TODO.k.is_Block.ensures ∙ not-true _ c.if-not-is_block.true)
+returns-then-not-is_block c = let a = c.args in first-refused a.a.now a.b.now (sym TODO.k.is_Block.ensures ∙ c.if-not-is_block.true)
 
 pub returns-then-not-is_block-2 : goal.returns-then-not-is_block-2
 returns-then-not-is_block-2 c =
     let a = c.args in
-    second-refused a.a.now a.b.now (sym c.is_block-2.ensures ∙ not-true _ c.if-not-is_block-2.true)
+    second-refused a.a.now a.b.now (sym c.is_block-2.ensures ∙ c.if-not-is_block-2.true)
 
 -- the tests that were passed
 first-allowed : (c : tie.After-longer Inv μ) → block_allowed (start c.before.before.before.before).args.a.now ≡ true

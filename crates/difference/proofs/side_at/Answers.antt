@@ -19,19 +19,19 @@ forty x y k = ap (λ (n : ℕ). same (take n x) (take n y)) (add-sub_cancel_left
 pub returns-then-second : goal.returns-then-second
 returns-then-second c =
     let a = c.args in
-    only-second (entry_at a.a.now a.i) (entry_at a.b.now a.i) c.is_active.ensures c.is_active-second.ensures (not-true _ c.if-not-is_active.true) c.if-second.true
+    only-second (entry_at a.a.now a.i) (entry_at a.b.now a.i) c.is_active.ensures c.is_active-second.ensures c.if-not-is_active.true c.if-second.true
 
 pub returns-then-not-is_active : goal.returns-then-not-is_active
 returns-then-not-is_active c =
     let a = c.args in
-    no_active (entry_at a.a.now a.i) (entry_at a.b.now a.i) c.is_active.ensures c.is_active-second.ensures (not-true _ c.if-not-is_active.true)
+    no_active (entry_at a.a.now a.i) (entry_at a.b.now a.i) c.is_active.ensures c.is_active-second.ensures c.if-not-is_active.true
     c.if-second.false
 
 pub returns-then-not-second : goal.returns-then-not-second
 returns-then-not-second c =
     let a = c.args in
-    only-first (entry_at a.a.now a.i) (entry_at a.b.now a.i) c.is_active.ensures c.is_active-second.ensures (not-false _ c.if-not-is_active.false)
-    (not-true _ c.if-not-second.true)
+    only-first (entry_at a.a.now a.i) (entry_at a.b.now a.i) c.is_active.ensures c.is_active-second.ensures c.if-not-is_active.false
+    c.if-not-second.true
 
 -- TODO no such goal
 -- first-whole : tie.Need-slice-bounds-equal-end

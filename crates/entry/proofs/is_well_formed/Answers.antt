@@ -34,18 +34,18 @@ returns-then-not-e c =
     let e = c.args.e in
     let d = ⊎_elim (λ w. entries-whole e.directory e.dsize w.0.taken (omega (arith, w.2.left))) (λ w. entries_none e.directory e.dsize w.left) c.if-e.branch in
     flagged e c.if-e-lt40.false c.if-e-gt-LONGEST.false c.if-e-lt1.false
-    c.if-e-gt-LONGEST-2.false d (not-true _ c.if-not-e.true)
+    c.if-e-gt-LONGEST-2.false d c.if-not-e.true
 
 pub returns-then-not-e-2 : goal.returns-then-not-e-2
 returns-then-not-e-2 c =
     let e = c.args.e in
     let d = ⊎_elim (λ w. entries-whole e.directory e.dsize w.0.taken (omega (arith, w.2.left))) (λ w. entries_none e.directory e.dsize w.left) c.if-e.branch in
     unclean e c.if-e-lt40.false c.if-e-gt-LONGEST.false c.if-e-lt1.false
-    c.if-e-gt-LONGEST-2.false d (not-false _ c.if-not-e.false) (not-true _ c.if-not-e-2.true)
+    c.if-e-gt-LONGEST-2.false d c.if-not-e.false c.if-not-e-2.true
 
 pub returns : goal.returns
 returns c = let if7 = c.if-not-e in
     let e = c.args.e in
     let d = ⊎_elim (λ w. entries-whole e.directory e.dsize w.0.taken (omega (arith, w.2.left))) (λ w. entries_none e.directory e.dsize w.left) c.if-e.branch in
     c.holds.ensures ∙ in_room e c.if-e-lt40.false c.if-e-gt-LONGEST.false c.if-e-lt1.false
-    c.if-e-gt-LONGEST-2.false d (not-false _ if7.false) (not-false _ c.if-not-e-2.false)
+    c.if-e-gt-LONGEST-2.false d (not-false _ if7.false) c.if-not-e-2.false

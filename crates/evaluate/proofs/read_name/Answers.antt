@@ -10,9 +10,9 @@ returns-then-text-at c = let a = c.args in no_word_left a.card.now a.text.now a.
 pub returns-then-not-is_name : goal.returns-then-not-is_name
 returns-then-not-is_name c =
     let a = c.args in
-    not-a-name a.card.now a.text.now a.at (omega arith) c.byte_from-end.ensures.0 c.is_name.ensures (not-true _ c.if-not-is_name.true)
+    not-a-name a.card.now a.text.now a.at (omega arith) c.byte_from-end.ensures.0 c.is_name.ensures c.if-not-is_name.true
 
 pub returns : goal.returns
 returns c =
     let a = c.args in
-    is-a-name a.card.now a.text.now a.at (omega arith) c.byte_from-end.ensures.0 c.is_name.ensures (not-false _ c.if-not-is_name.false) c.value_in.ensures
+    is-a-name a.card.now a.text.now a.at (omega arith) c.byte_from-end.ensures.0 c.is_name.ensures c.if-not-is_name.false c.value_in.ensures

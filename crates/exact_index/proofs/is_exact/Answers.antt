@@ -22,7 +22,7 @@ returns-then-not-leads_at c = let args = c.args in
     let l = c.loop-n in
     let a = args in
     let both = joined a.end.0 a.log.now a.waiting.now in
-    pass_fails both a.index.now l.n _ c.loop-n-test.true _ c.leads_at.ensures l.invariant.2 (not-true _ c.if-not-leads_at.true)
+    pass_fails both a.index.now l.n _ c.loop-n-test.true _ c.leads_at.ensures l.invariant.2 c.if-not-leads_at.true
 
 pub loop-n-preserved : goal.loop-n-preserved
 loop-n-preserved c = let args = c.args in
@@ -32,7 +32,7 @@ loop-n-preserved c = let args = c.args in
     let both = joined a.end.0 a.log.now a.waiting.now in (
       omega (arith, loop-test.true),
       l.invariant.1,
-      pass_on both a.index.now l.n _ loop-test.true _ c.leads_at.ensures l.invariant.2 (not-false _ c.if-not-leads_at.false),
+      pass_on both a.index.now l.n _ loop-test.true _ c.leads_at.ensures l.invariant.2 c.if-not-leads_at.false,
     )
 
 pub returns : goal.returns

@@ -9,7 +9,7 @@ pub returns-then-not-names : goal.returns-then-not-names
 returns-then-not-names c =
     let a = c.args in
     let log = joined a.end.0 a.log.now a.waiting.now in
-    not_named log a.index.now a.kind a.score.now a.p _ c.names.ensures (not-true _ c.if-not-names.true)
+    not_named log a.index.now a.kind a.score.now a.p _ c.names.ensures c.if-not-names.true
 
 pub returns-then-end-waiting : goal.returns-then-end-waiting
 returns-then-end-waiting c =

@@ -9,4 +9,4 @@ returns-in-New c =
 pub returns-in_default : goal.returns-in_default
 returns-in_default c =
     let a = c.args in
-    entered-none a.stored a.score.now a.index.now a.kind c.in_default.keys2
+    entered-none a.stored a.score.now a.index.now a.kind c.in_default.in_default-own.keys2

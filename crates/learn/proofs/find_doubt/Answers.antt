@@ -14,4 +14,4 @@ returns-in-NotKnown c =
 pub returns : goal.returns
 returns c =
     doubt_clear _ c.why_absent-why.result c.why_absent-why.ensures
-    (λ n q. let y : Nowhere ≡ At n = nowhere c.why_absent-why.result c.in_default.keys2 ∙ ap told q in let z : ◌≡◌ {A = ℕ} 0 1 = cc in absurd (omega arith))
+    (λ n q. let y : Nowhere ≡ At n = nowhere c.why_absent-why.result c.in_default.in_default-own.keys2 ∙ ap told q in let z : ◌≡◌ {A = ℕ} 0 1 = cc in absurd (omega arith))

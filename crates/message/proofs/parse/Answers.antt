@@ -27,4 +27,4 @@ unfolding request_of
 returns-in-16 c = rw c.in-16.is c.exactly-in-16.ensures
 
 pub returns-in_default : goal.returns-in_default
-returns-in_default c = let m = c.in_default.rest in unknown _ m.0.0.0.0.0.1 m.0.0.0.0.1 m.0.0.0.1 m.0.0.1 m.0.1 m.1
+returns-in_default c = let m = c.in_default.in_default-own.rest in unknown _ m.0.0.0.0.0.1 m.0.0.0.0.1 m.0.0.0.1 m.0.0.1 m.0.1 m.1

@@ -7,8 +7,8 @@ pub returns-then-m-ne28 : goal.returns-then-m-ne28
 returns-then-m-ne28 c = read-ill _ c.if-m-ne28.true
 
 pub returns-then-not-is_zero : goal.returns-then-not-is_zero
-returns-then-not-is_zero c = read-padded _ c.if-m-ne28.false _ c.is_zero.ensures (not-true _ c.if-not-is_zero.true)
+returns-then-not-is_zero c = read-padded _ c.if-m-ne28.false _ c.is_zero.ensures c.if-not-is_zero.true
 
 pub returns : goal.returns
 returns c =
-    read-good _ c.if-m-ne28.false _ c.is_zero.ensures (not-false _ c.if-not-is_zero.false) _ c.be_number.ensures
+    read-good _ c.if-m-ne28.false _ c.is_zero.ensures c.if-not-is_zero.false _ c.be_number.ensures

@@ -75,7 +75,7 @@ returns-in-Sync c =
 pub returns-in_default : goal.returns-in_default
 returns-in_default c =
     let parse = c.parse-request in
-    let match = c.in_default in
+    let match = c.in_default.in_default-own in
     let hand_on = c.hand_on in
     let a = c.args in
     let p = passed a.session a.message.now a.date.now (length a.log.now) (length a.waiting.now) (length a.reply.now) c.requires in

@@ -22,7 +22,7 @@ pub returns-then-not-is_lawful : goal.returns-then-not-is_lawful
 returns-then-not-is_lawful c =
     let a = c.args in
     read_as a.message.now a.index.now (beside a.log.now a.waiting.now) _ _ c.tag_of-tag.ensures a.kind a.count _ _ refl
-    (c.refuse.ensures _ _ ∙ read-kind _ _ _ _ _ _ _ _ c.is_lawful.ensures (not-true _ c.if-not-is_lawful.true))
+    (c.refuse.ensures _ _ ∙ read-kind _ _ _ _ _ _ _ _ c.is_lawful.ensures c.if-not-is_lawful.true)
 
 pub score_of-score-requires : goal.score_of-score-requires
 score_of-score-requires c =

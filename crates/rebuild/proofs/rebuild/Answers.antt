@@ -5,7 +5,7 @@ use Rattle.rebuild.proofs.rebuild.Goals as goal
 pub returns-then-not-is_allowed : goal.returns-then-not-is_allowed
 returns-then-not-is_allowed c =
     let a = c.args in
-    rebuild_refused a.log.now a.index.now _ c.is_allowed.ensures (not-true _ c.if-not-is_allowed.true)
+    rebuild_refused a.log.now a.index.now _ c.is_allowed.ensures c.if-not-is_allowed.true
 
 pub returns : goal.returns
 returns c = let args = c.args in

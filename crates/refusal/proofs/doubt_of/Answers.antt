@@ -7,4 +7,4 @@ pub returns-in-NotKnown : goal.returns-in-NotKnown
 returns-in-NotKnown c = sym (ap doubt_of c.in-NotKnown.is)
 
 pub returns-in-Frame : goal.returns-in-Frame
-returns-in-Frame c = nowhere c.args.why c.in-Frame.keys2
+returns-in-Frame c = nowhere c.args.why c.in-Frame.in-Frame-own.keys2

@@ -12,7 +12,7 @@ returns-then-buffer-lt128 c =
 pub returns-then-not-is_allowed : goal.returns-then-not-is_allowed
 returns-then-not-is_allowed c =
     let a = c.args in
-    report_log a.log.now a.buffer.now (omega (arith, c.if-buffer-lt128.false)) _ c.is_allowed.ensures (not-true _ c.if-not-is_allowed.true)
+    report_log a.log.now a.buffer.now (omega (arith, c.if-buffer-lt128.false)) _ c.is_allowed.ensures c.if-not-is_allowed.true
 
 pub scan-s-requires : goal.scan-s-requires
 scan-s-requires c = c.used_part-end.ensures
@@ -22,7 +22,7 @@ write_text-requires c =
     let a = c.args in
     let g =
     report_room a.log.now a.buffer.now (omega (arith, c.if-buffer-lt128.false)) _ c.is_allowed.ensures
-    c.used_part-end.result.0 c.scan-s.result (not-false _ c.if-not-is_allowed.false) c.used_part-end.ensures c.scan-s.ensures in
+    c.used_part-end.result.0 c.scan-s.result c.if-not-is_allowed.false c.used_part-end.ensures c.scan-s.ensures in
     (g.0, omega (arith, g.1, g.2), omega (arith, g.2), g.3, g.4)
 
 pub returns : goal.returns

@@ -14,6 +14,6 @@ returns-in-2 c = rw c.in-2.is c.maj.ensures
 
 pub returns-in_default : goal.returns-in_default
 returns-in_default c =
-    let m = c.in_default.rest in
+    let m = c.in_default.in_default-own.rest in
     let a = c.args in
     c.parity-in_default.ensures ∙ sym (from-three (λ q. f_of q a.x a.y a.z) _ (λ n. refl) _ m.0.0.1 m.0.1 m.1)

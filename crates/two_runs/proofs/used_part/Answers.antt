@@ -20,7 +20,7 @@ returns-then-not-is_zero c =
     let sector-of = c.sector_of in
     let log = a.log.now in
     let n = l.n in
-    let z = sym (ap zeros sector-of.ensures) ∙ sym c.is_zero.ensures ∙ not-true _ c.if-not-is_zero.true in
+    let z = sym (ap zeros sector-of.ensures) ∙ sym c.is_zero.ensures ∙ c.if-not-is_zero.true in
     sym (used-last log n (omega arith) ∙ ap (λ (b : Bool). cond b (used_of log (n - 1)) n) z) ∙ l.invariant.1
 
 pub loop-n-preserved : goal.loop-n-preserved
@@ -30,7 +30,7 @@ loop-n-preserved c =
     let sector-of = c.sector_of in
     let log = a.log.now in
     let n = l.n in
-    let z = sym (ap zeros sector-of.ensures) ∙ sym c.is_zero.ensures ∙ not-false _ c.if-not-is_zero.false in
+    let z = sym (ap zeros sector-of.ensures) ∙ sym c.is_zero.ensures ∙ c.if-not-is_zero.false in
     (omega arith, sym (used-last log n (omega arith) ∙ ap (λ (b : Bool). cond b (used_of log (n - 1)) n) z) ∙ l.invariant.1)
 
 pub returns : goal.returns

@@ -23,7 +23,7 @@ root_bytes-root-requires c =
 
 pub returns-then-not-is_root : goal.returns-then-not-is_root
 returns-then-not-is_root c =
-    ill-formed-root (found TODO.r.before.before) c.root_bytes-root.ensures c.is_root.ensures (not-true _ c.if-not-is_root.true)
+    ill-formed-root (found TODO.r.before.before) c.root_bytes-root.ensures c.is_root.ensures c.if-not-is_root.true
 
 pub overflow_sub-left : goal.overflow_sub-left
 overflow_sub-left c = omega (arith, (found TODO.r.before.before).some_left)
@@ -31,4 +31,4 @@ overflow_sub-left c = omega (arith, (found TODO.r.before.before).some_left)
 pub returns : goal.returns
 returns c =
     rw c.one_more.ensures
-    (root-found (found TODO.r.before.before) c.root_bytes-root.ensures c.is_root.ensures (not-false _ c.if-not-is_root.false) _ c.walk_top.ensures.1)
+    (root-found (found TODO.r.before.before) c.root_bytes-root.ensures c.is_root.ensures c.if-not-is_root.false _ c.walk_top.ensures.1)
