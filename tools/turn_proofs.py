@@ -264,7 +264,8 @@ class Function:
             else:
                 body += f" -- TODO clauses {names}"
                 self.todo += 1
-        return f"pub {new} : goal.{new}\n{unfolding}{new} c ={body}"
+        params = " ".join(p for p in head.group(1).split() if p != "κs")
+        return f"pub {new} : goal.{new}\n{unfolding}{new} {params} ={body}"
 
 
 def main(names, crate):

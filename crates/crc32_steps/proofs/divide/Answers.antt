@@ -17,7 +17,7 @@ loop-j-preserved c =
     (omega arith, λ b e. digit_beside a.t.now b a.x l.j a.c l.r _ e (omega arith) (omega arith) (omega arith) (l.invariant.1 b e))
 
 pub returns : goal.returns
-returns c =
+returns c b e =
     let l = c.loop-j in
     let z : l.j ≡ 0 = omega arith in
     let a = c.args in
