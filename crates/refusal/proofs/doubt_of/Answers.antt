@@ -5,6 +5,3 @@ use Rattle.refusal.proofs.doubt_of.Goals as goal
 
 pub returns-in-NotKnown : goal.returns-in-NotKnown
 returns-in-NotKnown c = sym (ap doubt_of c.in-NotKnown.is)
-
-pub returns-in-Frame : goal.returns-in-Frame
-returns-in-Frame c = nowhere c.args.why c.in-Frame.in-Frame-own.keys2
