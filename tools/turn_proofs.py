@@ -79,6 +79,22 @@ def final_tuple(body):
     return None
 
 
+def clause_names():
+    """The names of the `ensures` and `requires` of each function, by its path."""
+    out = {}
+    for crate in os.listdir("crates"):
+        for folder, _, files in os.walk(f"crates/{crate}/src"):
+            for file in files:
+                text = open(f"{folder}/{file}", encoding="utf-8").read()
+                for m in re.finditer(r"\bfn (\w+)[^;{]*?\)[^;{]*?((?:\n    (?:requires|ensures) [^\n]*(?:\n        [^\n]*)*)+)", text):
+                    names = {k: re.findall(rf"\n    {k} (\w+) \{{", m.group(2)) for k in ("ensures", "requires")}
+                    out[f"{crate}::{m.group(1)}"] = names
+    return out
+
+
+CLAUSES = {}
+
+
 class Function:
     def __init__(self, crate, path, names):
         self.crate, self.path, self.n = crate, path, names
@@ -195,6 +211,23 @@ class Function:
         body = re.sub(rf"(?<![^\s(){{}},;\[\]])({names})((?:\.{W})*)(?![^\s(){{}}.;,\[\]])", path, body)
         return body
 
+    def named(self, body, chain):
+        """A clause of a call goes by its name."""
+        bound = dict(re.findall(rf"let ({W}) = (c\.{W}(?:\.ensures)?) in", body))
+        for p in chain:
+            names = CLAUSES.get(p[3] or "", {}).get("ensures", [])
+            if len(names) < 2:
+                continue
+            step = "c." + p[2][1]
+            whole = [step + ".ensures"] + [n + ".ensures" for n, to in bound.items() if to == step] + [n for n, to in bound.items() if to == step + ".ensures"]
+            for w in whole:
+                body = re.sub(rf"(?<![^\s(){{}},;\[\]]){re.escape(w)}\.(\d+)", lambda m: f"{w}.{names[int(m.group(1))]}" if int(m.group(1)) < len(names) else m.group(0), body)
+        for n, to in bound.items():
+            if to.startswith("c.if-not-"):
+                body = re.sub(rf"\(not-(?:true|false) _ ({re.escape(n)}\.(?:true|false))\)", r"\1", body)
+                body = re.sub(rf"not-(?:true|false) _ ({re.escape(n)}\.(?:true|false))", r"\1", body)
+        return body
+
     def invariant(self, text):
         """A loop's invariant or measure."""
         m = re.match(rf"abbrev (?:pub )?({W}) : tie\.({W})\n(?:(unfolding [^\n]*)\n)?\1((?: {W})*?) =", text)
@@ -224,7 +257,7 @@ class Function:
         return f"abbrev pub {name} : goal.{name}\n{unf}{name} l ={body}"
 
     def answer(self, text):
-        m = re.match(rf"({W}) : tie\.Need-({W})", text)
+        m = re.match(rf"({W}) :\s+tie\.Need-({W})", text)
         if not m:
             return None
         key = plain(m.group(2))
@@ -253,6 +286,7 @@ class Function:
         new = self.n["needs"][at][1]
         body = body.replace("\u2032", "'")
         body = self.turn(body, self.n["asked_at"][at][0])
+        body = self.named(body, self.chain(self.n["asked_at"][at][0]))
         # The test of a negation is told of what it negates.
         body = re.sub(rf"\(not-(?:true|false) _ (c\.if-not-{W}(?:\.{W})*)\)", r"\1", body)
         body = re.sub(rf"not-(?:true|false) _ (c\.if-not-{W}(?:\.{W})*)", r"\1", body)
@@ -270,6 +304,7 @@ class Function:
 
 def main(names, crate):
     listed = json.load(open(names))
+    CLAUSES.update(clause_names())
     total = 0
     for key, of in listed.items():
         m = re.match(r"Rattle-(\w+)-proofs\.(.*)\.Lts$", key)

@@ -5,15 +5,10 @@ use lib.ListN.{length, drop}
 use borrow.Author.Tests.{not-true, not-false}
 use Rattle.antigen.specs.Name.{letters_and_digits}
 use Rattle.antigen.proofs.Names.{letters-on, letters-stop, letters-end}
-use borrow.Author.Rules.{rules}
 use Rattle.antigen.proofs.are_letters_and_digits.Goals as goal
 
 pub loop-i-init : goal.loop-i-init
 loop-i-init c = (omega arith, refl)
-
-shared-slice-read-is-letter-or-digit :
-    tie.Need-shared-slice-read-is-letter-or-digit invariant-loop decreases-loop
-shared-slice-read-is-letter-or-digit c = search rules
 
 pub returns-then-not-is_letter_or_digit : goal.returns-then-not-is_letter_or_digit
 returns-then-not-is_letter_or_digit c =

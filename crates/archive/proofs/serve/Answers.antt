@@ -30,7 +30,7 @@ returns-then-not-are_allowed c = let are-allowed = c.are_allowed in
     let is_framed = c.is_framed in
     let a = args in
     let L = beside a.log.now a.waiting.now in
-    step-log _ a.message.now (some a.date.now) a.index.now L _ _ is_framed.ensures (not-false _ if1.false) if2.false _ are-allowed.ensures c.if-not-are_allowed.true
+    step-log _ a.message.now (some a.date.now) a.index.now L _ _ is_framed.ensures if1.false if2.false _ are-allowed.ensures c.if-not-are_allowed.true
     _ (c.refuse_silently-then-not-are_allowed.ensures _ _ a.reply.now)
 
 pub returns-then-not-is_date : goal.returns-then-not-is_date
@@ -42,7 +42,7 @@ returns-then-not-is_date c = let are-allowed = c.are_allowed in
     let is_framed = c.is_framed in
     let a = args in
     let L = beside a.log.now a.waiting.now in
-    step_in _ a.message.now (some a.date.now) a.index.now L _ _ is_framed.ensures (not-false _ if1.false) if2.false _ are-allowed.ensures (not-false _ if3.false) _ _
+    step_in _ a.message.now (some a.date.now) a.index.now L _ _ is_framed.ensures if1.false if2.false _ are-allowed.ensures if3.false _ _
     c.in-Fresh.is
     (fresh-undated a.message.now a.date.now a.index.now L _ _ c.is_date.ensures c.if-not-is_date.true _ _
     (c.refuse_silently-then-not-is_date.ensures _ _ a.reply.now) c.in-Fresh.is)
@@ -51,7 +51,7 @@ pub serve_fresh-requires : goal.serve_fresh-requires
 serve_fresh-requires c = let if1 = c.if-not-is_framed in
     let if2 = c.if-reply-lt-REPLY_ROOM in
     let is_framed = c.is_framed in
-    ((framed-head _ (sym is_framed.ensures ∙ not-false _ if1.false)).0, if2.false)
+    ((framed-head _ (sym is_framed.ensures ∙ if1.false)).0, if2.false)
 
 pub returns-then-not-is_date-2 : goal.returns-then-not-is_date-2
 returns-then-not-is_date-2 c = let are-allowed = c.are_allowed in
@@ -62,7 +62,7 @@ returns-then-not-is_date-2 c = let are-allowed = c.are_allowed in
     let is_framed = c.is_framed in
     let a = args in
     let L = beside a.log.now a.waiting.now in
-    step_in _ a.message.now (some a.date.now) a.index.now L _ _ is_framed.ensures (not-false _ if1.false) if2.false _ are-allowed.ensures (not-false _ if3.false) _ _
+    step_in _ a.message.now (some a.date.now) a.index.now L _ _ is_framed.ensures if1.false if2.false _ are-allowed.ensures if3.false _ _
     c.in-Greeted.is
     (greeted-undated a.message.now a.date.now a.index.now L _ _ c.is_date-in-Greeted.ensures c.if-not-is_date-2.true _ _
     (c.refuse_silently-then-not-is_date-2.ensures _ _ a.reply.now) c.in-Greeted.is)
@@ -75,7 +75,7 @@ serve_greeted-requires c = let args =
     let if5 = c.if-not-is_date-2 in
     let is-date2 = c.is_date-in-Greeted in
     let is_framed = c.is_framed in
-    ((framed-head _ (sym is_framed.ensures ∙ not-false _ if1.false)).0, if2.false, date-length args.date.now (sym is-date2.ensures ∙ not-false _ if5.false))
+    ((framed-head _ (sym is_framed.ensures ∙ if1.false)).0, if2.false, date-length args.date.now (sym is-date2.ensures ∙ if5.false))
 
 pub returns-in-Closed : goal.returns-in-Closed
 returns-in-Closed c = let are-allowed = c.are_allowed in
@@ -86,7 +86,7 @@ returns-in-Closed c = let are-allowed = c.are_allowed in
     let is_framed = c.is_framed in
     let a = args in
     let L = beside a.log.now a.waiting.now in
-    step_in _ a.message.now (some a.date.now) a.index.now L _ _ is_framed.ensures (not-false _ if1.false) if2.false _ are-allowed.ensures (not-false _ if3.false) _ _
+    step_in _ a.message.now (some a.date.now) a.index.now L _ _ is_framed.ensures if1.false if2.false _ are-allowed.ensures if3.false _ _
     c.in-Closed.is
     (in_closed a.message.now a.date.now a.index.now L _ _ _ (c.refuse_silently-in-Closed.ensures _ _ a.reply.now) c.in-Closed.is)
 
@@ -102,9 +102,9 @@ returns-else-not-is_date c = let are-allowed = c.are_allowed in
     let serve-fresh = c.serve_fresh in
     let a = args in
     let L = beside a.log.now a.waiting.now in
-    step_in _ a.message.now (some a.date.now) a.index.now L _ _ is_framed.ensures (not-false _ if1.false) if2.false _ are-allowed.ensures (not-false _ if3.false) _ _
+    step_in _ a.message.now (some a.date.now) a.index.now L _ _ is_framed.ensures if1.false if2.false _ are-allowed.ensures if3.false _ _
     c.in-Fresh.is
-    (in_fresh a.message.now a.date.now a.index.now L _ _ is-date.ensures (not-false _ if4.false) _ (serve-fresh.ensures _ _))
+    (in_fresh a.message.now a.date.now a.index.now L _ _ is-date.ensures if4.false _ (serve-fresh.ensures _ _))
 
 pub returns-else-not-is_date-2 : goal.returns-else-not-is_date-2
 returns-else-not-is_date-2 c =
@@ -119,6 +119,6 @@ returns-else-not-is_date-2 c =
     let serve-greeted = c.serve_greeted in
     let a = args in
     let L = beside a.log.now a.waiting.now in
-    step_in _ a.message.now (some a.date.now) a.index.now L _ _ is_framed.ensures (not-false _ if1.false) if2.false _ are-allowed.ensures (not-false _ if3.false) _ _
+    step_in _ a.message.now (some a.date.now) a.index.now L _ _ is_framed.ensures if1.false if2.false _ are-allowed.ensures if3.false _ _
     c.in-Greeted.is
-    (in_greeted a.message.now a.date.now a.index.now L _ _ is-date2.ensures (not-false _ if5.false) _ serve-greeted.ensures)
+    (in_greeted a.message.now a.date.now a.index.now L _ _ is-date2.ensures if5.false _ serve-greeted.ensures)

@@ -51,7 +51,7 @@ returns-then-not-has_label c =
     let tested =
     label-tested log (date_field (at log a.b.first.0)) a.score.now _ a.front.now parts-of.result a.b.first.0 a.kind a.b.size 0 _ (sym q.4)
     (sector-at.ensures ∙ ap (at log) (sym (add-zero a.b.first.0))) has-label.ensures in
-    sym (other_first log a.b a.kind a.score.now parts-of.result _ q.1 q.2.1 parts-of.ensures tested (not-true _ if1.true))
+    sym (other_first log a.b a.kind a.score.now parts-of.result _ q.1 q.2.1 parts-of.ensures tested if1.true)
 
 pub returns-then-not-checks_fit : goal.returns-then-not-checks_fit
 returns-then-not-checks_fit c =
@@ -61,7 +61,7 @@ returns-then-not-checks_fit c =
     let if2 = c.if-not-checks_fit in
     let log = joined a.end.0 a.log.now a.waiting.now in
     sym (all_fails (sector_tests log a.b a.kind a.score.now) 1
-    (ap (λ m. checked log m a.b.first.0) (sym parts-of.ensures) ∙ sym checks-fit.ensures ∙ not-true _ if2.true))
+    (ap (λ m. checked log m a.b.first.0) (sym parts-of.ensures) ∙ sym checks-fit.ensures ∙ if2.true))
 
 pub returns-then-not-labels_agree : goal.returns-then-not-labels_agree
 returns-then-not-labels_agree c =
@@ -71,7 +71,7 @@ returns-then-not-labels_agree c =
     let if3 = c.if-not-labels_agree in
     let log = joined a.end.0 a.log.now a.waiting.now in
     sym (all_fails (sector_tests log a.b a.kind a.score.now) 0
-    (sym (labels-agree.ensures (date_field (at log a.b.first.0)) (sym q.4)) ∙ not-true _ if3.true))
+    (sym (labels-agree.ensures (date_field (at log a.b.first.0)) (sym q.4)) ∙ if3.true))
 
 pub returns-then-not-rest_is_zero : goal.returns-then-not-rest_is_zero
 returns-then-not-rest_is_zero c =
@@ -79,7 +79,7 @@ returns-then-not-rest_is_zero c =
     let rest-is-zero = c.rest_is_zero in
     let if4 = c.if-not-rest_is_zero in
     let log = joined a.end.0 a.log.now a.waiting.now in
-    sym (all_fails (sector_tests log a.b a.kind a.score.now) 2 (sym rest-is-zero.ensures ∙ not-true _ if4.true))
+    sym (all_fails (sector_tests log a.b a.kind a.score.now) 2 (sym rest-is-zero.ensures ∙ if4.true))
 
 pub returns : goal.returns
 returns c =
@@ -100,7 +100,7 @@ returns c =
     let bytes = small-joined a.end.0 a.log.now a.waiting.now q.0 log-small waiting-small in
     equal.ensures ∙ ap (λ (x : Bytes). same x a.score.now) digest.ensures
     ∙ sym (last_decides _
-    (sym (labels-agree.ensures (date_field (at log a.b.first.0)) (sym q.4)) ∙ not-false _ if3.false)
-    (ap (λ m. checked log m a.b.first.0) (sym parts-of.ensures) ∙ sym checks-fit.ensures ∙ not-false _ if2.false)
-    (sym rest-is-zero.ensures ∙ not-false _ if4.false)
+    (sym (labels-agree.ensures (date_field (at log a.b.first.0)) (sym q.4)) ∙ if3.false)
+    (ap (λ m. checked log m a.b.first.0) (sym parts-of.ensures) ∙ sym checks-fit.ensures ∙ if2.false)
+    (sym rest-is-zero.ensures ∙ if4.false)
     (small_bytes log a.b bytes))

@@ -9,7 +9,7 @@ use Rattle.bucket_scan.proofs.lists.Goals as goal
 pub loop-p-init : goal.loop-p-init
 loop-p-init c =
     let a = c.args in
-    (omega (arith, c.bucket_of-b.ensures.1.0), list_starts a.index.now a.score.now a.kind a.first.0 c.bucket_of-b.result c.bucket_of-b.ensures.0)
+    (omega (arith, c.bucket_of-b.ensures.within.0), list_starts a.index.now a.score.now a.kind a.first.0 c.bucket_of-b.result c.bucket_of-b.ensures.places)
 
 pub returns-then-sector_at-first : goal.returns-then-sector_at-first
 returns-then-sector_at-first c = let args = c.args in

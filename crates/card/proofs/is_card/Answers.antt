@@ -87,7 +87,7 @@ returns-then-not-is_before c =
     let is_name = c.is_name in
     let if1 = c.if-not-is_name in
     let p = placed s l.at (omega arith) line_at_lem.result line_at_lem.ensures _ _ _ c.in-Line.is in
-    ill-order s n l.at _ _ _ p.0 p.1 _ is_name.ensures (not-false _ if1.false) _ c.is_before.ensures c.if-not-is_before.true ∙ l.invariant.3
+    ill-order s n l.at _ _ _ p.0 p.1 _ is_name.ensures if1.false _ c.is_before.ensures c.if-not-is_before.true ∙ l.invariant.3
 
 pub loop-at-smaller : goal.loop-at-smaller
 loop-at-smaller c =
@@ -109,7 +109,7 @@ loop-at-preserved c =
       p.1.fits,
       omega (arith, p.1.starts),
       omega (arith, p.1.ends, p.1.fits),
-      lawful-on s n l.at _ _ _ p.0 p.1 _ is_name.ensures (not-false _ if1.false) _ c.is_before.ensures c.if-not-is_before.false ∙ l.invariant.3,
+      lawful-on s n l.at _ _ _ p.0 p.1 _ is_name.ensures if1.false _ c.is_before.ensures c.if-not-is_before.false ∙ l.invariant.3,
     )
 
 pub returns : goal.returns

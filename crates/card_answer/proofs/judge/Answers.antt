@@ -6,11 +6,11 @@ pub returns-then-not-is_card : goal.returns-then-not-is_card
 returns-then-not-is_card c =
     let is-card = c.is_card in
     let if1 = c.if-not-is_card in
-    judged-ill _ _ _ is-card.ensures (not-true _ if1.true)
+    judged-ill _ _ _ is-card.ensures if1.true
 
 pub returns : goal.returns
 returns c =
     let is-card = c.is_card in
     let if1 = c.if-not-is_card in
     let evaluate = c.evaluate in
-    judged_well _ _ _ is-card.ensures (not-false _ if1.false) _ evaluate.ensures
+    judged_well _ _ _ is-card.ensures if1.false _ evaluate.ensures

@@ -50,7 +50,7 @@ second-directory c = sym c.before.is-directory2.ensures ∙ not-false _ c.if4.fa
 
 pub compare_entries-requires : goal.compare_entries-requires
 compare_entries-requires c =
-    (c.border-end.ensures.0, directory-length _ (first-directory TODO.j), directory-length _ (second-directory TODO.k), omega arith, omega (arith, c.if-allowance-gt-MOST_ALLOWANCE.false))
+    (c.border-end.ensures.within, directory-length _ (first-directory TODO.j), directory-length _ (second-directory TODO.k), omega arith, omega (arith, c.if-allowance-gt-MOST_ALLOWANCE.false))
 
 pub returns : goal.returns
 returns c =
@@ -59,4 +59,4 @@ returns c =
     let u = c.border-end.result.0 in
     tests_passed _ both a.x.now a.y.now a.allowance (lent TODO.i.before) c.if-allowance-gt-MOST_ALLOWANCE.false (first-directory TODO.j) (second-directory TODO.k)
     (c.compare_entries.ensures (a.allowance + 1) (omega arith)
-    ∙ entries-alike (joined u a.log.now a.waiting.now) both c.border-end.ensures.1 (a.allowance + 1) 0 a.x.now a.y.now a.allowance)
+    ∙ entries-alike (joined u a.log.now a.waiting.now) both c.border-end.ensures.alike (a.allowance + 1) 0 a.x.now a.y.now a.allowance)

@@ -32,8 +32,8 @@ returns c =
     let u = c.border-end.result.0 in
     tests_passed _ both a.date.now a.score.now a.allowance a.second.now _ c.are_allowed.ensures c.if-not-are_allowed.false
     _ c.is_date.ensures c.if-not-is_date.false c.if-allowance-gt-MOST_ALLOWANCE.false _
-    (c.copy_root.ensures ∙ root_alike (joined u a.log.now a.waiting.now) both c.border-end.ensures.1 a.date.now a.score.now a.allowance a.second.now)
+    (c.copy_root.ensures ∙ root_alike (joined u a.log.now a.waiting.now) both c.border-end.ensures.alike a.date.now a.score.now a.allowance a.second.now)
 
 pub copy_root-requires : goal.copy_root-requires
 copy_root-requires c =
-    (c.border-end.ensures.0, search rules, date-length _ (sym c.is_date.ensures ∙ c.if-not-is_date.false))
+    (c.border-end.ensures.within, search rules, date-length _ (sym c.is_date.ensures ∙ c.if-not-is_date.false))

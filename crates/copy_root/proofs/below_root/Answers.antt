@@ -13,4 +13,4 @@ pub returns : goal.returns
 returns c =
     let w = c.copy_top.ensures in
     let a = c.args in
-    record { within = w.0; exact = well_formed-root (joined a.end.0 a.log.now a.waiting.now) a.date.now a.left a.root.now a.second.now _ c.is_root.ensures c.if-not-is_root.false _ w.1 }
+    record { within = w.within; exact = well_formed-root (joined a.end.0 a.log.now a.waiting.now) a.date.now a.left a.root.now a.second.now _ c.is_root.ensures c.if-not-is_root.false _ w.exact }

@@ -29,7 +29,7 @@ pub keep-requires : goal.keep-requires
 keep-requires c =
     let w = c.below_root-below in
     let a = c.args in
-    let h : w.result.visits + 1 < 2 ^ 64 = omega (arith, (found TODO.k).some_left, w.ensures.0, TODO.f.fits.left) in
+    let h : w.result.visits + 1 < 2 ^ 64 = omega (arith, (found TODO.k).some_left, w.ensures.within, TODO.f.fits.left) in
     (TODO.f.pre.0, in_both a.end.0 a.log.now a.waiting.now TODO.f.pre.0 _ (found TODO.k).in_log, (found TODO.k).not_many, TODO.f.pre.2, h)
 
 pub returns : goal.returns
@@ -40,4 +40,4 @@ returns c = let below_root = c.below_root-below in
     let a = c.args in
     root_kept (joined a.end.0 a.log.now a.waiting.now) a.date.now a.score.now a.left a.second.now _ c.visit-m.ensures _ c.in-Found.is _ x.ensures _ _
     w.ensures.1
-    _ _ c.keep.ensures.1
+    _ _ c.keep.ensures.exact

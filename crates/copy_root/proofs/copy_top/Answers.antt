@@ -30,7 +30,7 @@ pub keep-requires : goal.keep-requires
 keep-requires c =
     let w = c.copy_directory-below in
     let a = c.args in
-    let h : w.result.visits + 1 < 2 ^ 64 = omega (arith, (found TODO.k).some_left, w.ensures.0, TODO.f.fits.left) in
+    let h : w.result.visits + 1 < 2 ^ 64 = omega (arith, (found TODO.k).some_left, w.ensures.within, TODO.f.fits.left) in
     (TODO.f.pre.0, in_both a.end.0 a.log.now a.waiting.now TODO.f.pre.0 _ (found TODO.k).in_log, (found TODO.k).not_many, TODO.f.pre.2, h)
 
 pub returns : goal.returns
@@ -38,5 +38,5 @@ returns c = let copy-directory = c.copy_directory-below in
     let w = copy-directory in
     let a = c.args in
     let q = c.keep.ensures in
-    top_kept (joined a.end.0 a.log.now a.waiting.now) a.date.now a.score.now a.left a.second.now _ c.visit-m.ensures _ c.in-Found.is _ _ w.ensures _ _ q.0
-    q.1 -- TODO clauses ['within', 'exact']
+    top_kept (joined a.end.0 a.log.now a.waiting.now) a.date.now a.score.now a.left a.second.now _ c.visit-m.ensures _ c.in-Found.is _ _ w.ensures _ _ q.count
+    q.exact -- TODO clauses ['within', 'exact']

@@ -30,7 +30,7 @@ returns-then-is_pointer c = let args = c.args in
     let is_lawful = c.is_lawful-lawful in
     let is_whole = c.is_whole-whole_units in
     let a = args in
-    cut_done a.kind a.block.now c.cut_scores.result (sym is_lawful.ensures ∙ not-false _ if1.false) (sym is_whole.ensures ∙ not-false _ if2.false)
+    cut_done a.kind a.block.now c.cut_scores.result (sym is_lawful.ensures ∙ if1.false) (sym is_whole.ensures ∙ if2.false)
     (c.cut_scores.ensures ∙ ap (λ (u : Bytes). cut_length u a.block.now) (sym (unit_pointer a.kind (sym c.is_pointer.ensures ∙ c.if-is_pointer.true))))
 
 pub returns : goal.returns
@@ -40,5 +40,5 @@ returns c = let args = c.args in
     let is_lawful = c.is_lawful-lawful in
     let is_whole = c.is_whole-whole_units in
     let a = args in
-    cut_done a.kind a.block.now c.cut_bytes.result (sym is_lawful.ensures ∙ not-false _ if1.false) (sym is_whole.ensures ∙ not-false _ if2.false)
+    cut_done a.kind a.block.now c.cut_bytes.result (sym is_lawful.ensures ∙ if1.false) (sym is_whole.ensures ∙ if2.false)
     (c.cut_bytes.ensures ∙ ap (λ (u : Bytes). cut_length u a.block.now) (sym (unit_other a.kind (sym c.is_pointer.ensures ∙ c.if-is_pointer.false))))

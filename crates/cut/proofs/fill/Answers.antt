@@ -11,7 +11,7 @@ returns-then-not-is_pointer c = let args = c.args in
     let if1 = c.if-not-is_pointer in
     let is_pointer = c.is_pointer in
     let a = args in
-    filled-bytes a.kind (length a.d.now) _ (sym is_pointer.ensures ∙ not-true _ if1.true) c.clear.ensures
+    filled-bytes a.kind (length a.d.now) _ (sym is_pointer.ensures ∙ if1.true) c.clear.ensures
 
 pub fill_scores-requires : goal.fill_scores-requires
 fill_scores-requires c = let args = c.args in
@@ -25,4 +25,4 @@ returns c = let args = c.args in
     let if1 = c.if-not-is_pointer in
     let is_pointer = c.is_pointer in
     let a = args in
-    filled-scores a.kind (length a.d.now) _ (sym is_pointer.ensures ∙ not-false _ if1.false) fill-scores.ensures
+    filled-scores a.kind (length a.d.now) _ (sym is_pointer.ensures ∙ if1.false) fill-scores.ensures

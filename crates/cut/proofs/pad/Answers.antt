@@ -52,6 +52,6 @@ returns c = let args = c.args in
     let is_lawful = c.is_lawful-lawful_type in
     let may-pad = c.may_pad-allowed in
     let a = args in
-    let h = allowed (unit_of a.kind) (length a.buffer.now) a.len a.target (sym may-pad.ensures ∙ not-false _ if2.false) in
+    let h = allowed (unit_of a.kind) (length a.buffer.now) a.len a.target (sym may-pad.ensures ∙ if2.false) in
     ap (after_pad Done) (part_filled (unit_of a.kind) a.buffer.now a.len a.target h _ c.fill.ensures)
-    ∙ pad_done a.kind a.buffer.now a.len a.target (sym is_lawful.ensures ∙ not-false _ if1.false) (sym may-pad.ensures ∙ not-false _ if2.false)
+    ∙ pad_done a.kind a.buffer.now a.len a.target (sym is_lawful.ensures ∙ if1.false) (sym may-pad.ensures ∙ if2.false)

@@ -48,4 +48,4 @@ returns c = let if7 = c.if-not-e in
     let e = c.args.e in
     let d = ⊎_elim (λ w. entries-whole e.directory e.dsize w.0.taken (omega (arith, w.2.left))) (λ w. entries_none e.directory e.dsize w.left) c.if-e.branch in
     c.holds.ensures ∙ in_room e c.if-e-lt40.false c.if-e-gt-LONGEST.false c.if-e-lt1.false
-    c.if-e-gt-LONGEST-2.false d (not-false _ if7.false) c.if-not-e-2.false
+    c.if-e-gt-LONGEST-2.false d if7.false c.if-not-e-2.false

@@ -19,7 +19,7 @@ returns-then-not-are_allowed c =
     let if1 = c.if-not-are_allowed in
     let both = tape a.log.now a.waiting.now in
     shown a.log.now a.waiting.now a.page.now a.entry.now a.offset _
-    (stops_log _ both a.page.now a.entry.now a.offset _ are-allowed.ensures (not-true _ if1.true))
+    (stops_log _ both a.page.now a.entry.now a.offset _ are-allowed.ensures if1.true)
 
 pub returns-then-not-is_page : goal.returns-then-not-is_page
 returns-then-not-is_page c =
@@ -30,7 +30,7 @@ returns-then-not-is_page c =
     let if2 = c.if-not-is_page in
     let both = tape a.log.now a.waiting.now in
     shown a.log.now a.waiting.now a.page.now a.entry.now a.offset _
-    (stops_page _ both a.page.now a.entry.now a.offset _ are-allowed.ensures (not-false _ if1.false) _ is-page.ensures (not-true _ if2.true))
+    (stops_page _ both a.page.now a.entry.now a.offset _ are-allowed.ensures if1.false _ is-page.ensures if2.true)
 
 pub returns-then-not-is_readable : goal.returns-then-not-is_readable
 returns-then-not-is_readable c =
@@ -43,15 +43,15 @@ returns-then-not-is_readable c =
     let if3 = c.if-not-is_readable in
     let both = tape a.log.now a.waiting.now in
     shown a.log.now a.waiting.now a.page.now a.entry.now a.offset _
-    (stops_entry _ both a.page.now a.entry.now a.offset _ are-allowed.ensures (not-false _ if1.false) _ is-page.ensures (not-false _ if2.false) _
-    is-readable.ensures (not-true _ if3.true))
+    (stops_entry _ both a.page.now a.entry.now a.offset _ are-allowed.ensures if1.false _ is-page.ensures if2.false _
+    is-readable.ensures if3.true)
 
 pub entry_at-e-requires : goal.entry_at-e-requires
 entry_at-e-requires c =
     let a = c.args in
     let is-readable = c.is_readable in
     let if3 = c.if-not-is_readable in
-    omega (arith, readable-length a.entry.now _ is-readable.ensures (not-false _ if3.false))
+    omega (arith, readable-length a.entry.now _ is-readable.ensures if3.false)
 
 pub returns-then-e-offset : goal.returns-then-e-offset
 returns-then-e-offset c =
@@ -66,10 +66,10 @@ returns-then-e-offset c =
     let if4 = c.if-e-offset in
     let both = tape a.log.now a.waiting.now in
     let readable = is-readable.ensures in
-    let yes = not-false _ if3.false in
+    let yes = if3.false in
     let l = readable-length a.entry.now _ readable yes in
     shown a.log.now a.waiting.now a.page.now a.entry.now a.offset _
-    (stops_offset _ both a.page.now a.entry.now a.offset _ are-allowed.ensures (not-false _ if1.false) _ is-page.ensures (not-false _ if2.false) _
+    (stops_offset _ both a.page.now a.entry.now a.offset _ are-allowed.ensures if1.false _ is-page.ensures if2.false _
     readable yes _ (entry_whole a.entry.now _ l entry_at.ensures) if4.true)
 
 -- TODO no such goal
@@ -89,9 +89,9 @@ descend-look-requires c =
     let entry_at = c.entry_at-e in
     let if4 = c.if-e-offset in
     let readable = is-readable.ensures in
-    let yes = not-false _ if3.false in
+    let yes = if3.false in
     let l = readable-length a.entry.now _ readable yes in (
-      border.ensures.0,
+      border.ensures.within,
       opened a.entry.now _ a.offset _ readable yes (entry_whole a.entry.now _ l entry_at.ensures) if4.false,
       simp (length-take, length-drop) (omega (arith, l)),
     )
@@ -120,15 +120,15 @@ run_in-requires c = let are-allowed-here = c.are_allowed in
     let few = lent-sectors (length a.log.now) (length a.waiting.now) _ are-allowed.ensures (not-false _ if1.false) in (
       o.dsize-from,
       o.inside,
-      lies_more _ _ descend.result (few_addressable border.result.0 (length a.log.now) (length a.waiting.now) border.ensures.0 few.0 few.1)
-          descend.ensures.0,
+      lies_more _ _ descend.result (few_addressable border.result.0 (length a.log.now) (length a.waiting.now) border.ensures.within few.0 few.1)
+          descend.ensures.room,
     )
 
 pub split-requires : goal.split-requires
 split-requires c =
     let border = c.border-end in
     let good = TODO.c.before.before.before.before.before.before.before.before.before.before.before.before.before.before.before.before.before.well_formed_lem in
-    omega (arith, border.ensures.0, good.0.0)
+    omega (arith, border.ensures.within, good.0.0)
 
 pub returns : goal.returns
 returns c =
@@ -148,11 +148,11 @@ returns c =
     let waiting = a.waiting.now in
     let e = entry_at.result in
     let readable = is-readable.ensures in
-    let yes = not-false _ if3.false in
+    let yes = if3.false in
     let l = readable-length a.entry.now _ readable yes in
     c.split.ensures
-    ∙ ap (split (512 * border.result.0)) (run_in.ensures ∙ descend.ensures.1 (length a.page.now) a.offset refl)
-    ∙ border_split log waiting border.result.0 border.ensures.0 border.ensures.1 (length a.page.now) e a.offset e.depth (score_of a.entry.now)
+    ∙ ap (split (512 * border.result.0)) (run_in.ensures ∙ descend.ensures.run (length a.page.now) a.offset refl)
+    ∙ border_split log waiting border.result.0 border.ensures.within border.ensures.alike (length a.page.now) e a.offset e.depth (score_of a.entry.now)
     ∙ shown log waiting a.page.now a.entry.now a.offset _
-    (goes_down _ (tape log waiting) a.page.now a.entry.now a.offset _ are-allowed.ensures (not-false _ if1.false) _ is-page.ensures (not-false _ if2.false) _
+    (goes_down _ (tape log waiting) a.page.now a.entry.now a.offset _ are-allowed.ensures if1.false _ is-page.ensures if2.false _
     readable yes _ (entry_whole a.entry.now _ l entry_at.ensures) if4.false)

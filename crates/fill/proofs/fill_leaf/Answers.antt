@@ -25,7 +25,7 @@ read_part-requires c =
     let descend = c.descend-look in
     let short : n.result ≤ length c.args.d.now = omega (arith, n.ensures) in (
       c.requires.0,
-      found_inside descend.result _ descend.ensures.0 c.in-Found.is,
+      found_inside descend.result _ descend.ensures.room c.in-Found.is,
       omega (arith, length-take-le n.result c.args.d.now short, n.ensures, mod-lt c.args.offset c.requires.1.dsize-from, c.requires.1.dsize-to),
     )
 
@@ -37,9 +37,9 @@ returns-in-Found c =
     let a = c.args in
     let log = joined a.end.0 a.log.now a.waiting.now in
     let b = c.in-Found.b in
-    let room = inside_both a.end.0 a.log.now a.waiting.now c.requires.0 b (found_inside descend.result _ descend.ensures.0 c.in-Found.is) in
+    let room = inside_both a.end.0 a.log.now a.waiting.now c.requires.0 b (found_inside descend.result _ descend.ensures.room c.in-Found.is) in
     let short : n.result ≤ length a.d.now = omega (arith, n.ensures) in
-    leaf-written log a.e a.top.now a.offset a.d.now c.requires.1.dsize-from c.requires.3 descend.result descend.ensures.1 b c.in-Found.is room
+    leaf-written log a.e a.top.now a.offset a.d.now c.requires.1.dsize-from c.requires.3 descend.result descend.ensures.run b c.in-Found.is room
     n.result n.ensures _
     (read-part.ensures ∙ ap (λ (x : ℕ). filled x (drop (a.offset % a.e.dsize) (bytes_of log b))) (length-take-le n.result a.d.now short))
 
@@ -48,4 +48,4 @@ returns-in-Refused c =
     let descend = c.descend-look in
     let a = c.args in
     leaf-missing (joined a.end.0 a.log.now a.waiting.now) a.e a.top.now a.offset a.d.now c.requires.1.dsize-from c.requires.3
-    descend.result descend.ensures.1 _ c.in-Refused.is
+    descend.result descend.ensures.run _ c.in-Refused.is

@@ -8,7 +8,7 @@ use Rattle.first_entry.proofs.tells_first.Goals as goal
 pub loop-p-init : goal.loop-p-init
 loop-p-init c =
     let a = c.args in
-    (omega (arith, c.bucket_of-b.ensures.1.0), tell-starts a.index.now a.kind a.score.now a.n.0 c.bucket_of-b.result c.bucket_of-b.ensures.0)
+    (omega (arith, c.bucket_of-b.ensures.within.0), tell-starts a.index.now a.kind a.score.now a.n.0 c.bucket_of-b.result c.bucket_of-b.ensures.places)
 
 pub returns-then-names : goal.returns-then-names
 returns-then-names c =

@@ -17,4 +17,4 @@ pub returns-else-p-b : goal.returns-else-p-b
 returns-else-p-b c =
     let a = c.args in
     let b = c.bucket_of-b in
-    entered-full a.index.now a.score.now a.kind a.first.0 b.result b.ensures.0 _ c.first_free-p.ensures c.if-p-b.false
+    entered-full a.index.now a.score.now a.kind a.first.0 b.result b.ensures.places _ c.first_free-p.ensures c.if-p-b.false

@@ -22,5 +22,5 @@ returns c = let are-allowed = c.are_allowed in
     let is_lawful = c.is_lawful in
     let a = args in
     let border = c.border-end in
-    ask_look a.log.now a.waiting.now a.index.now a.kind a.score.now _ are-allowed.ensures _ border.result.0 _ (not-false _ if1.false) is_lawful.ensures
-    (not-false _ if2.false) border.ensures.1 c.look_up_by.ensures
+    ask_look a.log.now a.waiting.now a.index.now a.kind a.score.now _ are-allowed.ensures _ border.result.0 _ if1.false is_lawful.ensures
+    if2.false border.ensures.alike c.look_up_by.ensures

@@ -12,7 +12,7 @@ loop-p-init c =
     let a = c.args in
     let log = joined a.end.0 a.log.now a.waiting.now in
     let b = c.bucket_of-b in
-    (omega (arith, b.ensures.1.0), hint-starts log a.index.now a.kind a.score.now b.result b.ensures.0)
+    (omega (arith, b.ensures.within.0), hint-starts log a.index.now a.kind a.score.now b.result b.ensures.places)
 
 pub returns-in_default : goal.returns-in_default
 returns-in_default c = let args = c.args in

@@ -24,4 +24,4 @@ returns c = let if1 = c.if-not-names in
     let sector-at = c.sector_at-first in
     let a = c.args in
     let log = joined a.end.0 a.log.now a.waiting.now in
-    checked-there log a.index.now a.kind a.score.now a.p _ _ _ names.ensures (not-false _ if1.false) sector-at.ensures c.sound_as.ensures
+    checked-there log a.index.now a.kind a.score.now a.p _ _ _ names.ensures if1.false sector-at.ensures c.sound_as.ensures

@@ -18,4 +18,4 @@ returns c =
     let packed2 = c.packed-2 in
     let a = c.args in
     serve-done a.session a.message.now a.date.now a.index.now a.log.now a.waiting.now a.reply.now a.known.now _ session-of.ensures _ if1.false
-    serve.result _ _ _ _ _ serve.ensures.0 serve.ensures.1 packed2.ensures
+    serve.result _ _ _ _ _ serve.ensures.answered serve.ensures.told packed2.ensures

@@ -23,7 +23,7 @@ returns-then-not-is_lawful c =
     let refuse = c.refuse in
     let a = c.args in
     read_as a.known a.message.now a.index.now a.log.now a.waiting.now a.reply.now _ a.kind a.count _ _ tag_of.ensures refl
-    (read-kind a.known a.kind a.count _ _ a.index.now a.log.now a.waiting.now a.reply.now _ _ is_lawful.ensures (not-true _ if1.true) (refuse.ensures _ _))
+    (read-kind a.known a.kind a.count _ _ a.index.now a.log.now a.waiting.now a.reply.now _ _ is_lawful.ensures if1.true (refuse.ensures _ _))
 
 pub score_of-score-requires : goal.score_of-score-requires
 score_of-score-requires c =
@@ -47,7 +47,7 @@ returns-in_default c =
     let refuse2 = c.refuse-in_default in
     let a = c.args in
     read_as a.known a.message.now a.index.now a.log.now a.waiting.now a.reply.now _ a.kind a.count _ _ tag_of.ensures score-of.ensures
-    (read-missing a.known a.kind a.count _ _ a.index.now a.log.now a.waiting.now a.reply.now _ _ is_lawful.ensures (not-false _ if1.false)
+    (read-missing a.known a.kind a.count _ _ a.index.now a.log.now a.waiting.now a.reply.now _ _ is_lawful.ensures if1.false
     _ find-known.ensures _ c.in_default.is missing-by.ensures (refuse2.ensures _ _))
 
 pub returns-then-count-b : goal.returns-then-count-b
@@ -61,7 +61,7 @@ returns-then-count-b c =
     let refuse3 = c.refuse-then-count-b in
     let a = c.args in
     read_as a.known a.message.now a.index.now a.log.now a.waiting.now a.reply.now _ a.kind a.count _ _ tag_of.ensures score-of.ensures
-    (read-over a.known a.kind a.count _ _ a.index.now a.log.now a.waiting.now a.reply.now _ _ is_lawful.ensures (not-false _ if1.false)
+    (read-over a.known a.kind a.count _ _ a.index.now a.log.now a.waiting.now a.reply.now _ _ is_lawful.ensures if1.false
     _ find-known.ensures _ c.in-At.is if2.true (refuse3.ensures _ _))
 
 pub answer_read-requires : goal.answer_read-requires
@@ -89,5 +89,5 @@ returns c =
     let answer-read = c.answer_read in
     let a = c.args in
     read_as a.known a.message.now a.index.now a.log.now a.waiting.now a.reply.now _ a.kind a.count _ _ tag_of.ensures score-of.ensures
-    (read-granted a.known a.kind a.count _ _ a.index.now a.log.now a.waiting.now a.reply.now _ _ is_lawful.ensures (not-false _ if1.false)
+    (read-granted a.known a.kind a.count _ _ a.index.now a.log.now a.waiting.now a.reply.now _ _ is_lawful.ensures if1.false
     _ find-known.ensures _ c.in-At.is if2.false answer-read.ensures)

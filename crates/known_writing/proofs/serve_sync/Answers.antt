@@ -11,7 +11,7 @@ returns-then-not-settle_known c =
     let if1 = c.if-not-settle_known in
     let refuse = c.refuse-answer in
     let a = c.args in
-    λ index. sync-refused a.known a.tag index a.log.now a.waiting.now a.reply.now _ _ _ settle-known.ensures.0 settle-known.ensures.1 (not-true _ if1.true)
+    λ index. sync-refused a.known a.tag index a.log.now a.waiting.now a.reply.now _ _ _ settle-known.ensures.fits settle-known.ensures.lent if1.true
     (refuse.ensures _ _)
 
 pub after_sync-settled-requires : goal.after_sync-settled-requires
@@ -27,5 +27,5 @@ returns c =
     let acknowledge = c.acknowledge-answer in
     let after-sync = c.after_sync-settled in
     let a = c.args in
-    λ index. sync-moved a.known a.tag index a.log.now a.waiting.now a.reply.now _ _ _ settle-known.ensures.0 settle-known.ensures.1 (not-false _ if1.false)
+    λ index. sync-moved a.known a.tag index a.log.now a.waiting.now a.reply.now _ _ _ settle-known.ensures.fits settle-known.ensures.lent if1.false
     (acknowledge.ensures _ _) _ after-sync.ensures

@@ -18,7 +18,7 @@ returns-then-not-is_lawful c =
     let refuse = c.refuse-answer in
     let a = c.args in
     write_as a.known a.date.now a.kind a.message.now a.index.now a.log.now a.waiting.now a.reply.now _ _ _ tag_of.ensures refl
-    (write-kind a.known a.date.now a.kind _ _ a.index.now a.log.now a.waiting.now a.reply.now _ is_lawful.ensures (not-true _ if1.true) _ (refuse.ensures _ _))
+    (write-kind a.known a.date.now a.kind _ _ a.index.now a.log.now a.waiting.now a.reply.now _ is_lawful.ensures if1.true _ (refuse.ensures _ _))
 
 pub data_of-data-requires : goal.data_of-data-requires
 data_of-data-requires c =
@@ -34,7 +34,7 @@ returns-then-data-gt-LONGEST c =
     let refuse2 = c.refuse-answer-then-data-gt-LONGEST in
     let a = c.args in
     write_as a.known a.date.now a.kind a.message.now a.index.now a.log.now a.waiting.now a.reply.now _ _ _ tag_of.ensures data_of.ensures
-    (write-long a.known a.date.now a.kind _ _ a.index.now a.log.now a.waiting.now a.reply.now _ is_lawful.ensures (not-false _ if1.false) if2.true _
+    (write-long a.known a.date.now a.kind _ _ a.index.now a.log.now a.waiting.now a.reply.now _ is_lawful.ensures if1.false if2.true _
     (refuse2.ensures _ _))
 
 pub returns : goal.returns
@@ -47,5 +47,5 @@ returns c =
     let store-block = c.store_block in
     let a = c.args in
     write_as a.known a.date.now a.kind a.message.now a.index.now a.log.now a.waiting.now a.reply.now _ _ _ tag_of.ensures data_of.ensures
-    (write-stored a.known a.date.now a.kind _ _ a.index.now a.log.now a.waiting.now a.reply.now _ is_lawful.ensures (not-false _ if1.false) if2.false _
+    (write-stored a.known a.date.now a.kind _ _ a.index.now a.log.now a.waiting.now a.reply.now _ is_lawful.ensures if1.false if2.false _
     store-block.ensures)

@@ -19,4 +19,4 @@ returns c =
     let border = c.border-end in
     ask_look a.log.now a.waiting.now a.kind a.score.now _ c.are_allowed.ensures _ border.result.0 _
     c.if-not-are_allowed.false c.is_lawful.ensures
-    c.if-not-is_lawful.false border.ensures.1 c.look_up.ensures
+    c.if-not-is_lawful.false border.ensures.alike c.look_up.ensures

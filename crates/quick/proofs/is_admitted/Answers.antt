@@ -7,7 +7,7 @@ returns-then-not-is_framed c =
     let is_framed = c.is_framed in
     let if1 = c.if-not-is_framed in
     let a = c.args in
-    test-frame a.session a.message.now a.date.now a.log a.waiting a.room _ is_framed.ensures (not-true _ if1.true)
+    test-frame a.session a.message.now a.date.now a.log a.waiting a.room _ is_framed.ensures if1.true
 
 pub returns-then-room-lt-REPLY_ROOM : goal.returns-then-room-lt-REPLY_ROOM
 returns-then-room-lt-REPLY_ROOM c =
@@ -15,7 +15,7 @@ returns-then-room-lt-REPLY_ROOM c =
     let if1 = c.if-not-is_framed in
     let if2 = c.if-room-lt-REPLY_ROOM in
     let a = c.args in
-    test-buffer a.session a.message.now a.date.now a.log a.waiting a.room _ is_framed.ensures (not-false _ if1.false) if2.true
+    test-buffer a.session a.message.now a.date.now a.log a.waiting a.room _ is_framed.ensures if1.false if2.true
 
 pub returns-then-not-are_allowed : goal.returns-then-not-are_allowed
 returns-then-not-are_allowed c =
@@ -25,8 +25,8 @@ returns-then-not-are_allowed c =
     let are-allowed = c.are_allowed in
     let if3 = c.if-not-are_allowed in
     let a = c.args in
-    test-log a.session a.message.now a.date.now a.log a.waiting a.room _ is_framed.ensures (not-false _ if1.false) if2.false _ are-allowed.ensures
-    (not-true _ if3.true)
+    test-log a.session a.message.now a.date.now a.log a.waiting a.room _ is_framed.ensures if1.false if2.false _ are-allowed.ensures
+    if3.true
 
 pub returns-then-not-is_greeted : goal.returns-then-not-is_greeted
 returns-then-not-is_greeted c =
@@ -38,9 +38,9 @@ returns-then-not-is_greeted c =
     let is-greeted = c.is_greeted in
     let if4 = c.if-not-is_greeted in
     let a = c.args in
-    test-session a.session a.message.now a.date.now a.log a.waiting a.room _ is_framed.ensures (not-false _ if1.false) if2.false _ are-allowed.ensures
-    (not-false _ if3.false)
-    _ is-greeted.ensures (not-true _ if4.true)
+    test-session a.session a.message.now a.date.now a.log a.waiting a.room _ is_framed.ensures if1.false if2.false _ are-allowed.ensures
+    if3.false
+    _ is-greeted.ensures if4.true
 
 pub returns : goal.returns
 returns c =
@@ -53,6 +53,6 @@ returns c =
     let if4 = c.if-not-is_greeted in
     let is-date = c.is_date in
     let a = c.args in
-    test-date a.session a.message.now a.date.now a.log a.waiting a.room _ is_framed.ensures (not-false _ if1.false) if2.false _ are-allowed.ensures
-    (not-false _ if3.false)
-    _ is-greeted.ensures (not-false _ if4.false) _ is-date.ensures
+    test-date a.session a.message.now a.date.now a.log a.waiting a.room _ is_framed.ensures if1.false if2.false _ are-allowed.ensures
+    if3.false
+    _ is-greeted.ensures if4.false _ is-date.ensures

@@ -10,10 +10,10 @@ returns-then-not-is_admitted c =
     let hand_on = c.hand_on in
     let a = c.args in
     hand_on.ensures ∙ not-admitted a.known a.session a.message.now a.date.now a.index.now a.log.now a.waiting.now a.reply.now
-    (sym is-admitted.ensures ∙ not-true _ if1.true)
+    (sym is-admitted.ensures ∙ if1.true)
 
 pub serve_admitted-requires : goal.serve_admitted-requires
 serve_admitted-requires c =
     let is-admitted = c.is_admitted in
     let if1 = c.if-not-is_admitted in
-    sym is-admitted.ensures ∙ not-false _ if1.false
+    sym is-admitted.ensures ∙ if1.false

@@ -24,7 +24,7 @@ serve_read-answer-requires c =
     let renew = c.renew-current in
     let a = c.args in
     let p = passed a.session a.message.now a.date.now (length a.log.now) (length a.waiting.now) (length a.reply.now) c.requires in
-    (renew.ensures.0, sym parse.ensures ∙ c.in-Read.is, roomy_enough _ _ _ _ _ _ p)
+    (renew.ensures.fits, sym parse.ensures ∙ c.in-Read.is, roomy_enough _ _ _ _ _ _ p)
 
 pub serve_write-requires : goal.serve_write-requires
 serve_write-requires c =
@@ -32,14 +32,14 @@ serve_write-requires c =
     let renew2 = c.renew-current-in-Write in
     let a = c.args in
     let p = passed a.session a.message.now a.date.now (length a.log.now) (length a.waiting.now) (length a.reply.now) c.requires in
-    (renew2.ensures.0, sym parse.ensures ∙ c.in-Write.is, date-length a.date.now p.dated, roomy_enough _ _ _ _ _ _ p)
+    (renew2.ensures.fits, sym parse.ensures ∙ c.in-Write.is, date-length a.date.now p.dated, roomy_enough _ _ _ _ _ _ p)
 
 pub serve_sync-requires : goal.serve_sync-requires
 serve_sync-requires c =
     let renew3 = c.renew-current-in-Sync in
     let a = c.args in
     let p = passed a.session a.message.now a.date.now (length a.log.now) (length a.waiting.now) (length a.reply.now) c.requires in
-    (renew3.ensures.0, roomy_enough _ _ _ _ _ _ p)
+    (renew3.ensures.fits, roomy_enough _ _ _ _ _ _ p)
 
 pub returns-in-Read : goal.returns-in-Read
 returns-in-Read c =
@@ -48,7 +48,7 @@ returns-in-Read c =
     let serve-read = c.serve_read-answer in
     let a = c.args in
     let p = passed a.session a.message.now a.date.now (length a.log.now) (length a.waiting.now) (length a.reply.now) c.requires in
-    read-admitted a.known a.session a.message.now a.date.now a.index.now a.log.now a.waiting.now a.reply.now p _ _ _ parse.ensures renew.ensures.1 _
+    read-admitted a.known a.session a.message.now a.date.now a.index.now a.log.now a.waiting.now a.reply.now p _ _ _ parse.ensures renew.ensures.anew _
     _ c.in-Read.is serve-read.ensures
 
 pub returns-in-Write : goal.returns-in-Write
@@ -58,7 +58,7 @@ returns-in-Write c =
     let serve-write = c.serve_write in
     let a = c.args in
     let p = passed a.session a.message.now a.date.now (length a.log.now) (length a.waiting.now) (length a.reply.now) c.requires in
-    write-admitted a.known a.session a.message.now a.date.now a.index.now a.log.now a.waiting.now a.reply.now p _ _ _ parse.ensures renew2.ensures.1
+    write-admitted a.known a.session a.message.now a.date.now a.index.now a.log.now a.waiting.now a.reply.now p _ _ _ parse.ensures renew2.ensures.anew
     _ c.in-Write.is serve-write.ensures
 
 pub returns-in-Sync : goal.returns-in-Sync
@@ -69,7 +69,7 @@ returns-in-Sync c =
     let serve-sync = c.serve_sync in
     let a = c.args in
     let p = passed a.session a.message.now a.date.now (length a.log.now) (length a.waiting.now) (length a.reply.now) c.requires in
-    sync-admitted a.known a.session a.message.now a.date.now a.index.now a.log.now a.waiting.now a.reply.now p _ _ _ parse.ensures renew3.ensures.1
+    sync-admitted a.known a.session a.message.now a.date.now a.index.now a.log.now a.waiting.now a.reply.now p _ _ _ parse.ensures renew3.ensures.anew
     _ tag_of.ensures c.in-Sync.is (serve-sync.ensures a.index.now)
 
 pub returns-in_default : goal.returns-in_default

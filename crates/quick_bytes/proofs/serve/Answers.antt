@@ -13,4 +13,4 @@ returns c =
     let serve = c.serve-served in
     let write-served = c.write_served in
     served_by a.known.now a.session a.message.now a.date.now a.index.now a.log.now a.waiting.now a.reply.now _ read_Known.ensures serve.result _ _ _ _
-    serve.ensures _ write-served.ensures.0 _ write-served.ensures.1 -- TODO clauses ['answered', 'told']
+    serve.ensures _ write-served.ensures.answered _ write-served.ensures.told -- TODO clauses ['answered', 'told']

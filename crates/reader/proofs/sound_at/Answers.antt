@@ -67,7 +67,7 @@ returns-then-not-read_hex_bytes c =
     let if2 = c.if-not-read_hex_bytes in
     let log = joined a.end.0 a.log.now a.waiting.now in
     let there = field_at sector-at.result.now Front-length.result 55 40 Front-length.ensures ∙ ap (λ (x : Bytes). take 40 (drop 55 (behind x))) sector-at.ensures in
-    no_score log a.first.0 (ap is_hex (sym there) ∙ unread _ _ _ _ read-hex-bytes.ensures (not-true _ if2.true))
+    no_score log a.first.0 (ap is_hex (sym there) ∙ unread _ _ _ _ read-hex-bytes.ensures if2.true)
 
 pub slice_bounds-sound_behind-end : goal.slice_bounds-sound_behind-end
 slice_bounds-sound_behind-end c =
@@ -110,4 +110,4 @@ returns c =
     let there = field_at sector-at.result.now Front-length.result 55 40 Front-length.ensures ∙ ap (λ (x : Bytes). take 40 (drop 55 (behind x))) sector-at.ensures in
     sound-behind.ensures
     ∙ sound-read log a.first.0 number_at.result _ (number-value _ number_at.result number_at.ensures if1.false)
-    (bytes_read _ _ _ _ read-hex-bytes.ensures (not-false _ if2.false) ∙ ap read_bytes there)
+    (bytes_read _ _ _ _ read-hex-bytes.ensures if2.false ∙ ap read_bytes there)

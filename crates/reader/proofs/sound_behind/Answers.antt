@@ -48,7 +48,7 @@ returns-then-not-is_lawful c =
     let if3 = c.if-not-is_lawful in
     let log = joined a.end.0 a.log.now a.waiting.now in
     let size = number_at.result in
-    unsound_behind log a.first.0 a.kind a.score.now a.front.now q.2 size number_at.ensures if1.false 2 (sym is_lawful.ensures ∙ not-true _ if3.true)
+    unsound_behind log a.first.0 a.kind a.score.now a.front.now q.2 size number_at.ensures if1.false 2 (sym is_lawful.ensures ∙ if3.true)
 
 pub parts_of-of-requires : goal.parts_of-of-requires
 parts_of-of-requires c =
@@ -117,7 +117,7 @@ returns-then-not-passes c =
     let if6 = c.if-not-passes in
     let log = joined a.end.0 a.log.now a.waiting.now in
     let size = number_at.result in
-    untested log a.first.0 a.kind a.score.now a.front.now q.2 size number_at.ensures if1.false (sym passes.ensures ∙ not-true _ if6.true)
+    untested log a.first.0 a.kind a.score.now a.front.now q.2 size number_at.ensures if1.false (sym passes.ensures ∙ if6.true)
 
 pub returns : goal.returns
 returns c =
@@ -136,6 +136,6 @@ returns c =
     let log = joined a.end.0 a.log.now a.waiting.now in
     let size = number_at.result in
     passed log a.first.0 a.kind a.score.now a.front.now q.2 size number_at.ensures if1.false (omega (arith, if2.false))
-    (sym is_lawful.ensures ∙ not-false _ if3.false)
+    (sym is_lawful.ensures ∙ if3.false)
     (omega (arith, parts-of.ensures, if4.false, sectors-joined a.end.0 a.log.now a.waiting.now q.0))
-    (omega (arith, parts-of.ensures, if5.false)) (sym passes.ensures ∙ not-false _ if6.false)
+    (omega (arith, parts-of.ensures, if5.false)) (sym passes.ensures ∙ if6.false)

@@ -30,7 +30,7 @@ score_of-score-requires c =
 
 pub fetch_by-look-requires : goal.fetch_by-look-requires
 fetch_by-look-requires c =
-    (c.border-end.ensures.0, ap length c.score_of-score.ensures ∙ read-score _ _ _ c.requires.0)
+    (c.border-end.ensures.within, ap length c.score_of-score.ensures ∙ read-score _ _ _ c.requires.0)
 
 pub answer_read-requires : goal.answer_read-requires
 answer_read-requires c = let args = c.args in
@@ -62,7 +62,7 @@ returns-in-Found c = let answer-read = c.answer_read in
     let J = joined border.result.0 a.log.now a.waiting.now in
     read_as a.message.now a.index.now L _ _ tag_of.ensures a.kind a.count _ _ score-of.ensures
     (answer-read.ensures
-    ∙ read_found_lem a.kind a.count _ _ a.index.now L _ _ is_lawful.ensures (not-false _ if1.false) J border.ensures.1 _ fetch-by.ensures _ c.in-Found.is)
+    ∙ read_found_lem a.kind a.count _ _ a.index.now L _ _ is_lawful.ensures if1.false J border.ensures.1 _ fetch-by.ensures _ c.in-Found.is)
 
 pub returns-in-Refused : goal.returns-in-Refused
 returns-in-Refused c = let args = c.args in
@@ -78,4 +78,4 @@ returns-in-Refused c = let args = c.args in
     let J = joined border.result.0 a.log.now a.waiting.now in
     read_as a.message.now a.index.now L _ _ tag_of.ensures a.kind a.count _ _ score-of.ensures
     (c.refuse-in-Refused.ensures _ _
-    ∙ read-refused a.kind a.count _ _ a.index.now L _ _ is_lawful.ensures (not-false _ if1.false) J border.ensures.1 _ fetch-by.ensures _ c.in-Refused.is)
+    ∙ read-refused a.kind a.count _ _ a.index.now L _ _ is_lawful.ensures if1.false J border.ensures.1 _ fetch-by.ensures _ c.in-Refused.is)

@@ -13,4 +13,4 @@ returns c = let args = c.args in
     let if1 = c.if-not-is_allowed in
     let is-allowed = c.is_allowed in
     let a = args in
-    rebuild_done a.log.now a.index.now _ is-allowed.ensures _ _ (not-false _ if1.false) clear.ensures c.enter_all.ensures
+    rebuild_done a.log.now a.index.now _ is-allowed.ensures _ _ if1.false clear.ensures c.enter_all.ensures

@@ -35,5 +35,5 @@ returns c = let args = c.args in
     let write-text = c.write_text in
     let a = args in
     report_written a.log.now a.buffer.now (omega (arith, if1.false)) _ is-allowed.ensures _
-    used-part.result.0 scan.result write-text.result (not-false _ if2.false)
+    used-part.result.0 scan.result write-text.result if2.false
     used-part.ensures scan.ensures write-text.ensures

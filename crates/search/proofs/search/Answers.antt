@@ -11,7 +11,7 @@ returns-then-not-are_allowed c =
     let a = c.args in
     let are-allowed = c.are_allowed in
     let if1 = c.if-not-are_allowed in
-    search_log a.log.now a.waiting.now a.page.now a.entry.now a.query.now _ are-allowed.ensures (not-true _ if1.true)
+    search_log a.log.now a.waiting.now a.page.now a.entry.now a.query.now _ are-allowed.ensures if1.true
 
 pub returns-then-not-is_page : goal.returns-then-not-is_page
 returns-then-not-is_page c =
@@ -20,7 +20,7 @@ returns-then-not-is_page c =
     let if1 = c.if-not-are_allowed in
     let is-page = c.is_page in
     let if2 = c.if-not-is_page in
-    search_page a.log.now a.waiting.now a.page.now a.entry.now a.query.now _ are-allowed.ensures (not-false _ if1.false) _ is-page.ensures (not-true _ if2.true)
+    search_page a.log.now a.waiting.now a.page.now a.entry.now a.query.now _ are-allowed.ensures if1.false _ is-page.ensures if2.true
 
 pub returns-then-not-is_readable : goal.returns-then-not-is_readable
 returns-then-not-is_readable c =
@@ -31,15 +31,15 @@ returns-then-not-is_readable c =
     let if2 = c.if-not-is_page in
     let is-readable = c.is_readable in
     let if3 = c.if-not-is_readable in
-    search_entry a.log.now a.waiting.now a.page.now a.entry.now a.query.now _ are-allowed.ensures (not-false _ if1.false)
-    _ is-page.ensures (not-false _ if2.false) _ is-readable.ensures (not-true _ if3.true)
+    search_entry a.log.now a.waiting.now a.page.now a.entry.now a.query.now _ are-allowed.ensures if1.false
+    _ is-page.ensures if2.false _ is-readable.ensures if3.true
 
 pub entry_at-e-requires : goal.entry_at-e-requires
 entry_at-e-requires c =
     let a = c.args in
     let is-readable = c.is_readable in
     let if3 = c.if-not-is_readable in
-    omega (arith, readable-length a.entry.now _ is-readable.ensures (not-false _ if3.false))
+    omega (arith, readable-length a.entry.now _ is-readable.ensures if3.false)
 
 pub returns-then-e-gt4096 : goal.returns-then-e-gt4096
 returns-then-e-gt4096 c =
@@ -52,9 +52,9 @@ returns-then-e-gt4096 c =
     let if3 = c.if-not-is_readable in
     let entry_at = c.entry_at-e in
     let if4 = c.if-e-gt4096 in
-    let l = readable-length a.entry.now _ is-readable.ensures (not-false _ if3.false) in
-    search_long a.log.now a.waiting.now a.page.now a.entry.now a.query.now _ are-allowed.ensures (not-false _ if1.false)
-    _ is-page.ensures (not-false _ if2.false) _ is-readable.ensures (not-false _ if3.false)
+    let l = readable-length a.entry.now _ is-readable.ensures if3.false in
+    search_long a.log.now a.waiting.now a.page.now a.entry.now a.query.now _ are-allowed.ensures if1.false
+    _ is-page.ensures if2.false _ is-readable.ensures if3.false
     _ (entry_whole a.entry.now _ l entry_at.ensures) if4.true
 
 pub read_and_judge-requires : goal.read_and_judge-requires
@@ -66,9 +66,9 @@ read_and_judge-requires c =
     let if3 = c.if-not-is_readable in
     let entry_at = c.entry_at-e in
     let if4 = c.if-e-gt4096 in
-    let l = readable-length a.entry.now _ is-readable.ensures (not-false _ if3.false) in (
-      sym are-allowed.ensures ∙ not-false _ if1.false,
-      sym is-readable.ensures ∙ not-false _ if3.false,
+    let l = readable-length a.entry.now _ is-readable.ensures if3.false in (
+      sym are-allowed.ensures ∙ if1.false,
+      sym is-readable.ensures ∙ if3.false,
       ap (λ (e : Entry). e.size) (entry_whole a.entry.now _ l entry_at.ensures),
       omega arith,
     )
@@ -85,7 +85,7 @@ returns c =
     let entry_at = c.entry_at-e in
     let if4 = c.if-e-gt4096 in
     let read-and-judge = c.read_and_judge in
-    let l = readable-length a.entry.now _ is-readable.ensures (not-false _ if3.false) in
-    search_reads a.log.now a.waiting.now a.page.now a.entry.now a.query.now _ are-allowed.ensures (not-false _ if1.false)
-    _ is-page.ensures (not-false _ if2.false) _ is-readable.ensures (not-false _ if3.false)
+    let l = readable-length a.entry.now _ is-readable.ensures if3.false in
+    search_reads a.log.now a.waiting.now a.page.now a.entry.now a.query.now _ are-allowed.ensures if1.false
+    _ is-page.ensures if2.false _ is-readable.ensures if3.false
     _ (entry_whole a.entry.now _ l entry_at.ensures) if4.false _ read-and-judge.ensures

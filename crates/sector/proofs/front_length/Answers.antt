@@ -29,5 +29,5 @@ returns c = let a = c.args in
     let if1 = c.if-s-ne10 in
     let if2 = c.if-not-equal in
     let given = c.requires in
-    front-some a.s.now (dated_by a.s.now given (same_true _ _ (sym equal.ensures ∙ not-false _ if2.false)) if1.false
+    front-some a.s.now (dated_by a.s.now given (same_true _ _ (sym equal.ensures ∙ if2.false)) if1.false
     (sym (c.is_date.ensures) ∙ not-false _ (c.if-not-is_date.false)))

@@ -28,6 +28,6 @@ returns c = let a = c.args in
     let if1 = c.if-not-equal in
     let given = c.requires in
     let write-label = c.write_label in
-    label-alike a.s.now a.front.now (label_of a.l a.score.now) 96 _ _ (length_label a.l a.score.now given.1) given.0 equal.ensures (not-false _ if1.false)
+    label-alike a.s.now a.front.now (label_of a.l a.score.now) 96 _ _ (length_label a.l a.score.now given.1) given.0 equal.ensures if1.false
     (c.agree.ensures ∙ ap (same (take (length a.front.now + 96 - length a.front.now) (drop (length a.front.now) a.s.now)))
     (write-label.ensures ∙ put_whole _ (label_of a.l a.score.now) (length_label a.l a.score.now given.1)))

@@ -18,4 +18,4 @@ returns c =
     let used-part2 = c.used_part-waits in
     let move-behind = c.move_behind in
     let u = used-part.result.0 in
-    let n = used-part2.result.0 in record { fits = move-behind.ensures.0 ∙ fits-used u n a.log.now a.waiting.now used-part.ensures used-part2.ensures; lent = move-behind.ensures.1 ∙ moved-used u n a.log.now a.waiting.now used-part.ensures used-part2.ensures }
+    let n = used-part2.result.0 in record { fits = move-behind.ensures.fits ∙ fits-used u n a.log.now a.waiting.now used-part.ensures used-part2.ensures; lent = move-behind.ensures.lent ∙ moved-used u n a.log.now a.waiting.now used-part.ensures used-part2.ensures }

@@ -14,7 +14,7 @@ pub loop-p-init : goal.loop-p-init
 loop-p-init c =
     let a = c.args in
     let b = c.bucket_of-b in
-    (omega (arith, b.ensures.1.0), λ n. tell-starts a.index.now a.kind a.score.now n b.result b.ensures.0)
+    (omega (arith, b.ensures.within.0), λ n. tell-starts a.index.now a.kind a.score.now n b.result b.ensures.places)
 
 pub returns-then-end-first : goal.returns-then-end-first
 returns-then-end-first c =

@@ -12,23 +12,23 @@ use Rattle.store.proofs.store.Goals as goal
 pub slice_bounds-used_part-end : goal.slice_bounds-used_part-end
 slice_bounds-used_part-end c =
     let border = c.border-end in
-    sym (length-take-le _ _ (omega (arith, border.ensures.0)))
+    sym (length-take-le _ _ (omega (arith, border.ensures.within)))
 
 pub append_new-stored-requires : goal.append_new-stored-requires
 append_new-stored-requires c =
     let border = c.border-end in
     let a = c.args in
     let pre = c.requires in
-    let used = c.used_part-used.ensures ∙ used-before a.log.now a.waiting.now border.result.0 border.ensures.0 border.ensures.1 in
-    (pre.0, pre.1, c.sha1-score.ensures, omega (arith, used, used_le_sectors a.log.now, border.ensures.0))
+    let used = c.used_part-used.ensures ∙ used-before a.log.now a.waiting.now border.result.0 border.ensures.within border.ensures.alike in
+    (pre.0, pre.1, c.sha1-score.ensures, omega (arith, used, used_le_sectors a.log.now, border.ensures.within))
 
 pub returns-in_default : goal.returns-in_default
 returns-in_default c =
     let border = c.border-end in
     let find-held = c.find_held-place in
     let a = c.args in
-    let used = c.used_part-used.ensures ∙ used-before a.log.now a.waiting.now border.result.0 border.ensures.0 border.ensures.1 in
-    store-new a.log.now a.waiting.now _ a.kind a.date.now a.«data».now _ _ _ border.ensures.1 c.sha1-score.ensures find-held.ensures _
+    let used = c.used_part-used.ensures ∙ used-before a.log.now a.waiting.now border.result.0 border.ensures.within border.ensures.alike in
+    store-new a.log.now a.waiting.now _ a.kind a.date.now a.«data».now _ _ _ border.ensures.alike c.sha1-score.ensures find-held.ensures _
     c.in_default.is
     (c.append_new-stored.ensures a.log.now (omega arith) (sym used))
 
@@ -50,6 +50,6 @@ returns c =
     let find-held = c.find_held-place in
     let border = c.border-end in
     let a = c.args in
-    store_found a.log.now a.waiting.now _ a.kind a.date.now a.«data».now _ _ _ border.ensures.1 c.sha1-score.ensures find-held.ensures _
+    store_found a.log.now a.waiting.now _ a.kind a.date.now a.«data».now _ _ _ border.ensures.alike c.sha1-score.ensures find-held.ensures _
     c.in-At.is
     (c.compare-stored.ensures (beside a.log.now a.waiting.now))

@@ -31,11 +31,11 @@ returns-in-At c = let args = c.args in
     let if1 = c.if-not-is_allowed in
     let is-allowed = c.is_allowed in
     let sound-at = c.sound_at-place in
-    sound_sized args.log.now args.n _ is-allowed.ensures (not-false _ if1.false) _ _ (sound-at.ensures ∙ placed-alone args.log.now args.n) (c.in-At.is)
+    sound_sized args.log.now args.n _ is-allowed.ensures if1.false _ _ (sound-at.ensures ∙ placed-alone args.log.now args.n) (c.in-At.is)
 
 pub returns-in-Nowhere : goal.returns-in-Nowhere
 returns-in-Nowhere c = let args = c.args in
     let if1 = c.if-not-is_allowed in
     let is-allowed = c.is_allowed in
-    sound_none args.log.now args.n _ is-allowed.ensures (not-false _ if1.false) _ (c.sound_at-place.ensures ∙ placed-alone args.log.now args.n)
+    sound_none args.log.now args.n _ is-allowed.ensures if1.false _ (c.sound_at-place.ensures ∙ placed-alone args.log.now args.n)
     (c.in-Nowhere.is)

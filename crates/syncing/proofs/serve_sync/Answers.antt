@@ -9,7 +9,7 @@ returns-then-not-settle c = let args = c.args in
     let if1 = c.if-not-settle in
     let settle = c.settle in
     let a = args in
-    c.refuse.ensures _ _ ∙ sync-refused a.tag (beside a.log.now a.waiting.now) _ a.reply.now _ settle.ensures.0 settle.ensures.1 (not-true _ if1.true)
+    c.refuse.ensures _ _ ∙ sync-refused a.tag (beside a.log.now a.waiting.now) _ a.reply.now _ settle.ensures.fits settle.ensures.lent if1.true
 
 pub returns : goal.returns
 returns c = let acknowledge = c.acknowledge in
@@ -17,4 +17,4 @@ returns c = let acknowledge = c.acknowledge in
     let if1 = c.if-not-settle in
     let settle = c.settle in
     let a = args in
-    acknowledge.ensures _ _ ∙ sync-moved a.tag (beside a.log.now a.waiting.now) _ a.reply.now _ settle.ensures.0 settle.ensures.1 (not-false _ if1.false)
+    acknowledge.ensures _ _ ∙ sync-moved a.tag (beside a.log.now a.waiting.now) _ a.reply.now _ settle.ensures.fits settle.ensures.lent if1.false

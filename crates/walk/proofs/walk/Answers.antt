@@ -22,4 +22,4 @@ returns c =
     let both = tape a.log.now a.waiting.now in
     let u = c.border-end.result.0 in
     tests_passed _ both a.score.now a.allowance _ c.are_allowed.ensures c.if-not-are_allowed.false c.if-allowance-gt-MOST_ALLOWANCE.false _
-    (c.walk_root.ensures ∙ root_alike (joined u a.log.now a.waiting.now) both c.border-end.ensures.1 a.score.now a.allowance)
+    (c.walk_root.ensures ∙ root_alike (joined u a.log.now a.waiting.now) both c.border-end.ensures.alike a.score.now a.allowance)

@@ -31,4 +31,4 @@ overflow_sub-left c = omega (arith, (found TODO.r.before.before).some_left)
 pub returns : goal.returns
 returns c =
     rw c.one_more.ensures
-    (root-found (found TODO.r.before.before) c.root_bytes-root.ensures c.is_root.ensures c.if-not-is_root.false _ c.walk_top.ensures.1)
+    (root-found (found TODO.r.before.before) c.root_bytes-root.ensures c.is_root.ensures c.if-not-is_root.false _ c.walk_top.ensures.exact)

@@ -10,7 +10,7 @@ use Rattle.write.proofs.write_blocks.Goals as goal
 
 pub returns-in_default : goal.returns-in_default
 returns-in_default c = let a = c.args in
-    let write-leaves = c.write_leaves-ended in record { blocks = leaf-refused a.slice.now a.dsize a.psize a.depth a.date.now (beside a.log.now a.waiting.now) _ _ write-leaves.ensures.0 _ (c.in_default.is); top = λ q. let p = (c.in_default.is) in let z : ◌≡◌ {A = ℕ} 0 1 = cc in absurd (omega arith) }
+    let write-leaves = c.write_leaves-ended in record { blocks = leaf-refused a.slice.now a.dsize a.psize a.depth a.date.now (beside a.log.now a.waiting.now) _ _ write-leaves.ensures.blocks _ (c.in_default.is); top = λ q. let p = (c.in_default.is) in let z : ◌≡◌ {A = ℕ} 0 1 = cc in absurd (omega arith) }
 
 pub overflow_mul-psize : goal.overflow_mul-psize
 overflow_mul-psize c = omega (arith, (c.requires.5))
@@ -27,5 +27,5 @@ pub returns : goal.returns
 returns c = let a = c.args in
     let write-leaves = c.write_leaves-ended in
     let write-levels = c.write_levels in
-    let f = write-leaves.ensures.1 c.in-Done.is in record { blocks = leaves-stored a.slice.now a.dsize a.psize a.depth a.date.now (beside a.log.now a.waiting.now) _ _ write-leaves.ensures.0 c.in-Done.is _ f _ _
-          write-levels.ensures.0; top = λ q. top-is a.slice.now a.dsize a.psize a.depth _ _ f (write-levels.ensures.1 q) }
+    let f = write-leaves.ensures.scores c.in-Done.is in record { blocks = leaves-stored a.slice.now a.dsize a.psize a.depth a.date.now (beside a.log.now a.waiting.now) _ _ write-leaves.ensures.blocks c.in-Done.is _ f _ _
+          write-levels.ensures.blocks; top = λ q. top-is a.slice.now a.dsize a.psize a.depth _ _ f (write-levels.ensures.top q) }

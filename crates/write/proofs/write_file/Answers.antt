@@ -35,7 +35,7 @@ returns-then-slice-gt-LONGEST c = let are-allowed = c.are_allowed in
     let if2 = c.if-scores-lt-SCORES in
     let if3 = c.if-not-are_allowed in
     slice-long a.log.now a.waiting.now a.date.now a.slice.now a.dsize a.psize a.entry.now a.scores.now if1.false if2.false _ are-allowed.ensures
-    (not-false _ if3.false) _ (c.is_date.ensures) (not-false _ (c.if-not-is_date.false)) (c.if-slice-gt-LONGEST.true)
+    if3.false _ (c.is_date.ensures) (not-false _ (c.if-not-is_date.false)) (c.if-slice-gt-LONGEST.true)
 
 pub returns-then-depth-gt7 : goal.returns-then-depth-gt7
 returns-then-depth-gt7 c = let are-allowed = c.are_allowed in
@@ -46,7 +46,7 @@ returns-then-depth-gt7 c = let are-allowed = c.are_allowed in
     let if4 = c.if-not-is_date in
     let is-date = c.is_date in
     sizes-refused a.log.now a.waiting.now a.date.now a.slice.now a.dsize a.psize a.entry.now a.scores.now if1.false if2.false _ are-allowed.ensures
-    (not-false _ if3.false) _ is-date.ensures (not-false _ if4.false) (c.if-slice-gt-LONGEST.false)
+    if3.false _ is-date.ensures if4.false (c.if-slice-gt-LONGEST.false)
     (depth-none (length a.slice.now) a.dsize a.psize _ (c.depth_of-depth.ensures) (c.if-depth-gt7.true))
 
 pub write_tested-requires : goal.write_tested-requires
@@ -59,7 +59,7 @@ write_tested-requires c = let a = c.args in
     let if6 = c.if-depth-gt7 in
     let is-date = c.is_date in
     let d = depth_lies (length a.slice.now) a.dsize a.psize _ (depth-some (length a.slice.now) a.dsize a.psize _ depth-of.ensures if6.false) in
-    (date-length a.date.now (sym is-date.ensures ∙ not-false _ if4.false), if5.false, d.dsize-from, d.dsize-to, d.psize-from, d.psize-to, if6.false, if1.false, if2.false)
+    (date-length a.date.now (sym is-date.ensures ∙ if4.false), if5.false, d.dsize-from, d.dsize-to, d.psize-from, d.psize-to, if6.false, if1.false, if2.false)
 
 pub returns : goal.returns
 returns c =
@@ -75,5 +75,5 @@ returns c =
     let is-date = c.is_date in
     let write-tested = c.write_tested in
     write-tested.ensures ∙ tests_passed a.log.now a.waiting.now a.date.now a.slice.now a.dsize a.psize a.entry.now a.scores.now if1.false if2.false _
-    are-allowed.ensures (not-false _ if3.false) _ is-date.ensures (not-false _ if4.false) if5.false _
+    are-allowed.ensures if3.false _ is-date.ensures if4.false if5.false _
     (depth-some (length a.slice.now) a.dsize a.psize _ depth-of.ensures if6.false)

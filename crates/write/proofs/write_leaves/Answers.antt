@@ -41,12 +41,12 @@ keep_score-ended-requires c = (room TODO.k.before.before, score-length (turn TOD
 
 pub returns-in_default : goal.returns-in_default
 returns-in_default c =
-    record { blocks = going-stopped (turn TODO.w.before.before.before.before) c.keep_score-ended.ensures.0 _ c.in_default.is; scores = refused-not-done _ c.in_default.is }
+    record { blocks = going-stopped (turn TODO.w.before.before.before.before) c.keep_score-ended.ensures.end _ c.in_default.is; scores = refused-not-done _ c.in_default.is }
 
 pub loop-i-preserved : goal.loop-i-preserved
 loop-i-preserved c =
     let d = c.in-Done.is in
-    ((going_next (turn TODO.k) c.keep_score-ended.ensures.0 d (c.keep_score-ended.ensures.1 d) (room TODO.k.before.before)).0, search rules, search rules)
+    ((going_next (turn TODO.k) c.keep_score-ended.ensures.end d (c.keep_score-ended.ensures.score d) (room TODO.k.before.before)).0, search rules, search rules)
 
 pub returns : goal.returns
 returns c =

@@ -65,12 +65,12 @@ keep_score-ended-requires c = (room TODO.k.before.before.before, score-length (t
 
 pub returns-in_default : goal.returns-in_default
 returns-in_default c =
-    record { blocks = going-stopped (turn TODO.w.before.before.before.before) c.keep_score-ended.ensures.0 _ c.in_default.is; scores = refused-not-done _ c.in_default.is }
+    record { blocks = going-stopped (turn TODO.w.before.before.before.before) c.keep_score-ended.ensures.end _ c.in_default.is; scores = refused-not-done _ c.in_default.is }
 
 pub loop-i-preserved : goal.loop-i-preserved
 loop-i-preserved c =
     let d = c.in-Done.is in
-    let g = going_next (turn TODO.k) c.keep_score-ended.ensures.0 d (c.keep_score-ended.ensures.1 d) (room TODO.k.before.before.before) in
+    let g = going_next (turn TODO.k) c.keep_score-ended.ensures.end d (c.keep_score-ended.ensures.score d) (room TODO.k.before.before.before) in
     let step : 20 * (c.loop-i.i + 1) ≡ 20 * c.loop-i.i + 20 = omega arith in
     let behind : (x : Bytes) → drop (20 * (c.loop-i.i + 1)) x ≡ drop 20 (drop (20 * c.loop-i.i) x) = λ x. ap (λ (m : ℕ). drop m x) step ∙ sym (drop-drop 20 (20 * c.loop-i.i) x) in
     (g.0, search rules, search rules, g.1 ∙ behind c.loop-i.scores ∙ ap (drop 20) c.loop-i.invariant.3 ∙ sym (behind c.args.scores.now))

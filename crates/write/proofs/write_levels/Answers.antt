@@ -41,7 +41,7 @@ returns-in_default c = let a = c.args in
     let turn = c.loop-k in
     let loop-test = c.loop-k-test in
     let write-level = c.write_level-ended in record { blocks = climbing_stopped a.width a.scores.now a.date.now (beside a.log.now a.waiting.now) (beside a.log.now turn.waiting) turn.scores turn.n turn.k turn.invariant.0 _ _
-          write-level.ensures.0 _ a.depth (c.in_default.is) loop-test.true; top = λ q. let p = (c.in_default.is) in let z : ◌≡◌ {A = ℕ} 0 1 = cc in absurd (omega arith) }
+          write-level.ensures.blocks _ a.depth (c.in_default.is) loop-test.true; top = λ q. let p = (c.in_default.is) in let z : ◌≡◌ {A = ℕ} 0 1 = cc in absurd (omega arith) }
 
 pub pieces-n-requires : goal.pieces-n-requires
 pieces-n-requires c = let turn = c.loop-k in
@@ -62,7 +62,7 @@ loop-k-preserved c = let a = c.args in
     let write-level = c.write_level-ended in
     let e : 20 * (c.pieces-n.result) ≡ 20 * parts_of a.width turn.n = omega (arith, (c.pieces-n.ensures)) in (
       climbing_next a.width a.scores.now a.date.now (beside a.log.now a.waiting.now) (beside a.log.now turn.waiting) turn.scores turn.n turn.k turn.invariant.0 _ _
-          write-level.ensures.0 given.1 c.in-Done.is _ (search rules) (write-level.ensures.1 c.in-Done.is) turn.invariant.2 _ refl _ e,
+          write-level.ensures.blocks given.1 c.in-Done.is _ (search rules) (write-level.ensures.scores c.in-Done.is) turn.invariant.2 _ refl _ e,
       omega (arith, loop-test.true),
       search rules,
       search rules,

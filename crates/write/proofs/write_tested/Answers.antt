@@ -74,8 +74,8 @@ returns-in_default c =
     in
     let write-blocks = c.write_blocks-ended in
     let f : 20 * pieces.result ≤ length a.scores.now = omega (arith, few_pieces a.dsize (length a.slice.now) given.2, pieces.ensures, given.1, given.8) in
-    tested-refused a.log.now a.waiting.now a.date.now a.slice.now a.dsize a.psize a.entry.now a.scores.now a.depth _ _ write-blocks.ensures.0 _
-    write-blocks.ensures.1 (20 * pieces.result) (ap (λ (k : ℕ). 20 * k) pieces.ensures) f _ clear.ensures _ (c.in_default.is) (search rules)
+    tested-refused a.log.now a.waiting.now a.date.now a.slice.now a.dsize a.psize a.entry.now a.scores.now a.depth _ _ write-blocks.ensures.blocks _
+    write-blocks.ensures.top (20 * pieces.result) (ap (λ (k : ℕ). 20 * k) pieces.ensures) f _ clear.ensures _ (c.in_default.is) (search rules)
 
 pub returns : goal.returns
 returns c =
@@ -86,6 +86,6 @@ returns c =
     let given = c.requires in
     let write-blocks = c.write_blocks-ended in
     let f : 20 * pieces.result ≤ length a.scores.now = omega (arith, few_pieces a.dsize (length a.slice.now) given.2, pieces.ensures, given.1, given.8) in
-    tested-done a.log.now a.waiting.now a.date.now a.slice.now a.dsize a.psize a.entry.now a.scores.now a.depth _ _ write-blocks.ensures.0 _
-    write-blocks.ensures.1 (20 * pieces.result) (ap (λ (k : ℕ). 20 * k) pieces.ensures) f _ clear.ensures c.in-Done.is _ make-entry.ensures _
+    tested-done a.log.now a.waiting.now a.date.now a.slice.now a.dsize a.psize a.entry.now a.scores.now a.depth _ _ write-blocks.ensures.blocks _
+    write-blocks.ensures.top (20 * pieces.result) (ap (λ (k : ℕ). 20 * k) pieces.ensures) f _ clear.ensures c.in-Done.is _ make-entry.ensures _
     (c.copy_at.ensures) (search rules) (search rules)

@@ -18,7 +18,7 @@ returns-then-not-is_lawful c = let args = c.args in
     let tag_of = c.tag_of-tag in
     let a = args in
     write_as a.message.now a.index.now (beside a.log.now a.waiting.now) _ _ tag_of.ensures a.date.now a.kind _ _ refl
-    (write-kind _ _ _ _ _ _ _ _ is_lawful.ensures (not-true _ if1.true) _ (c.refuse.ensures _ _))
+    (write-kind _ _ _ _ _ _ _ _ is_lawful.ensures if1.true _ (c.refuse.ensures _ _))
 
 pub data_of-data-requires : goal.data_of-data-requires
 data_of-data-requires c =
@@ -33,7 +33,7 @@ returns-then-data-gt-LONGEST c = let args = c.args in
     let tag_of = c.tag_of-tag in
     let a = args in
     write_as a.message.now a.index.now (beside a.log.now a.waiting.now) _ _ tag_of.ensures a.date.now a.kind _ _ data_of.ensures
-    (write-long _ _ _ _ _ _ _ _ is_lawful.ensures (not-false _ if1.false) if2.true _ (c.refuse-then-data-gt-LONGEST.ensures _ _))
+    (write-long _ _ _ _ _ _ _ _ is_lawful.ensures if1.false if2.true _ (c.refuse-then-data-gt-LONGEST.ensures _ _))
 
 pub returns : goal.returns
 returns c =
@@ -48,4 +48,4 @@ returns c =
     let tag_of = c.tag_of-tag in
     let a = args in
     write_as a.message.now a.index.now (beside a.log.now a.waiting.now) _ _ tag_of.ensures a.date.now a.kind _ _ data_of.ensures
-    (write-stored _ _ _ _ _ _ _ _ is_lawful.ensures (not-false _ if1.false) _ _ _ _ if2.false store.ensures (answer-store.ensures _ _) enter-stored.ensures)
+    (write-stored _ _ _ _ _ _ _ _ is_lawful.ensures if1.false _ _ _ _ if2.false store.ensures (answer-store.ensures _ _) enter-stored.ensures)
