@@ -12,7 +12,7 @@ import re
 import sys
 
 W = r"[^\s(){}.;,@\"«»\[\]\\]+"
-plain = lambda n: re.sub(r"_lem$", "", n).replace("_", "-")
+plain = lambda n: re.sub(r"_lem$", "", n).replace("_", "-").lower()
 
 
 def blocks(text):
@@ -86,9 +86,11 @@ def clause_names():
         for folder, _, files in os.walk(f"crates/{crate}/src"):
             for file in files:
                 text = open(f"{folder}/{file}", encoding="utf-8").read()
+                for m in re.finditer(r"\bfn (\w+)[^;{(]*\(([^)]*)\)", text):
+                    out.setdefault(f"{crate}::{m.group(1)}", {})["lent"] = re.findall(r"(\w+): &(?:'\w+ )?mut ", m.group(2))
                 for m in re.finditer(r"\bfn (\w+)[^;{]*?\)[^;{]*?((?:\n    (?:requires|ensures) [^\n]*(?:\n        [^\n]*)*)+)", text):
                     names = {k: re.findall(rf"\n    {k} (\w+) \{{", m.group(2)) for k in ("ensures", "requires")}
-                    out[f"{crate}::{m.group(1)}"] = names
+                    out.setdefault(f"{crate}::{m.group(1)}", {}).update(names)
     return out
 
 
@@ -214,11 +216,17 @@ class Function:
     def named(self, body, chain):
         """A clause of a call goes by its name."""
         bound = dict(re.findall(rf"let ({W}) = (c\.{W}(?:\.ensures)?) in", body))
+        for name, other in re.findall(rf"let ({W}) = ({W}) in", body):
+            if other in bound:
+                bound[name] = bound[other]
         for p in chain:
+            step = "c." + p[2][1]
+            lent = CLAUSES.get(p[3] or "", {}).get("lent", [])
+            for w in [step] + [n for n, to in bound.items() if to == step]:
+                body = re.sub(rf"(?<![^\s(){{}},;\[\]]){re.escape(w)}\.new\.(\d+)", lambda m: f"{w}.new.{lent[int(m.group(1))]}" if int(m.group(1)) < len(lent) else m.group(0), body)
             names = CLAUSES.get(p[3] or "", {}).get("ensures", [])
             if len(names) < 2:
                 continue
-            step = "c." + p[2][1]
             whole = [step + ".ensures"] + [n + ".ensures" for n, to in bound.items() if to == step] + [n for n, to in bound.items() if to == step + ".ensures"]
             for w in whole:
                 body = re.sub(rf"(?<![^\s(){{}},;\[\]]){re.escape(w)}\.(\d+)", lambda m: f"{w}.{names[int(m.group(1))]}" if int(m.group(1)) < len(names) else m.group(0), body)
@@ -288,6 +296,7 @@ class Function:
         body = self.turn(body, self.n["asked_at"][at][0])
         body = self.named(body, self.chain(self.n["asked_at"][at][0]))
         # The test of a negation is told of what it negates.
+        body = re.sub(rf"(not-(?:true|false) _) \((c\.if-not-{W}(?:\.{W})*)\)", r"\1 \2", body)
         body = re.sub(rf"\(not-(?:true|false) _ (c\.if-not-{W}(?:\.{W})*)\)", r"\1", body)
         body = re.sub(rf"not-(?:true|false) _ (c\.if-not-{W}(?:\.{W})*)", r"\1", body)
         names = self.n["asked"].get(self.n["needs"][at][0])

@@ -39,5 +39,5 @@ returns c = let below_root = c.below_root-below in
     let x = root-bytes in
     let a = c.args in
     root_kept (joined a.end.0 a.log.now a.waiting.now) a.date.now a.score.now a.left a.second.now _ c.visit-m.ensures _ c.in-Found.is _ x.ensures _ _
-    w.ensures.1
+    w.ensures.exact
     _ _ c.keep.ensures.exact

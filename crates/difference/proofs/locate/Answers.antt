@@ -9,7 +9,7 @@ use Rattle.difference.proofs.Rest.{Rest, rest-at-first, none_left, ends_here, go
 use Rattle.difference.proofs.locate.Goals as goal
 
 pub returns-then-not-is_block : goal.returns-then-not-is_block
-returns-then-not-is_block c = let a = c.args in first-refused a.a.now a.b.now (sym TODO.k.is_Block.ensures ∙ c.if-not-is_block.true)
+returns-then-not-is_block c = let a = c.args in first-refused a.a.now a.b.now (sym c.is_block.ensures ∙ c.if-not-is_block.true)
 
 pub returns-then-not-is_block-2 : goal.returns-then-not-is_block-2
 returns-then-not-is_block-2 c =

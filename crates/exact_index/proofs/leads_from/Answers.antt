@@ -10,11 +10,11 @@ use Rattle.exact_index.proofs.leads_from.Goals as goal
 
 pub overflow_add-at : goal.overflow_add-at
 overflow_add-at c =
-    omega (arith, TODO.c.Front-length.ensures, front-most c.args.s.now)
+    omega (arith, c.front_length-k.ensures, front-most c.args.s.now)
 
 pub overflow_add-to : goal.overflow_add-to
 overflow_add-to c =
-    omega (arith, TODO.c.Front-length.ensures, front-most c.args.s.now)
+    omega (arith, c.front_length-k.ensures, front-most c.args.s.now)
 
 -- TODO no such goal
 -- part-read-kind-end : tie.Need-slice-bounds-read-kind-end
@@ -24,15 +24,15 @@ overflow_add-to c =
 pub read_kind-kind-requires : goal.read_kind-kind-requires
 read_kind-kind-requires c = let args = c.args in
     let given = c.requires in
-    kind_fits args.s.now _ TODO.c.before.Front-length.ensures given.1 given.2
+    kind_fits args.s.now _ c.front_length-k.ensures given.1 given.2
 
 pub overflow_add-from : goal.overflow_add-from
 overflow_add-from c =
-    omega (arith, TODO.c.before.before.Front-length.ensures, front-most c.args.s.now)
+    omega (arith, c.front_length-k.ensures, front-most c.args.s.now)
 
 pub overflow_add-last : goal.overflow_add-last
 overflow_add-last c =
-    omega (arith, TODO.c.before.before.Front-length.ensures, front-most c.args.s.now)
+    omega (arith, c.front_length-k.ensures, front-most c.args.s.now)
 
 -- TODO no such goal
 -- part-read-hex-bytes-end : tie.Need-slice-bounds-read-hex-bytes-end
@@ -44,8 +44,8 @@ overflow_add-last c =
 pub returns-then-tells_first : goal.returns-then-tells_first
 returns-then-tells_first c =
     let a = c.args in
-    let digits = score_part a.s.now _ TODO.f.Front-length.ensures in
-    let kind = c.read_kind-kind.ensures ∙ ap hex_value (kind_part a.s.now _ TODO.f.Front-length.ensures) in
+    let digits = score_part a.s.now _ c.front_length-k.ensures in
+    let kind = c.read_kind-kind.ensures ∙ ap hex_value (kind_part a.s.now _ c.front_length-k.ensures) in
     let score = score-read _ _ _ _ (ap is_hex digits ∙ c.requires.3) c.read_hex_bytes.ensures ∙ ap read_bytes digits in
     told-leads (joined a.end.0 a.log.now a.waiting.now) a.index.now _ _ a.n.0 c.requires.4 _ _ _
     c.tells_first.ensures kind score c.if-tells_first.true
@@ -53,16 +53,16 @@ returns-then-tells_first c =
 pub returns-in_default : goal.returns-in_default
 returns-in_default c =
     let a = c.args in
-    let digits = score_part a.s.now _ TODO.f.Front-length.ensures in
-    let kind = c.read_kind-kind.ensures ∙ ap hex_value (kind_part a.s.now _ TODO.f.Front-length.ensures) in
+    let digits = score_part a.s.now _ c.front_length-k.ensures in
+    let kind = c.read_kind-kind.ensures ∙ ap hex_value (kind_part a.s.now _ c.front_length-k.ensures) in
     let score = score-read _ _ _ _ (ap is_hex digits ∙ c.requires.3) c.read_hex_bytes.ensures ∙ ap read_bytes digits in
     found_nowhere (joined a.end.0 a.log.now a.waiting.now) a.index.now a.n.0 _ _ _ _ _ c.find_hint-place.ensures kind score c.in_default.is
 
 pub returns : goal.returns
 returns c =
     let a = c.args in
-    let digits = score_part a.s.now _ TODO.f.Front-length.ensures in
-    let kind = c.read_kind-kind.ensures ∙ ap hex_value (kind_part a.s.now _ TODO.f.Front-length.ensures) in
+    let digits = score_part a.s.now _ c.front_length-k.ensures in
+    let kind = c.read_kind-kind.ensures ∙ ap hex_value (kind_part a.s.now _ c.front_length-k.ensures) in
     let score = score-read _ _ _ _ (ap is_hex digits ∙ c.requires.3) c.read_hex_bytes.ensures ∙ ap read_bytes digits in
     found_at (joined a.end.0 a.log.now a.waiting.now) a.index.now a.n.0 _ _ _ _ _ c.find_hint-place.ensures kind score
     _ c.in-At.is

@@ -114,10 +114,10 @@ run_in-requires c = let are-allowed-here = c.are_allowed in
     let border = c.border-end in
     let descend = c.descend-look in
     let readable = is-readable.ensures in
-    let yes = not-false _ if3.false in
+    let yes = if3.false in
     let l = readable-length a.entry.now _ readable yes in
     let o = opened a.entry.now _ a.offset _ readable yes (entry_whole a.entry.now _ l entry_at.ensures) if4.false in
-    let few = lent-sectors (length a.log.now) (length a.waiting.now) _ are-allowed.ensures (not-false _ if1.false) in (
+    let few = lent-sectors (length a.log.now) (length a.waiting.now) _ are-allowed.ensures if1.false in (
       o.dsize-from,
       o.inside,
       lies_more _ _ descend.result (few_addressable border.result.0 (length a.log.now) (length a.waiting.now) border.ensures.within few.0 few.1)

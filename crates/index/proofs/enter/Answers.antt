@@ -11,7 +11,7 @@ returns-then-p-b c = let args = c.args in
     let a = args in
     let b = bucket-of in
     let w = write-entry in
-    entered-free a.index.now a.score.now a.kind a.first.0 b.result b.ensures.0 _ first-free.ensures _ b.ensures.1.1 if1.true given w.ensures
+    entered-free a.index.now a.score.now a.kind a.first.0 b.result b.ensures.places _ first-free.ensures _ b.ensures.within.1 if1.true given w.ensures
 
 pub returns-else-p-b : goal.returns-else-p-b
 returns-else-p-b c =

@@ -16,7 +16,7 @@ returns-in-6 c = rw c.in-6.is c.exactly-in-6.ensures
 
 pub returns-in-12 : goal.returns-in-12
 unfolding request_of
-returns-in-12 c = rw c.in-12.is TODO.c.Read-of.ensures
+returns-in-12 c = rw c.in-12.is c.read_of.ensures
 
 pub returns-in-14 : goal.returns-in-14
 unfolding request_of

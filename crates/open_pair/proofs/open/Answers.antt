@@ -39,7 +39,7 @@ first c = found_at _ _ _ _ _ (sym c.before.before.read-block.ensures ∙ c.one.g
 
 pub returns-in-Refused-other : goal.returns-in-Refused-other
 returns-in-Refused-other c =
-    λ f h. TODO.c.one_Unit.ensures ∙ ap one_unit c.refused-in-Refused-other.ensures
+    λ f h. c.one_unit.ensures ∙ ap one_unit c.refused-in-Refused-other.ensures
     ∙ second-not-read (both TODO.s) c.args.e c.args.level c.args.nest c.args.s.now c.args.t.now c.args.left (sym c.equal.ensures ∙ c.if-equal.false)
     c.if-nest-gt16.false c.if-left-eq0.false (first TODO.o) _ (sym c.read_block-other.ensures ∙ c.in-Refused-other.is) f h
 

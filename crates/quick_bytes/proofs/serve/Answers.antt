@@ -9,7 +9,7 @@ write_served-requires c =
 pub returns : goal.returns
 returns c =
     let a = c.args in
-    let read_Known = TODO.earlier.before.before.before.before.before.before.before.read_Known in
+    let read_Known = c.read_known-now in
     let serve = c.serve-served in
     let write-served = c.write_served in
     served_by a.known.now a.session a.message.now a.date.now a.index.now a.log.now a.waiting.now a.reply.now _ read_Known.ensures serve.result _ _ _ _

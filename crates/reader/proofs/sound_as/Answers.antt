@@ -16,14 +16,14 @@ pub slice_bounds-sound_behind-end : goal.slice_bounds-sound_behind-end
 slice_bounds-sound_behind-end c =
     let a = c.args in
     let log = joined a.end.0 a.log.now a.waiting.now in
-    front-taken log a.first.0 _ _ c.sector_at-s.ensures TODO.c.before.Front-length.ensures
+    front-taken log a.first.0 _ _ c.sector_at-s.ensures c.front_length-k.ensures
 
 pub sound_behind-requires : goal.sound_behind-requires
 sound_behind-requires c =
     let a = c.args in
     let q = c.requires in
     let log = joined a.end.0 a.log.now a.waiting.now in
-    (q.0, q.1, front_read log a.first.0 _ _ c.sector_at-s.ensures TODO.c.before.Front-length.ensures, q.2)
+    (q.0, q.1, front_read log a.first.0 _ _ c.sector_at-s.ensures c.front_length-k.ensures, q.2)
 
 pub returns : goal.returns
 returns c = c.sound_behind.ensures

@@ -25,7 +25,7 @@ number_at-kind-requires c =
     let a = c.args in
     let q = c.requires in
     let sector-at = c.sector_at-s in
-    let Front-length = TODO.c.Front-length in
+    let Front-length = c.front_length-k in
     let log = joined a.end.0 a.log.now a.waiting.now in
     (q.0, q.1, front-is log a.first.0 _ _ sector-at.ensures Front-length.ensures, omega arith, omega arith)
 
@@ -40,13 +40,13 @@ returns-then-kind-lt1 c =
 pub overflow_add-from : goal.overflow_add-from
 overflow_add-from c =
     let sector-at = c.sector_at-s in
-    let Front-length = TODO.c.before.before.Front-length in
+    let Front-length = c.front_length-k in
     omega (arith, Front-length.ensures, front-most sector-at.result.now)
 
 pub overflow_add-to : goal.overflow_add-to
 overflow_add-to c =
     let sector-at = c.sector_at-s in
-    let Front-length = TODO.c.before.before.Front-length in
+    let Front-length = c.front_length-k in
     omega (arith, Front-length.ensures, front-most sector-at.result.now)
 
 -- TODO no such goal
@@ -62,7 +62,7 @@ pub returns-then-not-read_hex_bytes : goal.returns-then-not-read_hex_bytes
 returns-then-not-read_hex_bytes c =
     let a = c.args in
     let sector-at = c.sector_at-s in
-    let Front-length = TODO.c.before.before.before.before.before.before.before.Front-length in
+    let Front-length = c.front_length-k in
     let read-hex-bytes = c.read_hex_bytes in
     let if2 = c.if-not-read_hex_bytes in
     let log = joined a.end.0 a.log.now a.waiting.now in
@@ -73,7 +73,7 @@ pub slice_bounds-sound_behind-end : goal.slice_bounds-sound_behind-end
 slice_bounds-sound_behind-end c =
     let a = c.args in
     let sector-at = c.sector_at-s in
-    let Front-length = TODO.c.before.before.before.before.before.before.before.before.Front-length in
+    let Front-length = c.front_length-k in
     let log = joined a.end.0 a.log.now a.waiting.now in
     front-taken log a.first.0 _ _ sector-at.ensures Front-length.ensures
 
@@ -91,7 +91,7 @@ sound_behind-requires c =
     let a = c.args in
     let q = c.requires in
     let sector-at = c.sector_at-s in
-    let Front-length = TODO.c.before.before.before.before.before.before.before.before.before.Front-length in
+    let Front-length = c.front_length-k in
     let read-hex-bytes = c.read_hex_bytes in
     let log = joined a.end.0 a.log.now a.waiting.now in
     (q.0, q.1, front_read log a.first.0 sector-at.result.now Front-length.result sector-at.ensures Front-length.ensures, omega arith)
@@ -100,7 +100,7 @@ pub returns : goal.returns
 returns c =
     let a = c.args in
     let sector-at = c.sector_at-s in
-    let Front-length = TODO.c.before.before.before.before.before.before.before.before.before.before.Front-length in
+    let Front-length = c.front_length-k in
     let number_at = c.number_at-kind in
     let if1 = c.if-kind-lt1 in
     let read-hex-bytes = c.read_hex_bytes in

@@ -9,10 +9,10 @@ use Rattle.rebuild.proofs.Turns.{kind_part, kind_fits, score_part, score-read}
 use Rattle.rebuild.proofs.enter_label.Goals as goal
 
 pub overflow_add-at : goal.overflow_add-at
-overflow_add-at c = omega (arith, TODO.c.Front-length.ensures, front-most c.args.s.now)
+overflow_add-at c = omega (arith, c.front_length-k.ensures, front-most c.args.s.now)
 
 pub overflow_add-end : goal.overflow_add-end
-overflow_add-end c = omega (arith, TODO.c.Front-length.ensures, front-most c.args.s.now)
+overflow_add-end c = omega (arith, c.front_length-k.ensures, front-most c.args.s.now)
 
 -- TODO no such goal
 -- part-read-kind-end : tie.Need-slice-bounds-read-kind-end
@@ -20,13 +20,13 @@ overflow_add-end c = omega (arith, TODO.c.Front-length.ensures, front-most c.arg
 
 pub read_kind-kind-requires : goal.read_kind-kind-requires
 read_kind-kind-requires c =
-    kind_fits c.args.s.now _ TODO.c.before.Front-length.ensures c.requires.0 c.requires.1
+    kind_fits c.args.s.now _ c.front_length-k.ensures c.requires.0 c.requires.1
 
 pub overflow_add-from : goal.overflow_add-from
-overflow_add-from c = omega (arith, TODO.c.before.before.Front-length.ensures, front-most c.args.s.now)
+overflow_add-from c = omega (arith, c.front_length-k.ensures, front-most c.args.s.now)
 
 pub overflow_add-to : goal.overflow_add-to
-overflow_add-to c = omega (arith, TODO.c.before.before.Front-length.ensures, front-most c.args.s.now)
+overflow_add-to c = omega (arith, c.front_length-k.ensures, front-most c.args.s.now)
 
 -- TODO no such goal
 -- part-read-hex-bytes-end : tie.Need-slice-bounds-read-hex-bytes-end
@@ -35,7 +35,7 @@ overflow_add-to c = omega (arith, TODO.c.before.before.Front-length.ensures, fro
 pub returns : goal.returns
 returns c =
     let a = c.args in
-    let front = TODO.c.before.before.before.before.before.before.before.before.before.before.before.Front-length in
+    let front = c.front_length-k in
     let digits = score_part a.s.now _ front.ensures in
     c.enter.ensures
     ∙ ap₂ (λ (x : Bytes) (k : ℕ). entered a.index.now x k a.first.0)

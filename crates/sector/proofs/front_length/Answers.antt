@@ -17,11 +17,11 @@ slice_bounds-equal-end c =
 
 pub returns-then-not-equal : goal.returns-then-not-equal
 returns-then-not-equal c = let a = c.args in
-    front-none a.s.now (λ e. unequal _ _ _ (c.equal.ensures) (not-true _ (c.if-not-equal.true)) (dated-name a.s.now e))
+    front-none a.s.now (λ e. unequal _ _ _ (c.equal.ensures) c.if-not-equal.true (dated-name a.s.now e))
 
 pub returns-then-not-is_date : goal.returns-then-not-is_date
 returns-then-not-is_date c = let a = c.args in
-    front-none a.s.now (λ e. denied _ _ (c.is_date.ensures) (not-true _ (c.if-not-is_date.true)) (dated-date a.s.now e))
+    front-none a.s.now (λ e. denied _ _ (c.is_date.ensures) c.if-not-is_date.true (dated-date a.s.now e))
 
 pub returns : goal.returns
 returns c = let a = c.args in
@@ -30,4 +30,4 @@ returns c = let a = c.args in
     let if2 = c.if-not-equal in
     let given = c.requires in
     front-some a.s.now (dated_by a.s.now given (same_true _ _ (sym equal.ensures ∙ if2.false)) if1.false
-    (sym (c.is_date.ensures) ∙ not-false _ (c.if-not-is_date.false)))
+    (sym (c.is_date.ensures) ∙ c.if-not-is_date.false))

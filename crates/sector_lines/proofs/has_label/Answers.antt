@@ -20,7 +20,7 @@ pub returns-then-not-equal : goal.returns-then-not-equal
 returns-then-not-equal c = let a = c.args in
     let given = c.requires in
     sym (label_unlike a.s.now a.front.now (label_of a.l a.score.now) 96 _ (length_label a.l a.score.now given.1) given.0 (c.equal.ensures)
-    (not-true _ (c.if-not-equal.true)))
+    c.if-not-equal.true)
 
 pub returns : goal.returns
 returns c = let a = c.args in

@@ -69,7 +69,7 @@ loop-i-preserved-then-n-eq64 c =
     let more = c.args.more.now in
     let k = c.fewer-k in
     let t = taken l.n l.i (length more) k.result l.invariant.1 c.loop-i-test.true k.ensures in
-    let b = copied {h = l.h} l.buf c.copy_at.new.0 l.n more l.i k.result l.invariant.0 t.0 t.1
+    let b = copied {h = l.h} l.buf c.copy_at.new.d l.n more l.i k.result l.invariant.0 t.0 t.1
     c.copy_at.ensures in
     (b.0, omega arith, t.1, λ m f. rw c.compress-h-then-n-eq64.ensures (block b.0 c.if-n-eq64.true (b.1 m (l.invariant.3 m f))))
 
@@ -87,7 +87,7 @@ loop-i-preserved c =
     let more = c.args.more.now in
     let k = c.fewer-k in
     let t = taken l.n l.i (length more) k.result l.invariant.1 c.loop-i-test.true k.ensures in
-    let b = copied {h = l.h} l.buf c.copy_at.new.0 l.n more l.i k.result l.invariant.0 t.0 t.1 c.copy_at.ensures in
+    let b = copied {h = l.h} l.buf c.copy_at.new.d l.n more l.i k.result l.invariant.0 t.0 t.1 c.copy_at.ensures in
     (b.0, lt_of_le-ne {i = l.n + k.result} {k = 64} t.0 c.if-n-eq64.false, t.1, λ m f. b.1 m (l.invariant.3 m f))
 
 pub returns : goal.returns

@@ -40,9 +40,9 @@ compare-stored-requires c = let args = c.args in
     let border = border-here in
     let a = args in
     let J = joined border.result.0 a.log.now a.waiting.now in (
-      border.ensures.0,
+      border.ensures.within,
       found_within J a.kind _ _ _ _ find-held.ensures c.in-At.is
-          (sectors-joined border.result.0 a.log.now a.waiting.now border.ensures.0),
+          (sectors-joined border.result.0 a.log.now a.waiting.now border.ensures.within),
     )
 
 pub returns : goal.returns

@@ -8,11 +8,11 @@ use Rattle.survey_calls.proofs.sound_at.Goals as goal
 
 pub returns-then-not-is_allowed : goal.returns-then-not-is_allowed
 returns-then-not-is_allowed c = let args = c.args in
-    sound_barred args.log.now args.n _ (c.is_allowed.ensures) (not-true _ (c.if-not-is_allowed.true)) _ (c.number.ensures)
+    sound_barred args.log.now args.n _ (c.is_allowed.ensures) c.if-not-is_allowed.true _ (c.number.ensures)
 
 pub returns-then-count-n : goal.returns-then-count-n
 returns-then-count-n c = let args = c.args in
-    sound-past args.log.now args.n _ (c.is_allowed.ensures) (not-false _ (c.if-not-is_allowed.false)) (omega (arith, c.if-count-n.true))
+    sound-past args.log.now args.n _ (c.is_allowed.ensures) c.if-not-is_allowed.false (omega (arith, c.if-count-n.true))
 
 pub overflow_cast-result-in-At : goal.overflow_cast-result-in-At
 overflow_cast-result-in-At c = let args = c.args in

@@ -18,7 +18,7 @@ pub returns-then-not-are_allowed : goal.returns-then-not-are_allowed
 returns-then-not-are_allowed c = let a = c.args in
     let if1 = c.if-entry-ne-ENTRY in
     log-refused a.log.now a.waiting.now a.date.now a.slice.now a.dsize a.psize a.entry.now a.scores.now if1.false (c.if-scores-lt-SCORES.false) _
-    (c.are_allowed.ensures) (not-true _ (c.if-not-are_allowed.true))
+    (c.are_allowed.ensures) c.if-not-are_allowed.true
 
 pub returns-then-not-is_date : goal.returns-then-not-is_date
 returns-then-not-is_date c = let are-allowed = c.are_allowed in
@@ -26,7 +26,7 @@ returns-then-not-is_date c = let are-allowed = c.are_allowed in
     let if1 = c.if-entry-ne-ENTRY in
     let if2 = c.if-scores-lt-SCORES in
     date-refused a.log.now a.waiting.now a.date.now a.slice.now a.dsize a.psize a.entry.now a.scores.now if1.false if2.false _ are-allowed.ensures
-    (not-false _ (c.if-not-are_allowed.false)) _ (c.is_date.ensures) (not-true _ (c.if-not-is_date.true))
+    c.if-not-are_allowed.false _ (c.is_date.ensures) c.if-not-is_date.true
 
 pub returns-then-slice-gt-LONGEST : goal.returns-then-slice-gt-LONGEST
 returns-then-slice-gt-LONGEST c = let are-allowed = c.are_allowed in
@@ -35,7 +35,7 @@ returns-then-slice-gt-LONGEST c = let are-allowed = c.are_allowed in
     let if2 = c.if-scores-lt-SCORES in
     let if3 = c.if-not-are_allowed in
     slice-long a.log.now a.waiting.now a.date.now a.slice.now a.dsize a.psize a.entry.now a.scores.now if1.false if2.false _ are-allowed.ensures
-    if3.false _ (c.is_date.ensures) (not-false _ (c.if-not-is_date.false)) (c.if-slice-gt-LONGEST.true)
+    if3.false _ (c.is_date.ensures) c.if-not-is_date.false (c.if-slice-gt-LONGEST.true)
 
 pub returns-then-depth-gt7 : goal.returns-then-depth-gt7
 returns-then-depth-gt7 c = let are-allowed = c.are_allowed in
