@@ -102,6 +102,7 @@ class Function:
         self.crate, self.path, self.n = crate, path, names
         self.places = names["places"]
         self.todo = 0
+        self.ways = set()
 
     def chain(self, name):
         at = next((p for p in self.places if p[0] == name), None)
@@ -131,7 +132,11 @@ class Function:
     def step(self, chain, offset, step, rest):
         if step in ("args", "requires", "ranges"):
             return ["c", step, *rest]
-        if step in ("pre", "good", "fits"):
+        if step == "pre":
+            return ["c", "requires", *rest]
+        if step == "fits" and rest:
+            return ["c", "ranges", rest[0], "fits", *rest[1:]]
+        if step in ("good", "fits"):
             return None
         found = None
         order = sorted(range(len(chain)), key=lambda i: abs(i - offset))
@@ -213,6 +218,45 @@ class Function:
         body = re.sub(rf"(?<![^\s(){{}},;\[\]])({names})((?:\.{W})*)(?![^\s(){{}}.;,\[\]])", path, body)
         return body
 
+    def lets(self, body):
+        """The bindings before the last expression, and that expression."""
+        depth, end = 0, 0
+        for m in re.finditer(r"[(\[{]|[)\]}]|(?<=[\s)])in(?=\s)", body):
+            if m.group(0) in "([{":
+                depth += 1
+            elif m.group(0) in ")]}":
+                depth -= 1
+            elif depth == 0:
+                end = m.end()
+        return body[:end] + (" " if end else " "), body[end:].strip()
+
+    def branches(self, body):
+        """A sum of two ways that join is an elimination of the join's branch."""
+        out = ""
+        while True:
+            m = re.search(r"⊎_elim\s*\(", body)
+            if not m:
+                return out + body
+            parts, i = [], m.end() - 1
+            while len(parts) < 2:
+                depth, start = 0, i
+                while True:
+                    depth += (body[i] in "([{") - (body[i] in ")]}")
+                    i += 1
+                    if depth == 0:
+                        break
+                parts.append(body[start + 1 : i - 1])
+                while body[i : i + 1].isspace():
+                    i += 1
+            of = re.match(rf"c\.if-({W})\.branch", body[i:])
+            ways = [re.match(rf"λ ({W})\. (.*)$", p.strip(), re.S) for p in parts]
+            if not of or not all(ways):
+                out, body = out + body[: m.end()], body[m.end() :]
+                continue
+            arms = " | ".join(f"{k}-{of.group(1)} {w.group(1)} ↦ {w.group(2)}" for k, w in zip(("then", "else"), ways))
+            self.ways.update({f"then-{of.group(1)}", f"else-{of.group(1)}"})
+            out, body = out + body[: m.start()] + f"elim c.if-{of.group(1)}.branch [ {arms} ]", body[i + of.end() :]
+
     def named(self, body, chain):
         """A clause of a call goes by its name."""
         bound = dict(re.findall(rf"let ({W}) = (c\.{W}(?:\.ensures)?) in", body))
@@ -273,6 +317,16 @@ class Function:
         at = next((i for i, (old, _) in enumerate(self.n["needs"]) if plain(old) in (key, bare)), None)
         if at is None and re.search(r" = search rules$", text):
             return ""
+        made = None
+        if at is None:
+            at = next((i for i, (_, new) in enumerate(self.n["needs"]) if plain(new) == key), None)
+        if at is None:
+            part = re.match(r"slice-bounds-(.*)-(start|end|count)(-\d+)?$", key)
+            if part:
+                old = f"slice-aggregate-{part.group(1)}{part.group(3) or ''}"
+                at = next((i for i, (o, _) in enumerate(self.n["needs"]) if plain(o) == old), None)
+                if at is not None:
+                    made = re.sub(r"-(start|end|count)((?:-\d+)?)$", rf"-{part.group(2)}\2", self.n["needs"][at][1])
         if at is None:
             self.todo += 1
             return "-- TODO no such goal\n" + "\n".join("-- " + l for l in text.split("\n"))
@@ -291,10 +345,12 @@ class Function:
         body = rest[head.end() :]
         if body.strip() == "search rules" and not unfolding:
             return ""
-        new = self.n["needs"][at][1]
+        new = made or self.n["needs"][at][1]
         body = body.replace("\u2032", "'")
         body = self.turn(body, self.n["asked_at"][at][0])
         body = self.named(body, self.chain(self.n["asked_at"][at][0]))
+        body = self.branches(body)
+        body = re.sub(rf"(c\.{W}\.{W}-own\.keys\d+)", r"(opened \1)", body)
         # The test of a negation is told of what it negates.
         body = re.sub(rf"(not-(?:true|false) _) \((c\.if-not-{W}(?:\.{W})*)\)", r"\1 \2", body)
         body = re.sub(rf"\(not-(?:true|false) _ (c\.if-not-{W}(?:\.{W})*)\)", r"\1", body)
@@ -304,6 +360,9 @@ class Function:
             parts = final_tuple(body)
             if parts and len(parts[1]) == len(names):
                 body = parts[0] + "record { " + "; ".join(f"{n} = {p}" for n, p in zip(names, parts[1])) + " }"
+            elif not re.search(r"record \{|\x00", body):
+                lets, rest = self.lets(body)
+                body = lets + "record { " + "; ".join(f"{n} = ({rest}).{k}" for k, n in enumerate(names)) + " }"
             else:
                 body += f" -- TODO clauses {names}"
                 self.todo += 1
@@ -355,6 +414,10 @@ def main(names, crate):
                 it.write("\n".join([*head, *uses, f"use {base}.Given as goal"]) + "\n\n" + "\n\n".join(invariants) + "\n")
         if answers:
             more = rules if any("rules" in a for a in answers) else []
+            if any("(opened " in a for a in answers):
+                more = [*more, "use borrow.Enum.Refused.{opened}"]
+            if f.ways:
+                more = [*more, f"use {base}.Goals.{{{', '.join(sorted(f.ways))}}}"]
             with open(f"{folder}/Answers.antt", "w", encoding="utf-8") as it:
                 it.write("\n".join([*head, *uses, *more, f"use {base}.Goals as goal"]) + "\n\n" + "\n\n".join(answers) + "\n")
         os.remove(file)

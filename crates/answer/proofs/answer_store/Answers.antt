@@ -6,6 +6,7 @@ use Rattle.sector_log.specs.Parts.{beside}
 use Rattle.request.specs.Step.{written}
 use Rattle.answer.proofs.Returns.{outcome, kept}
 use borrow.Author.Rules.{rules}
+use borrow.Enum.Refused.{opened}
 use Rattle.answer.proofs.answer_store.Goals as goal
 
 pub returns-in-Refused : goal.returns-in-Refused
@@ -23,4 +24,4 @@ pub returns : goal.returns
 returns c = λ log w.
     let a = c.args in
     outcome _ _ _ log w _ _ refl c.write_reply.ensures
-    ∙ kept a.receipt.stored _ _ (beside log w) _ c.in_default.in_default-own.keys2
+    ∙ kept a.receipt.stored _ _ (beside log w) _ (opened c.in_default.in_default-own.keys2)

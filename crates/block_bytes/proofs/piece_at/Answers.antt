@@ -6,12 +6,11 @@ use Rattle.block_bytes.proofs.Pieces.{piece-whole, piece_part}
 use Rattle.block.specs.Log.{joined}
 use Rattle.block_bytes.proofs.piece_at.Goals as goal
 
--- TODO no such goal
--- part-result-end : tie.Need-slice-bounds-result-end
--- part-result-end c =
---     let a = c.before.before.before.before.before.args in
---     let log = joined a.end.0 a.log.now a.waiting.now in
---     omega (arith, c.before.payload-of.ensures, ap length c.before.before.sector-at.ensures ∙ length_at log a.n.0)
+pub slice_bounds-result-end : goal.slice_bounds-result-end
+slice_bounds-result-end c =
+    let a = c.args in
+    let log = joined a.end.0 a.log.now a.waiting.now in
+    omega (arith, c.payload_of.ensures, ap length c.sector_at-s.ensures ∙ length_at log a.n.0)
 
 pub returns-then-payload_of-size : goal.returns-then-payload_of-size
 returns-then-payload_of-size c =
@@ -20,12 +19,11 @@ returns-then-payload_of-size c =
     let sector-at = c.sector_at-s in
     piece-whole a.label log a.n.0 _ a.size sector-at.ensures (omega (arith, c.payload_of.ensures))
 
--- TODO no such goal
--- part-result-end-2 : tie.Need-slice-bounds-result-end-2
--- part-result-end-2 c =
---     let a = c.before.before.before.before.before.args in
---     let log = joined a.end.0 a.log.now a.waiting.now in
---     omega (arith, c.before.payload-of.ensures, ap length c.before.before.sector-at.ensures ∙ length_at log a.n.0)
+pub slice_bounds-result-end-2 : goal.slice_bounds-result-end-2
+slice_bounds-result-end-2 c =
+    let a = c.args in
+    let log = joined a.end.0 a.log.now a.waiting.now in
+    omega (arith, c.payload_of.ensures, ap length c.sector_at-s.ensures ∙ length_at log a.n.0)
 
 pub returns : goal.returns
 returns c =

@@ -49,14 +49,13 @@ overflow_add-next c =
     let l = c.loop-done in
     omega (arith, piece-length a.b.label q.1.1 log l.n (length a.«data».now) l.done c.loop-done-test.true _ c.piece_at-piece.ensures)
 
--- TODO no such goal
--- part-agree-end : tie.Need-slice-bounds-agree-end invariant-loop decreases-loop
--- part-agree-end c =
---     let a = c.before.before.before.before.before.before.args in
---     let q = c.before.before.before.before.before.before.requires in
---     let log = joined a.end.0 a.log.now a.waiting.now in
---     let l = c.before.before.loop in
---     omega (arith, piece-length a.b.label q.1.1 log l.n (length a.«data».now) l.done c.before.loop-test.true _ c.piece-at.ensures)
+pub slice_bounds-agree-end : goal.slice_bounds-agree-end
+slice_bounds-agree-end c =
+    let a = c.args in
+    let q = c.requires in
+    let log = joined a.end.0 a.log.now a.waiting.now in
+    let l = c.loop-done in
+    omega (arith, piece-length a.b.label q.1.1 log l.n (length a.«data».now) l.done c.loop-done-test.true _ c.piece_at-piece.ensures)
 
 pub returns-then-not-agree : goal.returns-then-not-agree
 returns-then-not-agree c =

@@ -19,14 +19,13 @@ overflow_add-to c =
     let a = c.args in
     omega (arith, q.2, front-most (at (joined a.end.0 a.log.now a.waiting.now) a.n.0))
 
--- TODO no such goal
--- part-read-hex-end : tie.Need-slice-bounds-read-hex-end
--- part-read-hex-end c =
---     let a = c.before.before.before.args in
---     let q = c.before.before.before.requires in
---     let sector-at = c.sector-at in
---     let log = joined a.end.0 a.log.now a.waiting.now in
---     omega (arith, ap length sector-at.ensures ∙ length_at log a.n.0, q.2, front-most (at log a.n.0))
+pub slice_bounds-read_hex-end : goal.slice_bounds-read_hex-end
+slice_bounds-read_hex-end c =
+    let a = c.args in
+    let q = c.requires in
+    let sector-at = c.sector_at-s in
+    let log = joined a.end.0 a.log.now a.waiting.now in
+    omega (arith, ap length sector-at.ensures ∙ length_at log a.n.0, q.2, front-most (at log a.n.0))
 
 pub returns-in-Value : goal.returns-in-Value
 returns-in-Value c =

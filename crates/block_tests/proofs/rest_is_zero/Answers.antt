@@ -59,24 +59,22 @@ slice_bounds-is_zero-count c =
     let pos : 0 < p = omega (arith, c.payload_of-p.ensures) in
     omega (arith, c.payload_of-p.ensures, last-bounds p pos a.b.size q.1)
 
--- TODO no such goal
--- part-is-zero-start : tie.Need-slice-bounds-is-zero-start
--- part-is-zero-start c =
---     let a = c.before.before.before.before.before.before.before.before.args in
---     let q = c.before.before.before.before.before.before.before.before.requires in
---     let p = c.before.before.before.before.before.payload-of.result in
---     let pos : 0 < p = omega (arith, c.before.before.before.before.before.payload-of.ensures) in
---     omega (arith, c.before.before.before.before.before.payload-of.ensures, last-bounds p pos a.b.size q.1)
+pub slice_bounds-is_zero-start : goal.slice_bounds-is_zero-start
+slice_bounds-is_zero-start c =
+    let a = c.args in
+    let q = c.requires in
+    let p = c.payload_of-p.result in
+    let pos : 0 < p = omega (arith, c.payload_of-p.ensures) in
+    omega (arith, c.payload_of-p.ensures, last-bounds p pos a.b.size q.1)
 
--- TODO no such goal
--- part-is-zero-end : tie.Need-slice-bounds-is-zero-end
--- part-is-zero-end c =
---     let a = c.before.before.before.before.before.before.before.before.args in
---     let q = c.before.before.before.before.before.before.before.before.requires in
---     let p = c.before.before.before.before.before.payload-of.result in
---     let pos : 0 < p = omega (arith, c.before.before.before.before.before.payload-of.ensures) in
---     let log = joined a.end.0 a.log.now a.waiting.now in
---     omega (arith, ap length c.sector-at.ensures ∙ length_at log _, c.before.before.before.before.before.payload-of.ensures, last-bounds p pos a.b.size q.1)
+pub slice_bounds-is_zero-end : goal.slice_bounds-is_zero-end
+slice_bounds-is_zero-end c =
+    let a = c.args in
+    let q = c.requires in
+    let p = c.payload_of-p.result in
+    let pos : 0 < p = omega (arith, c.payload_of-p.ensures) in
+    let log = joined a.end.0 a.log.now a.waiting.now in
+    omega (arith, ap length c.sector_at-s.ensures ∙ length_at log _, c.payload_of-p.ensures, last-bounds p pos a.b.size q.1)
 
 pub returns : goal.returns
 returns c =

@@ -26,23 +26,21 @@ slice_bounds-is_name-count c =
     let p = placed s l.at (omega arith) line_at_lem.result line_at_lem.ensures _ _ _ c.in-Line.is in
     omega (arith, p.1.starts)
 
--- TODO no such goal
--- part-is-name-start : tie.Need-slice-bounds-is-name-start invariant-loop decreases-loop
--- part-is-name-start c =
---     let s = c.before.before.before.before.before.before.before.args.s.now in
---     let l = c.before.before.before.before.before.loop in
---     let line_at_lem = c.before.before.before.line_at_lem in
---     let p = placed s l.at (omega arith) line_at_lem.result line_at_lem.ensures _ _ _ c.before.place.given.1 in
---     omega (arith, p.1.starts)
+pub slice_bounds-is_name-start : goal.slice_bounds-is_name-start
+slice_bounds-is_name-start c =
+    let s = c.args.s.now in
+    let l = c.loop-at in
+    let line_at_lem = c.line_at-place in
+    let p = placed s l.at (omega arith) line_at_lem.result line_at_lem.ensures _ _ _ c.in-Line.is in
+    omega (arith, p.1.starts)
 
--- TODO no such goal
--- part-is-name-end : tie.Need-slice-bounds-is-name-end invariant-loop decreases-loop
--- part-is-name-end c =
---     let s = c.before.before.before.before.before.before.before.args.s.now in
---     let l = c.before.before.before.before.before.loop in
---     let line_at_lem = c.before.before.before.line_at_lem in
---     let p = placed s l.at (omega arith) line_at_lem.result line_at_lem.ensures _ _ _ c.before.place.given.1 in
---     omega (arith, p.1.ends, p.1.fits)
+pub slice_bounds-is_name-end : goal.slice_bounds-is_name-end
+slice_bounds-is_name-end c =
+    let s = c.args.s.now in
+    let l = c.loop-at in
+    let line_at_lem = c.line_at-place in
+    let p = placed s l.at (omega arith) line_at_lem.result line_at_lem.ensures _ _ _ c.in-Line.is in
+    omega (arith, p.1.ends, p.1.fits)
 
 pub returns-then-not-is_name : goal.returns-then-not-is_name
 returns-then-not-is_name c =

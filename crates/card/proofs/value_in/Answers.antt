@@ -24,23 +24,21 @@ slice_bounds-equal-count c =
     let p = placed a.card.now l.at (omega arith) line_at_lem.result line_at_lem.ensures _ _ _ c.in-Line.is in
     omega (arith, p.1.starts)
 
--- TODO no such goal
--- part-equal-start : tie.Need-slice-bounds-equal-start invariant-loop decreases-loop
--- part-equal-start c =
---     let a = c.before.before.before.before.before.before.before.before.args in
---     let l = c.before.before.before.before.before.loop in
---     let line_at_lem = c.before.before.before.line_at_lem in
---     let p = placed a.card.now l.at (omega arith) line_at_lem.result line_at_lem.ensures _ _ _ c.before.place.given.1 in
---     omega (arith, p.1.starts)
+pub slice_bounds-equal-start : goal.slice_bounds-equal-start
+slice_bounds-equal-start c =
+    let a = c.args in
+    let l = c.loop-at in
+    let line_at_lem = c.line_at-place in
+    let p = placed a.card.now l.at (omega arith) line_at_lem.result line_at_lem.ensures _ _ _ c.in-Line.is in
+    omega (arith, p.1.starts)
 
--- TODO no such goal
--- part-equal-end : tie.Need-slice-bounds-equal-end invariant-loop decreases-loop
--- part-equal-end c =
---     let a = c.before.before.before.before.before.before.before.before.args in
---     let l = c.before.before.before.before.before.loop in
---     let line_at_lem = c.before.before.before.line_at_lem in
---     let p = placed a.card.now l.at (omega arith) line_at_lem.result line_at_lem.ensures _ _ _ c.before.place.given.1 in
---     omega (arith, p.1.ends, p.1.fits)
+pub slice_bounds-equal-end : goal.slice_bounds-equal-end
+slice_bounds-equal-end c =
+    let a = c.args in
+    let l = c.loop-at in
+    let line_at_lem = c.line_at-place in
+    let p = placed a.card.now l.at (omega arith) line_at_lem.result line_at_lem.ensures _ _ _ c.in-Line.is in
+    omega (arith, p.1.ends, p.1.fits)
 
 pub returns-then-equal : goal.returns-then-equal
 returns-then-equal c =

@@ -20,7 +20,7 @@ returns-in_default c =
 pub root_bytes-root-requires : goal.root_bytes-root-requires
 root_bytes-root-requires c =
     let a = c.args in
-    (TODO.f.pre.0, in_both a.end.0 a.log.now a.waiting.now TODO.f.pre.0 _ (found TODO.k).in_log)
+    (c.requires.0, in_both a.end.0 a.log.now a.waiting.now c.requires.0 _ (found TODO.k).in_log)
 
 pub overflow_sub-left : goal.overflow_sub-left
 overflow_sub-left c = omega (arith, (found TODO.c.before.before.before.before).some_left)
@@ -29,8 +29,8 @@ pub keep-requires : goal.keep-requires
 keep-requires c =
     let w = c.below_root-below in
     let a = c.args in
-    let h : w.result.visits + 1 < 2 ^ 64 = omega (arith, (found TODO.k).some_left, w.ensures.within, TODO.f.fits.left) in
-    (TODO.f.pre.0, in_both a.end.0 a.log.now a.waiting.now TODO.f.pre.0 _ (found TODO.k).in_log, (found TODO.k).not_many, TODO.f.pre.2, h)
+    let h : w.result.visits + 1 < 2 ^ 64 = omega (arith, (found TODO.k).some_left, w.ensures.within, c.ranges.left.fits) in
+    (c.requires.0, in_both a.end.0 a.log.now a.waiting.now c.requires.0 _ (found TODO.k).in_log, (found TODO.k).not_many, c.requires.2, h)
 
 pub returns : goal.returns
 returns c = let below_root = c.below_root-below in

@@ -12,9 +12,8 @@ loop-n-init c =
     let a = c.args in
     cutting zero_score a.b.now (whole_units_lem zero_score (length a.b.now) c.requires)
 
--- TODO no such goal
--- part-is-zero-score-end : tie.Need-slice-bounds-is-zero-score-end invariant-loop decreases-loop
--- part-is-zero-score-end c = omega (arith, c.before.loop.invariant.within)
+pub slice_bounds-is_zero_score-end : goal.slice_bounds-is_zero_score-end
+slice_bounds-is_zero_score-end c = omega (arith, c.loop-n.invariant.within)
 
 pub returns-then-not-is_zero_score : goal.returns-then-not-is_zero_score
 returns-then-not-is_zero_score c =

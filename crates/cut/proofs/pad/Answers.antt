@@ -25,19 +25,17 @@ slice_bounds-fill-count c =
     let h = allowed (unit_of a.kind) (length a.buffer.now) a.len a.target (sym c.may_pad-allowed.ensures ∙ c.if-not-allowed.false) in
     omega (arith, h.longer, h.within)
 
--- TODO no such goal
--- part-fill-start : tie.Need-slice-bounds-fill-start
--- part-fill-start c =
---     let a = c.before.before.before.before.before.args in
---     let h = allowed (unit_of a.kind) (length a.buffer.now) a.len a.target (sym c.before.before.may-pad.ensures ∙ not-false _ c.if2.false) in
---     omega (arith, h.longer, h.within)
+pub slice_bounds-fill-start : goal.slice_bounds-fill-start
+slice_bounds-fill-start c =
+    let a = c.args in
+    let h = allowed (unit_of a.kind) (length a.buffer.now) a.len a.target (sym c.may_pad-allowed.ensures ∙ c.if-not-allowed.false) in
+    omega (arith, h.longer, h.within)
 
--- TODO no such goal
--- part-fill-end : tie.Need-slice-bounds-fill-end
--- part-fill-end c =
---     let a = c.before.before.before.before.before.args in
---     let h = allowed (unit_of a.kind) (length a.buffer.now) a.len a.target (sym c.before.before.may-pad.ensures ∙ not-false _ c.if2.false) in
---     omega (arith, h.within)
+pub slice_bounds-fill-end : goal.slice_bounds-fill-end
+slice_bounds-fill-end c =
+    let a = c.args in
+    let h = allowed (unit_of a.kind) (length a.buffer.now) a.len a.target (sym c.may_pad-allowed.ensures ∙ c.if-not-allowed.false) in
+    omega (arith, h.within)
 
 pub fill-requires : goal.fill-requires
 fill-requires c =

@@ -33,20 +33,13 @@ returns-then-not-second c =
     only-first (entry_at a.a.now a.i) (entry_at a.b.now a.i) c.is_active.ensures c.is_active-second.ensures c.if-not-is_active.false
     c.if-not-second.true
 
--- TODO no such goal
--- first-whole : tie.Need-slice-bounds-equal-end
--- first-whole c =
---     let t = c.before.before in
---     let f = start t.before in
---     omega (arith, active-within f.args.a.now f.args.i f.pre.0 (sym t.is-active2.ensures ∙ not-false _ c.before.if1.false))
+pub slice_bounds-equal-end : goal.slice_bounds-equal-end
+slice_bounds-equal-end c =
+    omega (arith, active-within c.args.a.now c.args.i c.requires.0 (sym c.is_active.ensures ∙ c.if-not-is_active.false))
 
--- TODO no such goal
--- second-whole : tie.Need-slice-bounds-equal-end-2
--- second-whole c =
---     let i = c.before in
---     let t = i.before.before in
---     let f = start t.before in
---     omega (arith, active-within f.args.b.now f.args.i f.pre.1 (sym t.before.is-active.ensures ∙ not-false _ i.if3.false))
+pub slice_bounds-equal-end-2 : goal.slice_bounds-equal-end-2
+slice_bounds-equal-end-2 c =
+    omega (arith, active-within c.args.b.now c.args.i c.requires.1 (sym c.is_active-second.ensures ∙ c.if-not-second.false))
 
 -- both active: by whether they are equal
 both : (e : tie.After-equal) → let a = (start e.before.before.before.before.before.before).args in

@@ -16,10 +16,9 @@ pub overflow_add-to : goal.overflow_add-to
 overflow_add-to c =
     omega (arith, c.front_length-k.ensures, front-most c.args.s.now)
 
--- TODO no such goal
--- part-read-kind-end : tie.Need-slice-bounds-read-kind-end
--- part-read-kind-end c =
---     omega (arith, c.Front-length.ensures, front-most c.before.before.before.before.before.args.s.now, c.before.before.before.before.before.requires.1)
+pub slice_bounds-read_kind-end : goal.slice_bounds-read_kind-end
+slice_bounds-read_kind-end c =
+    omega (arith, c.front_length-k.ensures, front-most c.args.s.now, c.requires.1)
 
 pub read_kind-kind-requires : goal.read_kind-kind-requires
 read_kind-kind-requires c = let args = c.args in
@@ -34,12 +33,11 @@ pub overflow_add-last : goal.overflow_add-last
 overflow_add-last c =
     omega (arith, c.front_length-k.ensures, front-most c.args.s.now)
 
--- TODO no such goal
--- part-read-hex-bytes-end : tie.Need-slice-bounds-read-hex-bytes-end
--- part-read-hex-bytes-end c = let args = c.before.before.before.before.before.before.before.before.args in
---     let Front-length = c.before.before.before.Front-length in
---     let given = c.before.before.before.before.before.before.before.before.requires in
---     omega (arith, Front-length.ensures, front-most args.s.now, given.1)
+pub slice_bounds-read_hex_bytes-end : goal.slice_bounds-read_hex_bytes-end
+slice_bounds-read_hex_bytes-end c = let args = c.args in
+    let Front-length = c.front_length-k in
+    let given = c.requires in
+    omega (arith, Front-length.ensures, front-most args.s.now, given.1)
 
 pub returns-then-tells_first : goal.returns-then-tells_first
 returns-then-tells_first c =

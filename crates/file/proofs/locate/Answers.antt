@@ -72,13 +72,12 @@ returns-then-e-offset c =
     (stops_offset _ both a.page.now a.entry.now a.offset _ are-allowed.ensures if1.false _ is-page.ensures if2.false _
     readable yes _ (entry_whole a.entry.now _ l entry_at.ensures) if4.true)
 
--- TODO no such goal
--- part-descend-end : tie.Need-slice-bounds-descend-end
--- part-descend-end c =
---     let a = c.before.before.before.before.before.before.before.before.before.before.before.before.before.before.args in
---     let is-readable = c.before.before.before.before.before.is-readable in
---     let if3 = c.before.before.before.before.if3 in
---     omega (arith, readable-length a.entry.now _ is-readable.ensures (not-false _ if3.false))
+pub slice_bounds-descend-end : goal.slice_bounds-descend-end
+slice_bounds-descend-end c =
+    let a = c.args in
+    let is-readable = c.is_readable in
+    let if3 = c.if-not-is_readable in
+    omega (arith, readable-length a.entry.now _ is-readable.ensures if3.false)
 
 pub descend-look-requires : goal.descend-look-requires
 descend-look-requires c =

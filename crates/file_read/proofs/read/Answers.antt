@@ -11,13 +11,11 @@ overflow_add-end c =
     let locate = c.locate-run in
     omega (arith, stored_in_lem a.log.now a.waiting.now a.page.now a.entry.now a.offset _ locate.ensures _ _ c.in-Stored.is)
 
--- TODO no such goal
--- part-result-end : tie.Need-slice-bounds-result-end
--- part-result-end c =
---     let a = c.before.before.before.before.before.before.before.before.args in
---     let locate = c.before.before.before.locate in
---     let run = c.before.run in
---     omega (arith, stored_in_lem a.log.now a.waiting.now a.page.now a.entry.now a.offset _ locate.ensures _ _ run.given.1)
+pub slice_bounds-result-end : goal.slice_bounds-result-end
+slice_bounds-result-end c =
+    let a = c.args in
+    let locate = c.locate-run in
+    omega (arith, stored_in_lem a.log.now a.waiting.now a.page.now a.entry.now a.offset _ locate.ensures _ _ c.in-Stored.is)
 
 pub returns-in-Stored : goal.returns-in-Stored
 returns-in-Stored c =
@@ -30,13 +28,12 @@ overflow_add-end-in-Waiting c =
     let locate = c.locate-run in
     omega (arith, waiting_in a.log.now a.waiting.now a.page.now a.entry.now a.offset _ locate.ensures _ _ c.in-Waiting.is)
 
--- TODO no such goal
--- part-result-end-2 : tie.Need-slice-bounds-result-end-2
--- part-result-end-2 c =
---     let a = c.before.before.before.before.before.before.before.before.args in
---     let locate = c.before.before.before.locate in
---     let run2 = c.before.run2 in
---     omega (arith, waiting_in a.log.now a.waiting.now a.page.now a.entry.now a.offset _ locate.ensures _ _ run2.given.1)
+pub slice_bounds-result-end-in-Refused : goal.slice_bounds-result-end-in-Refused
+slice_bounds-result-end-in-Refused c =
+    let a = c.args in
+    let locate = c.locate-run in
+    let run2 = TODO.c.before.run2 in
+    omega (arith, waiting_in a.log.now a.waiting.now a.page.now a.entry.now a.offset _ locate.ensures _ _ run2.given.1)
 
 pub returns-in-Waiting : goal.returns-in-Waiting
 returns-in-Waiting c =

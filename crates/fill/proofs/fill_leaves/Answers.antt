@@ -26,9 +26,8 @@ loop-done-init c =
 pub overflow_add-o : goal.overflow_add-o
 overflow_add-o c = omega (arith, c.loop-done-test.true, c.lesser-count.ensures)
 
--- TODO no such goal
--- part-fill-leaf-end : tie.Need-slice-bounds-fill-leaf-end invariant-loop decreases-loop
--- part-fill-leaf-end c = omega (arith, c.before.loop.invariant.1, c.before.before.lesser.ensures)
+pub slice_bounds-fill_leaf-end : goal.slice_bounds-fill_leaf-end
+slice_bounds-fill_leaf-end c = omega (arith, c.loop-done.invariant.1, c.lesser-count.ensures)
 
 pub fill_leaf-leaf-requires : goal.fill_leaf-leaf-requires
 fill_leaf-leaf-requires c =

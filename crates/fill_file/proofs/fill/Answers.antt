@@ -49,13 +49,12 @@ returns-then-e-offset c =
     is-readable.ensures if2.false
     _ (entry_whole a.entry.now _ l entry_at.ensures) if3.true
 
--- TODO no such goal
--- part-fill-leaves-end : tie.Need-slice-bounds-fill-leaves-end
--- part-fill-leaves-end c =
---     let a = c.before.before.before.before.before.before.before.before.before.before.before.before.args in
---     let is-readable = c.before.before.before.before.before.is-readable in
---     let if2 = c.before.before.before.before.if2 in
---     omega (arith, readable-length a.entry.now _ is-readable.ensures (not-false _ if2.false))
+pub slice_bounds-fill_leaves-end : goal.slice_bounds-fill_leaves-end
+slice_bounds-fill_leaves-end c =
+    let a = c.args in
+    let is-readable = c.is_readable in
+    let if2 = c.if-not-is_readable in
+    omega (arith, readable-length a.entry.now _ is-readable.ensures if2.false)
 
 pub fill_leaves-requires : goal.fill_leaves-requires
 fill_leaves-requires c =

@@ -2,13 +2,12 @@ use native.Mathlib.Omega.{arith}
 use Rattle.index.proofs.Turns.{named-length, entry-written, entry_length_lem}
 use Rattle.index.proofs.write_entry.Goals as goal
 
--- TODO no such goal
--- part-put-be-end : tie.Need-slice-bounds-put-be-end
--- part-put-be-end c = let args = c.before.before.before.before.before.before.args in
---     let given = c.before.before.before.before.before.before.requires in
---     let a = args in
---     let k = named-length a.place.now _ a.score.now a.kind given.0 given.1 c.before.before.copy_at.ensures in
---     omega (arith, k)
+pub slice_bounds-put_be-end : goal.slice_bounds-put_be-end
+slice_bounds-put_be-end c = let args = c.args in
+    let given = c.requires in
+    let a = args in
+    let k = named-length a.place.now _ a.score.now a.kind given.0 given.1 c.copy_at.ensures in
+    omega (arith, k)
 
 pub shape_of-place : goal.shape_of-place
 shape_of-place c = let copy_at = c.copy_at in

@@ -1,5 +1,6 @@
 use Rattle.index_stored.proofs.Entered.{entered-new, entered-none}
 use mathlib.Core.Path.{◌∙◌}
+use borrow.Enum.Refused.{opened}
 use Rattle.index_stored.proofs.enter_stored.Goals as goal
 
 pub returns-in-New : goal.returns-in-New
@@ -9,4 +10,4 @@ returns-in-New c =
 pub returns-in_default : goal.returns-in_default
 returns-in_default c =
     let a = c.args in
-    entered-none a.stored a.score.now a.index.now a.kind c.in_default.in_default-own.keys2
+    entered-none a.stored a.score.now a.index.now a.kind (opened c.in_default.in_default-own.keys2)

@@ -14,5 +14,4 @@ move_behind-requires c =
 pub returns : goal.returns
 unfolding can_settle_known settled_known
 returns c =
-    let move-behind = c.move_behind in
-    move-behind.ensures -- TODO clauses ['fits', 'lent']
+    let move-behind = c.move_behind in record { fits = (move-behind.ensures).0; lent = (move-behind.ensures).1 }

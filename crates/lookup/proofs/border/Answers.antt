@@ -4,8 +4,7 @@ use Rattle.lookup.proofs.border.Goals as goal
 
 pub returns-then-waits-gt0 : goal.returns-then-waits-gt0
 returns-then-waits-gt0 c =
-    let a = c.args in
-    border_used c.used_part.result.0 a.log.now a.waiting.now c.used_part.ensures -- TODO clauses ['within', 'alike']
+    let a = c.args in record { within = (border_used c.used_part.result.0 a.log.now a.waiting.now c.used_part.ensures).0; alike = (border_used c.used_part.result.0 a.log.now a.waiting.now c.used_part.ensures).1 }
 
 pub returns : goal.returns
 returns c =

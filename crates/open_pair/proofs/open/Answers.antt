@@ -52,7 +52,7 @@ second c = found_at _ _ _ _ _ (sym c.before.before.read-block2.ensures ∙ c.oth
 pub returns-in-Found-other : goal.returns-in-Found-other
 returns-in-Found-other c =
     let a = c.args in
-    let p = TODO.s.pre.0 in (
+    let p = c.requires.0 in (
       lies a.end.0 a.log.now a.waiting.now p (first TODO.o),
       lies a.end.0 a.log.now a.waiting.now p (second TODO.u),
       c.if-nest-gt16.false,

@@ -49,14 +49,13 @@ overflow_add-to c =
     let Front-length = c.front_length-k in
     omega (arith, Front-length.ensures, front-most sector-at.result.now)
 
--- TODO no such goal
--- part-read-hex-bytes-end : tie.Need-slice-bounds-read-hex-bytes-end
--- part-read-hex-bytes-end c =
---     let a = c.before.before.before.before.before.before.before.args in
---     let sector-at = c.before.before.before.before.sector-at in
---     let Front-length = c.before.before.before.Front-length in
---     let log = joined a.end.0 a.log.now a.waiting.now in
---     omega (arith, Front-length.ensures, front-most sector-at.result.now, ap length sector-at.ensures ∙ length_at log a.first.0)
+pub slice_bounds-read_hex_bytes-end : goal.slice_bounds-read_hex_bytes-end
+slice_bounds-read_hex_bytes-end c =
+    let a = c.args in
+    let sector-at = c.sector_at-s in
+    let Front-length = c.front_length-k in
+    let log = joined a.end.0 a.log.now a.waiting.now in
+    omega (arith, Front-length.ensures, front-most sector-at.result.now, ap length sector-at.ensures ∙ length_at log a.first.0)
 
 pub returns-then-not-read_hex_bytes : goal.returns-then-not-read_hex_bytes
 returns-then-not-read_hex_bytes c =

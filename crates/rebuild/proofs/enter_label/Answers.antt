@@ -14,9 +14,8 @@ overflow_add-at c = omega (arith, c.front_length-k.ensures, front-most c.args.s.
 pub overflow_add-end : goal.overflow_add-end
 overflow_add-end c = omega (arith, c.front_length-k.ensures, front-most c.args.s.now)
 
--- TODO no such goal
--- part-read-kind-end : tie.Need-slice-bounds-read-kind-end
--- part-read-kind-end c = omega (arith, c.Front-length.ensures, front-most c.before.before.before.args.s.now)
+pub slice_bounds-read_kind-end : goal.slice_bounds-read_kind-end
+slice_bounds-read_kind-end c = omega (arith, c.front_length-k.ensures, front-most c.args.s.now)
 
 pub read_kind-kind-requires : goal.read_kind-kind-requires
 read_kind-kind-requires c =
@@ -28,9 +27,8 @@ overflow_add-from c = omega (arith, c.front_length-k.ensures, front-most c.args.
 pub overflow_add-to : goal.overflow_add-to
 overflow_add-to c = omega (arith, c.front_length-k.ensures, front-most c.args.s.now)
 
--- TODO no such goal
--- part-read-hex-bytes-end : tie.Need-slice-bounds-read-hex-bytes-end
--- part-read-hex-bytes-end c = omega (arith, c.before.before.before.Front-length.ensures, front-most c.before.before.before.before.before.before.args.s.now)
+pub slice_bounds-read_hex_bytes-end : goal.slice_bounds-read_hex_bytes-end
+slice_bounds-read_hex_bytes-end c = omega (arith, c.front_length-k.ensures, front-most c.args.s.now)
 
 pub returns : goal.returns
 returns c =

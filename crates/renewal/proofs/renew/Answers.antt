@@ -5,13 +5,11 @@ pub returns-then-belongs : goal.returns-then-belongs
 returns-then-belongs c =
     let belongs = c.belongs in
     let if1 = c.if-belongs in
-    let a = c.args in
-    stays a.known a.log.now a.waiting.now a.index.now _ belongs.ensures if1.true -- TODO clauses ['fits', 'anew']
+    let a = c.args in record { fits = (stays a.known a.log.now a.waiting.now a.index.now _ belongs.ensures if1.true).0; anew = (stays a.known a.log.now a.waiting.now a.index.now _ belongs.ensures if1.true).1 }
 
 pub returns : goal.returns
 returns c =
     let belongs = c.belongs in
     let if1 = c.if-belongs in
     let learn = c.learn in
-    let a = c.args in
-    anew a.known a.log.now a.waiting.now a.index.now _ belongs.ensures if1.false _ learn.ensures -- TODO clauses ['fits', 'anew']
+    let a = c.args in record { fits = (anew a.known a.log.now a.waiting.now a.index.now _ belongs.ensures if1.false _ learn.ensures).0; anew = (anew a.known a.log.now a.waiting.now a.index.now _ belongs.ensures if1.false _ learn.ensures).1 }

@@ -19,9 +19,8 @@ fewer-k-requires c = tt
 pub overflow_add-end : goal.overflow_add-end
 overflow_add-end c = omega (arith, c.fewer-k.ensures)
 
--- TODO no such goal
--- part-compress-end : tie.Need-slice-bounds-compress-end invariant-loop decreases-loop
--- part-compress-end c = omega (arith, c.before.fewer.ensures)
+pub slice_bounds-compress-end : goal.slice_bounds-compress-end
+slice_bounds-compress-end c = omega (arith, c.fewer-k.ensures)
 
 pub compress-h-requires : goal.compress-h-requires
 compress-h-requires c =

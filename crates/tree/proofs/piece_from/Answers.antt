@@ -50,15 +50,14 @@ overflow_add-to c =
     let m = mod-lt a.k pos in
     omega (arith, m, payload-of.ensures, c.least.ensures)
 
--- TODO no such goal
--- part-result-end : tie.Need-slice-bounds-result-end
--- part-result-end c =
---     let a = c.before.before.before.before.before.before.before.before.args in
---     let payload-of = c.before.before.before.before.before.payload-of in
---     let pos : 0 < payload-of.result = omega (arith, payload-of.ensures) in
---     let m = mod-lt a.k pos in
---     let log = joined a.end.0 a.log.now a.waiting.now in
---     omega (arith, m, payload-of.ensures, c.least.ensures, ap length c.before.before.before.sector-at.ensures ∙ length_at log (a.b.first.0 + a.k / payload-of.result))
+pub slice_bounds-result-end : goal.slice_bounds-result-end
+slice_bounds-result-end c =
+    let a = c.args in
+    let payload-of = c.payload_of-p in
+    let pos : 0 < payload-of.result = omega (arith, payload-of.ensures) in
+    let m = mod-lt a.k pos in
+    let log = joined a.end.0 a.log.now a.waiting.now in
+    omega (arith, m, payload-of.ensures, c.least.ensures, ap length c.sector_at-s.ensures ∙ length_at log (a.b.first.0 + a.k / payload-of.result))
 
 pub returns : goal.returns
 returns c =

@@ -18,7 +18,7 @@ returns-in_default c =
 
 pub root_bytes-root-requires : goal.root_bytes-root-requires
 root_bytes-root-requires c =
-    let p = TODO.f.pre.0 in
+    let p = c.requires.0 in
     (p, in_both c.args.end.0 c.args.log.now c.args.waiting.now p _ (found TODO.c.before).in_log)
 
 pub returns-then-not-is_root : goal.returns-then-not-is_root

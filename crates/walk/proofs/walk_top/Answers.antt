@@ -13,8 +13,7 @@ found c = found-known _ _ _ _ _ _ _ c.before.before.visit.ensures _ c.look.given
 
 pub returns-in_default : goal.returns-in_default
 returns-in_default c =
-    let a = c.args in
-    top-refused (joined a.end.0 a.log.now a.waiting.now) a.score.now a.left c.visit-m.ensures c.in_default.is c.answer.ensures -- TODO clauses ['within', 'exact']
+    let a = c.args in record { within = (top-refused (joined a.end.0 a.log.now a.waiting.now) a.score.now a.left c.visit-m.ensures c.in_default.is c.answer.ensures).0; exact = (top-refused (joined a.end.0 a.log.now a.waiting.now) a.score.now a.left c.visit-m.ensures c.in_default.is c.answer.ensures).1 }
 
 pub overflow_sub-left : goal.overflow_sub-left
 overflow_sub-left c = omega (arith, (found TODO.c.before).some_left)
@@ -22,8 +21,8 @@ overflow_sub-left c = omega (arith, (found TODO.c.before).some_left)
 pub visit_directory-requires : goal.visit_directory-requires
 visit_directory-requires c =
     let k = found TODO.c.before in
-    let p = TODO.f.pre.0 in
+    let p = c.requires.0 in
     (p, in_both c.args.end.0 c.args.log.now c.args.waiting.now p _ k.in_log, k.not_many, k.not-deep)
 
 pub returns : goal.returns
-returns c = rw c.one_more.ensures (top-found (found TODO.c.before.before.before) _ c.visit_directory.ensures) -- TODO clauses ['within', 'exact']
+returns c = record { within = (rw c.one_more.ensures (top-found (found TODO.c.before.before.before) _ c.visit_directory.ensures)).0; exact = (rw c.one_more.ensures (top-found (found TODO.c.before.before.before) _ c.visit_directory.ensures)).1 }

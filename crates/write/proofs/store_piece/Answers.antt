@@ -18,10 +18,10 @@ begins : (s : tie.Start) → s.args.width * s.args.i + 1 ≤ length s.args.sourc
 begins s = omega (arith, part_start s.args.width (length s.args.source.now) s.args.i s.pre.2 s.pre.5)
 
 pub overflow_mul-at : goal.overflow_mul-at
-overflow_mul-at c = omega (arith, begins TODO.c.before.before.before.before, TODO.c.before.before.before.before.pre.4)
+overflow_mul-at c = omega (arith, begins TODO.c.before.before.before.before, c.requires.4)
 
 pub overflow_add-at : goal.overflow_add-at
-overflow_add-at c = let p = TODO.c.before.before.before.before.pre in omega (arith, begins TODO.c.before.before.before.before, p.3, p.4)
+overflow_add-at c = let p = c.requires in omega (arith, begins TODO.c.before.before.before.before, p.3, p.4)
 
 pub slice_bounds-store_cut-count : goal.slice_bounds-store_cut-count
 slice_bounds-store_cut-count c = omega (arith, begins TODO.c.before.before.before.before.before.before, c.smaller-to.ensures)
@@ -37,7 +37,7 @@ store_cut-requires c =
     let a = c.args in
     let p = part_piece a.width a.i c.smaller-to.result a.source.now c.smaller-to.ensures in
     let short : length (piece a.width a.i a.source.now) ≤ a.width = simp length-take (omega arith) in
-    (omega (arith, ap length p, short, TODO.s.pre.3), TODO.s.pre.0, TODO.s.pre.1, ap (λ (x : Bytes). whole_units (unit_of a.kind) (length x)) p ∙ TODO.s.pre.6)
+    (omega (arith, ap length p, short, c.requires.3), c.requires.0, c.requires.1, ap (λ (x : Bytes). whole_units (unit_of a.kind) (length x)) p ∙ c.requires.6)
 
 pub returns : goal.returns
 returns c =

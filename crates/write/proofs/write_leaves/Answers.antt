@@ -21,7 +21,7 @@ one_left c = omega (arith, c.loop-test.true, c.before.before.pieces.ensures)
 
 pub store_piece-receipt-requires : goal.store_piece-receipt-requires
 store_piece-receipt-requires c =
-    let p = TODO.start.pre in
+    let p = c.requires in
     (p.0, data_lawful, p.2, p.3, omega (arith, p.1), one_left TODO.c.before, data_whole _)
 
 -- it is stored
@@ -54,4 +54,4 @@ returns c =
     let turn = c.loop-i in
     let g = going_end 13 a.dsize a.slice.now a.date.now (beside a.log.now a.waiting.now) (parts_of a.dsize (length a.slice.now)) (beside a.log.now turn.waiting)
     turn.scores turn.i (omega (arith, c.loop-i-test.false, c.pieces-count.ensures)) turn.invariant.0 in
-    record { blocks = g.0; scores = λ _. sym (take_all (20 * parts_of a.dsize (length a.slice.now)) turn.scores (omega (arith, turn.invariant.1, TODO.s.pre.4))) ∙ g.1 }
+    record { blocks = g.0; scores = λ _. sym (take_all (20 * parts_of a.dsize (length a.slice.now)) turn.scores (omega (arith, turn.invariant.1, c.requires.4))) ∙ g.1 }
