@@ -183,19 +183,14 @@ def use_pairs(o, n, text, names):
     drops = [w for w in (word(w, names) for w in was if w not in will)]
     have = imported(text)
     adds = [w for w in adds if w not in have]
-    m = re.search(r"(?m)^use Rattle\.std\.specs\.Prelude\.\{([^}\n]*)\}$", text)
-    if not m:
-        return None
-    its = m.group(1).split(", ")
+    kit = "use Rattle.std.specs.Prelude.{"
     if not adds and not drops:
         return []
-    for w in drops:
-        if w not in its:
-            return None
-        k = its.index(w)
-        its[k : k + 1] = adds
-        adds = []
-    return [(m.group(0), "use Rattle.std.specs.Prelude.{" + ", ".join(its + adds) + "}")]
+    if text.count(kit) != 1:
+        return None
+    if drops:
+        return [(drops[0], ", ".join(adds))] if len(drops) == 1 and adds and text.count(drops[0]) == 1 else None
+    return [(kit, kit + "".join(w + ", " for w in adds))]
 
 
 def main():
