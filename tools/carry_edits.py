@@ -190,7 +190,8 @@ def use_pairs(o, n, text, names):
         return None
     if drops:
         return [(drops[0], ", ".join(adds))] if len(drops) == 1 and adds and text.count(drops[0]) == 1 else None
-    return [(kit, kit + "".join(w + ", " for w in adds))]
+    first = text[text.index(kit) + len(kit) :].split(",")[0].split("}")[0]
+    return [(kit + first, kit + ", ".join(adds + [first]))]
 
 
 def main():
