@@ -34,16 +34,16 @@ pub returns-then-not-e : goal.returns-then-not-e
 returns-then-not-e c =
     let e = c.args.e in
     flagged e c.if-e-lt40.false c.if-e-gt-LONGEST.false c.if-e-lt1.false
-    c.if-e-gt-LONGEST-2.false (elim c.if-e.branch [ then-e+else-e-ne0 w ↦ entries-whole e.directory e.dsize w.if-e.true (omega (arith, w.if-e-ne0.false)) | else-e w ↦ entries_none e.directory e.dsize w.if-e.false ]) c.if-not-e.true
+    c.if-e-gt-LONGEST-2.false (elim c.if-e.branch [ then-e+else-e-ne0 w ↦ entries-whole e.directory e.dsize w.if-e.true (omega (arith, w.if-e-ne0.false)) | else-e w ↦ entries_none e.directory e.dsize w.if-e.false ]) (not-true _ c.if-not-e.true)
 
 pub returns-then-not-e-2 : goal.returns-then-not-e-2
 returns-then-not-e-2 c =
     let e = c.args.e in
     unclean e c.if-e-lt40.false c.if-e-gt-LONGEST.false c.if-e-lt1.false
-    c.if-e-gt-LONGEST-2.false (elim c.if-e.branch [ then-e+else-e-ne0 w ↦ entries-whole e.directory e.dsize w.if-e.true (omega (arith, w.if-e-ne0.false)) | else-e w ↦ entries_none e.directory e.dsize w.if-e.false ]) c.if-not-e.false c.if-not-e-2.true
+    c.if-e-gt-LONGEST-2.false (elim c.if-e.branch [ then-e+else-e-ne0 w ↦ entries-whole e.directory e.dsize w.if-e.true (omega (arith, w.if-e-ne0.false)) | else-e w ↦ entries_none e.directory e.dsize w.if-e.false ]) (not-false _ c.if-not-e.false) (not-true _ c.if-not-e-2.true)
 
 pub returns : goal.returns
 returns c = let if7 = c.if-not-e in
     let e = c.args.e in
     c.holds.ensures ∙ in_room e c.if-e-lt40.false c.if-e-gt-LONGEST.false c.if-e-lt1.false
-    c.if-e-gt-LONGEST-2.false (elim c.if-e.branch [ then-e+else-e-ne0 w ↦ entries-whole e.directory e.dsize w.if-e.true (omega (arith, w.if-e-ne0.false)) | else-e w ↦ entries_none e.directory e.dsize w.if-e.false ]) if7.false c.if-not-e-2.false
+    c.if-e-gt-LONGEST-2.false (elim c.if-e.branch [ then-e+else-e-ne0 w ↦ entries-whole e.directory e.dsize w.if-e.true (omega (arith, w.if-e-ne0.false)) | else-e w ↦ entries_none e.directory e.dsize w.if-e.false ]) (not-false _ if7.false) (not-false _ c.if-not-e-2.false)
