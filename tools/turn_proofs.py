@@ -86,11 +86,12 @@ def clause_names():
         for folder, _, files in os.walk(f"crates/{crate}/src"):
             for file in files:
                 text = open(f"{folder}/{file}", encoding="utf-8").read()
+                module = "" if file in ("lib.rt", "main.rt") else file[:-3] + "::"
                 for m in re.finditer(r"\bfn (\w+)[^;{(]*\(([^)]*)\)", text):
-                    out.setdefault(f"{crate}::{m.group(1)}", {})["lent"] = re.findall(r"(\w+): &(?:'\w+ )?mut ", m.group(2))
+                    out.setdefault(f"{crate}::{module}{m.group(1)}", {})["lent"] = re.findall(r"(\w+): &(?:'\w+ )?mut ", m.group(2))
                 for m in re.finditer(r"\bfn (\w+)[^;{]*?\)[^;{]*?((?:\n    (?:requires|ensures) [^\n]*(?:\n        [^\n]*)*)+)", text):
                     names = {k: re.findall(rf"\n    {k} (\w+) \{{", m.group(2)) for k in ("ensures", "requires")}
-                    out.setdefault(f"{crate}::{m.group(1)}", {}).update(names)
+                    out.setdefault(f"{crate}::{module}{m.group(1)}", {}).update(names)
     return out
 
 
@@ -136,6 +137,8 @@ class Function:
             return ["c", "requires", *rest]
         if step == "fits" and rest:
             return ["c", "ranges", rest[0], "fits", *rest[1:]]
+        if plain(step) == "well-formed":
+            return ["c", "well_formed", *rest]
         if step in ("good", "fits"):
             return None
         found = None
@@ -267,7 +270,7 @@ class Function:
             step = "c." + p[2][1]
             lent = CLAUSES.get(p[3] or "", {}).get("lent", [])
             for w in [step] + [n for n, to in bound.items() if to == step]:
-                body = re.sub(rf"(?<![^\s(){{}},;\[\]]){re.escape(w)}\.new\.(\d+)", lambda m: f"{w}.new.{lent[int(m.group(1))]}" if int(m.group(1)) < len(lent) else m.group(0), body)
+                body = re.sub(rf"(?<![^\s(){{}},;\[\]]){re.escape(w)}\.(new|auto)\.(\d+)", lambda m: f"{w}.{m.group(1)}.{lent[int(m.group(2))]}" if int(m.group(2)) < len(lent) else m.group(0), body)
             names = CLAUSES.get(p[3] or "", {}).get("ensures", [])
             if len(names) < 2:
                 continue
@@ -282,6 +285,7 @@ class Function:
 
     def invariant(self, text):
         """A loop's invariant or measure."""
+        text = re.sub(r"«(\w+)»", r"\1", text)
         m = re.match(rf"abbrev (?:pub )?({W}) : tie\.({W})\n(?:(unfolding [^\n]*)\n)?\1((?: {W})*?) =", text)
         if not m:
             return None
@@ -303,7 +307,6 @@ class Function:
             to[p] = f"l.{v}"
         body = text[m.end() :]
         body = re.sub(rf"(?<![^\s(){{}},;\[\]])({W})(?=[\s(){{}}.;,\[\]]|$)", lambda w: to.get(w.group(1), w.group(1)), body)
-        body = body.replace("«", "").replace("»", "") if False else body
         name = f"{kind}-{new}"
         unf = m.group(3) + "\n" if m.group(3) else ""
         return f"abbrev pub {name} : goal.{name}\n{unf}{name} l ={body}"

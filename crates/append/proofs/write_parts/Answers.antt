@@ -10,15 +10,6 @@ use Rattle.append.proofs.Images.{sectors-more}
 use borrow.Author.Rules.{rules}
 use Rattle.append.proofs.write_parts.Goals as goal
 
--- `write_parts` meets its contract. The loop's invariant: the first k sectors are written, and nothing else.
-abbrev invariant-loop : tie.invariant-loop
-invariant-loop part₀ front first kind score «data» count k₀ part k =
-    (k ≤ count) × (length part ≡ length part₀) × ((date : Bytes) → front_of date ≡ front → part ≡ put part₀ 0 (images (row_of kind score «data» first.0 date) k 0))
-
-abbrev decreases-loop : tie.decreases-loop
-decreases-loop part₀ front first kind score «data» count k₀ part k =
-    count - k
-
 pub loop-k-init : goal.loop-k-init
 unfolding images
 loop-k-init c =

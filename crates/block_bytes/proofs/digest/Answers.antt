@@ -38,7 +38,7 @@ overflow_add-n c =
     let q = c.requires in
     let l = c.loop-done in
     let h : l.n < a.end.0 + sectors (length a.waiting.now) = piece-here a.b.label l.n a.b.size l.done _ q.1.1 c.loop-done-test.true l.invariant.1 in
-    omega (arith, h, q.0, TODO.c.before.before.before.before.before.before.before.before.before.well_formed_lem)
+    omega (arith, h, q.0, c.well_formed)
 
 pub loop-done-smaller : goal.loop-done-smaller
 loop-done-smaller c =

@@ -12,16 +12,6 @@ use Rattle.block_bytes.proofs.Pieces.{piece-length, piece-here, piece-room, piec
 use Rattle.block_bytes.proofs.Turns.{same_turn, same_stop, same_none}
 use Rattle.block_bytes.proofs.same_bytes.Goals as goal
 
--- `block_bytes::same_bytes` meets its contract: the pieces that are left agree with the rest exactly if the whole does.
-abbrev invariant-loop : tie.invariant-loop
-invariant-loop log end waiting b «data» n₀ done₀ n done =
-    (done ≤ length «data»)
-    × (n + parts_of (payload_of b.label) (length «data» - done) ≤ end.0 + sectors (length waiting))
-    × (same (bytes_of (joined end.0 log waiting) (block_at b.label n (length «data» - done))) (drop done «data») ≡ same (bytes_of (joined end.0 log waiting) b) «data»)
-
-abbrev decreases-loop : tie.decreases-loop
-decreases-loop log end waiting b «data» n₀ done₀ n done = length «data» - done
-
 pub loop-done-init : goal.loop-done-init
 loop-done-init c =
     let a = c.args in

@@ -4,7 +4,7 @@ use Prim.Native.Nat.{◌-◌, ◌≤◌}
 use native.Mathlib.Omega.{arith}
 use Rattle.known.specs.Known.{listed_from, listed}
 use Rattle.bucket_scan.proofs.Listed.{list_starts, list_here, list_unnamed, list_elsewhere, list_ends}
-use Rattle.bucket_scan.proofs.lists.Goals.{else-names, then-names}
+use Rattle.bucket_scan.proofs.lists.Goals.{else-names, then-names+else-sector_at-first}
 use Rattle.bucket_scan.proofs.lists.Goals as goal
 
 pub loop-p-init : goal.loop-p-init
@@ -31,8 +31,8 @@ loop-p-preserved c = let args = c.args in
     let names = c.names in
     let a = args in (
       omega (arith, if1.true),
-      elim c.if-names.branch [ then-names w ↦ list_elsewhere a.index.now a.score.now a.kind a.first.0 l.p bucket-of.result.to if1.true l.invariant.1 _ names.ensures _ w.0.taken w.1.ensures
-          w.4.left | else-names w ↦ list_unnamed a.index.now a.score.now a.kind a.first.0 l.p bucket-of.result.to if1.true l.invariant.1 _ names.ensures w.left ],
+      elim c.if-names.branch [ then-names+else-sector_at-first w ↦ list_elsewhere a.index.now a.score.now a.kind a.first.0 l.p bucket-of.result.to if1.true l.invariant.1 _ names.ensures _ w.if-names.true w.sector_at.ensures
+          w.if-sector_at-first.false | else-names w ↦ list_unnamed a.index.now a.score.now a.kind a.first.0 l.p bucket-of.result.to if1.true l.invariant.1 _ names.ensures w.if-names.false ],
     )
 
 pub returns : goal.returns

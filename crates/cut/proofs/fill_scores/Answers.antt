@@ -28,7 +28,7 @@ loop-at-preserved c = let args = c.args in
     let l = turn in (
       l.invariant.0,
       fill_again zero_score a.d.now l.d 20 l.at length-zero-score (omega arith) (whole_units_lem zero_score (length a.d.now) given) l.invariant.1 _ _ l.invariant.0 copy_at.ensures
-          copy_at.auto.0 (omega (arith, l.invariant.1.same_length)),
+          copy_at.auto.d (omega (arith, l.invariant.1.same_length)),
     )
 
 pub returns : goal.returns

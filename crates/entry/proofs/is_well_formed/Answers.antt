@@ -3,7 +3,7 @@ use mathlib.Core.Logic.{⊎_elim}
 use native.Mathlib.Omega.{arith}
 use borrow.Author.Tests.{not-true, not-false}
 use Rattle.entry.proofs.Tests.{psize-under, psize-over, dsize-under, dsize-over, dsize-ragged, flagged, unclean, in_room, entries-whole, entries_none}
-use Rattle.entry.proofs.is_well_formed.Goals.{else-e, then-e}
+use Rattle.entry.proofs.is_well_formed.Goals.{else-e, then-e+else-e-ne0}
 use Rattle.entry.proofs.is_well_formed.Goals as goal
 
 -- `entry::is_well_formed` meets its contract: each return knows its tests.
@@ -33,20 +33,17 @@ returns-then-e-ne0 c = let a = c.args in
 pub returns-then-not-e : goal.returns-then-not-e
 returns-then-not-e c =
     let e = c.args.e in
-    let d = elim c.if-e.branch [ then-e w ↦ entries-whole e.directory e.dsize w.0.taken (omega (arith, w.2.left)) | else-e w ↦ entries_none e.directory e.dsize w.left ] in
     flagged e c.if-e-lt40.false c.if-e-gt-LONGEST.false c.if-e-lt1.false
-    c.if-e-gt-LONGEST-2.false d c.if-not-e.true
+    c.if-e-gt-LONGEST-2.false (elim c.if-e.branch [ then-e+else-e-ne0 w ↦ entries-whole e.directory e.dsize w.if-e.true (omega (arith, w.if-e-ne0.false)) | else-e w ↦ entries_none e.directory e.dsize w.if-e.false ]) (not-true _ c.if-not-e.true)
 
 pub returns-then-not-e-2 : goal.returns-then-not-e-2
 returns-then-not-e-2 c =
     let e = c.args.e in
-    let d = elim c.if-e.branch [ then-e w ↦ entries-whole e.directory e.dsize w.0.taken (omega (arith, w.2.left)) | else-e w ↦ entries_none e.directory e.dsize w.left ] in
     unclean e c.if-e-lt40.false c.if-e-gt-LONGEST.false c.if-e-lt1.false
-    c.if-e-gt-LONGEST-2.false d c.if-not-e.false c.if-not-e-2.true
+    c.if-e-gt-LONGEST-2.false (elim c.if-e.branch [ then-e+else-e-ne0 w ↦ entries-whole e.directory e.dsize w.if-e.true (omega (arith, w.if-e-ne0.false)) | else-e w ↦ entries_none e.directory e.dsize w.if-e.false ]) (not-false _ c.if-not-e.false) (not-true _ c.if-not-e-2.true)
 
 pub returns : goal.returns
 returns c = let if7 = c.if-not-e in
     let e = c.args.e in
-    let d = elim c.if-e.branch [ then-e w ↦ entries-whole e.directory e.dsize w.0.taken (omega (arith, w.2.left)) | else-e w ↦ entries_none e.directory e.dsize w.left ] in
     c.holds.ensures ∙ in_room e c.if-e-lt40.false c.if-e-gt-LONGEST.false c.if-e-lt1.false
-    c.if-e-gt-LONGEST-2.false d if7.false c.if-not-e-2.false
+    c.if-e-gt-LONGEST-2.false (elim c.if-e.branch [ then-e+else-e-ne0 w ↦ entries-whole e.directory e.dsize w.if-e.true (omega (arith, w.if-e-ne0.false)) | else-e w ↦ entries_none e.directory e.dsize w.if-e.false ]) (not-false _ if7.false) (not-false _ c.if-not-e-2.false)

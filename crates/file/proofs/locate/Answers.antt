@@ -126,7 +126,7 @@ run_in-requires c = let are-allowed-here = c.are_allowed in
 pub split-requires : goal.split-requires
 split-requires c =
     let border = c.border-end in
-    let good = TODO.c.before.before.before.before.before.before.before.before.before.before.before.before.before.before.before.before.before.well_formed_lem in
+    let good = c.well_formed in
     omega (arith, border.ensures.within, good.0.0)
 
 pub returns : goal.returns

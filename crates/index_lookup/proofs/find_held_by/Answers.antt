@@ -2,7 +2,7 @@ use mathlib.Core.Logic.{⊎_elim}
 use Rattle.block.specs.Log.{joined}
 use Rattle.lookup.proofs.Outcomes.{not-lawful, not-zero}
 use Rattle.index_lookup.proofs.Turns.{by_zero, by_hint, by_scan}
-use Rattle.index_lookup.proofs.find_held_by.Goals.{else-is_lawful, then-is_lawful}
+use Rattle.index_lookup.proofs.find_held_by.Goals.{else-is_lawful, then-is_lawful+else-is_zero_score}
 use Rattle.index_lookup.proofs.find_held_by.Goals as goal
 
 pub returns-then-is_zero_score : goal.returns-then-is_zero_score
@@ -18,12 +18,10 @@ pub returns-in_default : goal.returns-in_default
 returns-in_default c =
     let a = c.args in
     let log = joined a.end.0 a.log.now a.waiting.now in
-    let not-empty = elim c.if-is_lawful.branch [ then-is_lawful w ↦ not-zero a.kind a.score.now _ w.1.ensures w.2.left | else-is_lawful w ↦ not-lawful a.kind a.score.now _ c.is_lawful.ensures w.left ] in
-    by_hint log a.index.now a.kind a.score.now _ _ not-empty c.find_hint-place.ensures c.in_default.is
+    by_hint log a.index.now a.kind a.score.now _ _ (elim c.if-is_lawful.branch [ then-is_lawful+else-is_zero_score w ↦ not-zero a.kind a.score.now _ w.is_zero_score.ensures w.if-is_zero_score.false | else-is_lawful w ↦ not-lawful a.kind a.score.now _ c.is_lawful.ensures w.if-is_lawful.false ]) c.find_hint-place.ensures c.in_default.is
 
 pub returns : goal.returns
 returns c =
     let a = c.args in
     let log = joined a.end.0 a.log.now a.waiting.now in
-    let not-empty = elim c.if-is_lawful.branch [ then-is_lawful w ↦ not-zero a.kind a.score.now _ w.1.ensures w.2.left | else-is_lawful w ↦ not-lawful a.kind a.score.now _ c.is_lawful.ensures w.left ] in
-    by_scan log a.index.now a.kind a.score.now _ _ not-empty c.find_hint-place.ensures c.in-Nowhere.is c.find_held-2.ensures
+    by_scan log a.index.now a.kind a.score.now _ _ (elim c.if-is_lawful.branch [ then-is_lawful+else-is_zero_score w ↦ not-zero a.kind a.score.now _ w.is_zero_score.ensures w.if-is_zero_score.false | else-is_lawful w ↦ not-lawful a.kind a.score.now _ c.is_lawful.ensures w.if-is_lawful.false ]) c.find_hint-place.ensures c.in-Nowhere.is c.find_held-2.ensures

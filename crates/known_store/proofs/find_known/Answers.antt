@@ -1,7 +1,7 @@
 use mathlib.Core.Logic.{⊎_elim}
 use Rattle.lookup.proofs.Outcomes.{not-lawful, not-zero}
 use Rattle.known_store.proofs.Found.{by_zero, by_hint, by_nothing, by_scan}
-use Rattle.known_store.proofs.find_known.Goals.{else-is_lawful, then-is_lawful}
+use Rattle.known_store.proofs.find_known.Goals.{else-is_lawful, then-is_lawful+else-is_zero_score}
 use Rattle.known_store.proofs.find_known.Goals as goal
 
 pub returns-then-is_zero_score : goal.returns-then-is_zero_score
@@ -16,8 +16,7 @@ returns-then-is_zero_score c = let args = c.args in
 pub returns-in_default : goal.returns-in_default
 returns-in_default c =
     let a = c.args in
-    let not-empty = elim c.if-is_lawful.branch [ then-is_lawful w ↦ not-zero a.kind a.score.now _ w.1.ensures w.2.left | else-is_lawful w ↦ not-lawful a.kind a.score.now _ c.is_lawful.ensures w.left ] in
-    by_hint a.known a.log.now a.waiting.now a.index.now a.kind a.score.now _ not-empty _ c.find_hint-place.ensures c.in_default.is
+    by_hint a.known a.log.now a.waiting.now a.index.now a.kind a.score.now _ (elim c.if-is_lawful.branch [ then-is_lawful+else-is_zero_score w ↦ not-zero a.kind a.score.now _ w.is_zero_score.ensures w.if-is_zero_score.false | else-is_lawful w ↦ not-lawful a.kind a.score.now _ c.is_lawful.ensures w.if-is_lawful.false ]) _ c.find_hint-place.ensures c.in_default.is
 
 pub returns-then-known : goal.returns-then-known
 returns-then-known c = let args = c.args in

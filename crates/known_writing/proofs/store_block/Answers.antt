@@ -13,8 +13,8 @@ known_after-after-requires c =
     let parts-of = c.parts_of-count in
     let a = c.args in
     let b = belongs-within a.known (length a.log.now) (length a.waiting.now) c.requires.0 in
-    let u : a.known.used.0 + a.known.waits.0 < 2 ^ 64 = omega (arith, b.0, b.1, TODO.start.well_formed_lem) in
-    let v : a.known.waits.0 + parts-of.result < 2 ^ 64 = omega (arith, b.1, TODO.start.well_formed_lem, parts-of.ensures, parts-bounds 389 (omega arith) (length a.«data».now), c.requires.1) in
+    let u : a.known.used.0 + a.known.waits.0 < 2 ^ 64 = omega (arith, b.0, b.1, c.well_formed) in
+    let v : a.known.waits.0 + parts-of.result < 2 ^ 64 = omega (arith, b.1, c.well_formed, parts-of.ensures, parts-bounds 389 (omega arith) (length a.«data».now), c.requires.1) in
     (search rules, u, v)
 
 pub answer_store-answer-requires : goal.answer_store-answer-requires

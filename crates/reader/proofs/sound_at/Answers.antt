@@ -49,8 +49,8 @@ overflow_add-to c =
     let Front-length = c.front_length-k in
     omega (arith, Front-length.ensures, front-most sector-at.result.now)
 
-pub slice_bounds-read_hex_bytes-end : goal.slice_bounds-read_hex_bytes-end
-slice_bounds-read_hex_bytes-end c =
+pub slice_bounds-read_hex_bytes-end-2 : goal.slice_bounds-read_hex_bytes-end-2
+slice_bounds-read_hex_bytes-end-2 c =
     let a = c.args in
     let sector-at = c.sector_at-s in
     let Front-length = c.front_length-k in

@@ -14,6 +14,7 @@ use Rattle.reader.proofs.Placed.{placed-none}
 use Rattle.score_scan.proofs.Scan.{other_digits, find_more, find_found, find_nowhere}
 use borrow.Author.Rules.{rules}
 use Rattle.score_scan.proofs.find.Goals as goal
+use Rattle.score_scan.proofs.find.Goals.{then-may_hold+in-Nowhere, else-may_hold}
 
 pub loop-n-init : goal.loop-n-init
 unfolding blocks
@@ -48,11 +49,7 @@ loop-n-preserved c = let a = c.args in
     let may-hold = c.may_hold in
     let sector-at = c.sector_at-s in
     let log = joined a.end.0 a.log.now a.waiting.now in
-    let none_here = ⊎_elim
-    (λ w. placed-none _ w.1.result w.1.ensures w.3.given.1)
-    (λ w. other_digits log l.n a.kind a.score.now _ sector-at.result.now may-hold.result sector-at.ensures l.invariant.2 may-hold.ensures w.left)
-    (c.if-may_hold.branch) in
-    (omega arith, l.invariant.1, l.invariant.2, find_more log l.n a.kind a.score.now (omega (arith, l.invariant.1, loop-test.true)) l.invariant.3 none_here)
+    (omega arith, l.invariant.1, l.invariant.2, find_more log l.n a.kind a.score.now (omega (arith, l.invariant.1, loop-test.true)) l.invariant.3 (elim c.if-may_hold.branch [ then-may_hold+in-Nowhere w ↦ placed-none _ w.sound_as-place.result w.sound_as-place.ensures w.in-Nowhere.is | else-may_hold w ↦ other_digits log l.n a.kind a.score.now _ sector-at.result.now may-hold.result sector-at.ensures l.invariant.2 may-hold.ensures w.if-may_hold.false ]))
 
 pub returns : goal.returns
 returns c = let a = c.args in

@@ -1,7 +1,7 @@
 use mathlib.Core.Logic.{⊎_elim}
 use Rattle.score_scan.proofs.Scan.{held-zero, held_scan, not-lawful, not-zero}
 use Rattle.block.specs.Log.{joined}
-use Rattle.score_scan.proofs.find_held.Goals.{else-is_lawful, then-is_lawful}
+use Rattle.score_scan.proofs.find_held.Goals.{else-is_lawful, then-is_lawful+else-is_zero_score}
 use Rattle.score_scan.proofs.find_held.Goals as goal
 
 pub returns-then-is_zero_score : goal.returns-then-is_zero_score
@@ -15,5 +15,4 @@ returns c =
     let a = c.args in
     let is_lawful = c.is_lawful in
     let find = c.find in
-    let not-empty = elim c.if-is_lawful.branch [ then-is_lawful w ↦ not-zero a.kind a.score.now _ w.1.ensures w.2.left | else-is_lawful w ↦ not-lawful a.kind a.score.now _ is_lawful.ensures w.left ] in
-    held_scan (joined a.end.0 a.log.now a.waiting.now) a.kind a.score.now find.result not-empty find.ensures
+    held_scan (joined a.end.0 a.log.now a.waiting.now) a.kind a.score.now find.result (elim c.if-is_lawful.branch [ then-is_lawful+else-is_zero_score w ↦ not-zero a.kind a.score.now _ w.is_zero_score.ensures w.if-is_zero_score.false | else-is_lawful w ↦ not-lawful a.kind a.score.now _ is_lawful.ensures w.if-is_lawful.false ]) find.ensures

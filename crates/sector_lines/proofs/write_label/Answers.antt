@@ -15,11 +15,11 @@ write_score-requires c =
     let write-line3 = c.write_line-3 in
     let write-line4 = c.write_line-4 in
     let write-line5 = c.write_line-5 in
-    let k₁ : length write-line.new.d ≡ length a.d.now = write-line.auto.0 in
-    let k₂ : length write-line2.new.d ≡ length write-line.new.d = write-line2.auto.0 in
-    let k₃ : length write-line3.new.d ≡ length write-line2.new.d = write-line3.auto.0 in
-    let k₄ : length write-line4.new.d ≡ length write-line3.new.d = write-line4.auto.0 in
-    let k₅ : length write-line5.new.d ≡ length write-line4.new.d = write-line5.auto.0 in
+    let k₁ : length write-line.new.d ≡ length a.d.now = write-line.auto.d in
+    let k₂ : length write-line2.new.d ≡ length write-line.new.d = write-line2.auto.d in
+    let k₃ : length write-line3.new.d ≡ length write-line2.new.d = write-line3.auto.d in
+    let k₄ : length write-line4.new.d ≡ length write-line3.new.d = write-line4.auto.d in
+    let k₅ : length write-line5.new.d ≡ length write-line4.new.d = write-line5.auto.d in
     let p : 96 ≤ length a.d.now = given.0 in
     let g : 96 ≤ length write-line5.new.d = omega (arith, p) in
     (g, given.1)
