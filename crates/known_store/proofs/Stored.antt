@@ -29,7 +29,7 @@ module _ (k : Known) (log w index date : Bytes) (t : ℕ) (d s : Bytes) (p : Pla
   unfolding store_known
   store_found b z c =
       let F = owner-found k log w index t s e z in
-      let h : owner k log w index t (sha1_of d) ≡ some F.row = ap (owner k log w index t) (sym g) ∙ F.is_held_lem in
+      let h : owner k log w index t (sha1_of d) ≡ some F.row = ap (owner k log w index t) (sym g) ∙ F.is_held in
       rw (g, h) (c ∙ ap₂ (λ (y : Bytes) (v : Block). compared L y v.first.0 d) (sym (found-bytes F)) F.place-of-row)
 
   pub store-new : (L' : Lent) → p ≡ Nowhere → after_store (receipt (sha1_of d) r) L' ≡ appended_known k log w date t d → after_store (receipt s r) L' ≡ store_known k log w index date t d
