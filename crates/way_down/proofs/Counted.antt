@@ -27,7 +27,7 @@ fetched-refused log t s count f y e = go (counted-refused count (look_up log t s
     go (inr O) =
         let S = look_found log t s O.place O.found in
         let over : count < length S.row.bytes = omega (arith, O.long, found-size S) in
-        rw (S.is_held_lem, lt-leb (length S.row.bytes) count over) (ap Refused O.why)
+        rw (S.is_held, lt-leb (length S.row.bytes) count over) (ap Refused O.why)
 
 -- found, and what goes on has the row
 pub record Fetched (log : Bytes) (t : ℕ) (s : Bytes) (count : ℕ) (b : Block) : Type 0 where
@@ -39,4 +39,4 @@ fetched-found log t s count b e =
     let p = counted-found count (look_up log t s) b (sym e) in
     let S = look_found log t s b p.0 in
     let few : length S.row.bytes ≤ count = omega (arith, p.1, found-size S) in
-    record { found = S; goes_on_lem = λ f. rw (S.is_held_lem, le-leb (length S.row.bytes) count few) refl }
+    record { found = S; goes_on_lem = λ f. rw (S.is_held, le-leb (length S.row.bytes) count few) refl }
