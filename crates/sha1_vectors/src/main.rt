@@ -82,7 +82,10 @@ fn print_million(rt: &impl Print) -> io::Result<()> {
 fn main(rt: HostRuntime) -> io::Result<()> {
     print_sha1(&rt, b"")?;
     print_sha1(&rt, b"abc")?;
-    print_sha1(&rt, b"abcdbcdecdefdefgefghfghighijhijkijkljklmklmnlmnomnopnopq")?;
+    print_sha1(
+        &rt,
+        b"abcdbcdecdefdefgefghfghighijhijkijkljklmklmnlmnomnopnopq",
+    )?;
     print_sha1(
         &rt,
         b"abcdefghbcdefghicdefghijdefghijkefghijklfghijklmghijklmnhijklmnoijklmnopjklmnopqklmnopqrlmnopqrsmnopqrstnopqrstu",

@@ -1,8 +1,6 @@
-use mathlib.Core.Path.{◌≡◌, sym}
+use mathlib.Core.Path.{◌≡◌}
 use Prim.Native.Nat.{◌≤◌, ◌-◌}
-use native.Mathlib.Omega.{arith}
 use lib.ListN.{length}
-use lib.Seq.{length-take-le}
 use Rattle.sha1_vectors.proofs.print_counted.Given as goal
 
 -- `sha1_vectors::print_counted` is safe and ends. Assumes nothing.

@@ -1,7 +1,4 @@
-use mathlib.Core.Path.{sym}
-use Prim.Native.Nat.{◌+◌, ◌≤◌, ◌-◌}
-use native.Mathlib.Omega.{arith}
-use lib.Seq.{length-take-le}
+use Prim.Native.Nat.{◌+◌, ◌≤◌}
 use Rattle.sha1_vectors.proofs.print_million.Given as goal
 
 -- `sha1_vectors::print_million` is safe and ends: each piece has a byte at least. Assumes nothing.
