@@ -30,20 +30,20 @@ not_done w q = let z : ◌≡◌ {A = ℕ} 0 1 = cc in omega arith
 pub record Split (m : ℕ) (front rest all : Gathered) : Type 0 where
   pub short : length front.bytes ≤ m
   pub all-gathered : front.stop ≡ Done → length front.bytes ≡ m
-  pub goes_on_lem : front.stop ≡ Done → all ≡ behind front.bytes rest
+  pub goes_on : front.stop ≡ Done → all ≡ behind front.bytes rest
   pub ends : (w : Refusal) → front.stop ≡ Refused w → all ≡ front
 
 split-infront : (r : Read) (m : ℕ) (front rest all : Gathered) → Split m front rest all → Split (suc m) (infront r front) rest (infront r all)
 split-infront (byte b) m front rest all s = record {
   short = omega (arith, s.short);
   all-gathered = λ q. ap suc (s.all-gathered q);
-  goes_on_lem = λ q. ap (infront (byte b)) (s.goes_on q);
+  goes_on = λ q. ap (infront (byte b)) (s.goes_on q);
   ends = λ w q. ap (infront (byte b)) (s.ends w q);
 }
 split-infront (refused v) m front rest all s = record {
   short = omega arith;
   all-gathered = λ q. absurd (not_done v q);
-  goes_on_lem = λ q. absurd (not_done v q);
+  goes_on = λ q. absurd (not_done v q);
   ends = λ w q. refl;
 }
 
@@ -74,7 +74,7 @@ module _ (read : ℕ → Read) where
       record {
         short = omega arith;
         all-gathered = λ q. refl;
-        goes_on_lem = λ q. ap₂ (gathered read) en eo;
+        goes_on = λ q. ap₂ (gathered read) en eo;
         ends = λ w q. absurd (not_done w (sym q));
       }
   gathered-split (suc m) n zero o p e h = absurd (omega arith)

@@ -85,7 +85,7 @@ pub record Turned (read : ℕ → Read) (count offset : ℕ) (d₀ d : Bytes) (d
   pub within : done + f.count ≤ count
   pub same_length : length (take done d ++ (ys ++ drop (count - done) (drop done d))) ≡ length d₀
   pub some : f.stop ≡ Done → 0 < f.count
-  pub goes_on_lem : f.stop ≡ Done → Filling read count offset d₀ (take done d ++ (ys ++ drop (count - done) (drop done d))) (done + f.count)
+  pub goes_on : f.stop ≡ Done → Filling read count offset d₀ (take done d ++ (ys ++ drop (count - done) (drop done d))) (done + f.count)
   pub ends : (w : Refusal) → f.stop ≡ Refused w
       → fill_outcome (record { count = done + f.count; stop = f.stop }) (take done d ++ (ys ++ drop (count - done) (drop done d))) ≡ filled_with d₀ (gathered read count offset)
 
@@ -113,7 +113,7 @@ turned read count offset d₀ d done full held lt k pos f ys e =
       within = inside;
       same_length = long;
       some = λ q. omega (arith, counts, least.0, split.all-gathered (sym stops ∙ q));
-      goes_on_lem = λ q. (
+      goes_on = λ q. (
         inside,
         long,
         subst (λ (x : Bytes). Rest read count offset d₀ x (done + f.count)) (sym put_in)

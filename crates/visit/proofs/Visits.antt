@@ -122,7 +122,7 @@ pub record Known (log : Bytes) (nest left kind count : ℕ) (score : Bytes) (pla
   pub not_many : place.size ≤ longest
   pub counted_in : place.size ≤ count
   pub one-spent : spent ≡ 1
-  pub goes_on_lem : (go : Bytes → Walked) (w : Walked) → w ≡ go (bytes_of log place) → more w ≡ visiting log nest left kind count score go
+  pub goes_on : (go : Bytes → Walked) (w : Walked) → w ≡ go (bytes_of log place) → more w ≡ visiting log nest left kind count score go
 
 module _ (log : Bytes) (nest left kind count : ℕ) (score : Bytes) (m : Met) (e : m ≡ met_of log nest left kind count score) where
   -- any account of it
@@ -160,7 +160,7 @@ module _ (log : Bytes) (nest left kind count : ℕ) (score : Bytes) (m : Met) (e
         not_many = omega (arith, size, s.not_many);
         counted_in = omega (arith, size, ltb-false count (length r.bytes) F.passes.within_count);
         one-spent = refl;
-        goes_on_lem = λ go w h. rw (F.not-deep, F.not-spent, F.passes.row-held, F.passes.within_count) (ap more (h ∙ ap go (sym (s.bytes-there ∙ ap (bytes_of log) z))));
+        goes_on = λ go w h. rw (F.not-deep, F.not-spent, F.passes.row-held, F.passes.within_count) (ap more (h ∙ ap go (sym (s.bytes-there ∙ ap (bytes_of log) z))));
       }) d
 
   pub refused-known : (why : Refusal) → m.look ≡ Refused why → (go : Bytes → Walked) → answer_of m ≡ visiting log nest left kind count score go

@@ -32,11 +32,11 @@ fetched-refused log t s count f y e = go (counted-refused count (look_up log t s
 -- found, and what goes on has the row
 pub record Fetched (log : Bytes) (t : ℕ) (s : Bytes) (count : ℕ) (b : Block) : Type 0 where
   pub found : FoundAt log (held log t s) b
-  pub goes_on_lem : (f : Row → Extent) → f found.row ≡ fetched log t s count f
+  pub goes_on : (f : Row → Extent) → f found.row ≡ fetched log t s count f
 
 pub fetched-found : (log : Bytes) (t : ℕ) (s : Bytes) (count : ℕ) (b : Block) → look.Found b ≡ counted count (look_up log t s) → Fetched log t s count b
 fetched-found log t s count b e =
     let p = counted-found count (look_up log t s) b (sym e) in
     let S = look_found log t s b p.0 in
     let few : length S.row.bytes ≤ count = omega (arith, p.1, found-size S) in
-    record { found = S; goes_on_lem = λ f. rw (S.is_held, le-leb (length S.row.bytes) count few) refl }
+    record { found = S; goes_on = λ f. rw (S.is_held, le-leb (length S.row.bytes) count few) refl }

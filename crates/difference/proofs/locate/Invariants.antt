@@ -1,11 +1,5 @@
-use mathlib.Core.Path.{◌≡◌, sym, ◌∙◌}
-use mathlib.Core.Bool.{true}
-use Prim.Native.Nat.{◌-◌, ◌/◌}
-use native.Mathlib.Omega.{arith}
-use borrow.Author.Tests.{not-true, not-false}
-use Rattle.difference.specs.declared.Difference.{Difference}
-use Rattle.difference.specs.Difference.{first_from, block_allowed, difference_of}
-use Rattle.difference.proofs.Rest.{Rest, rest-at-first, none_left, ends_here, goes_on_lem, allowed_facts, first-refused, second-refused, both-allowed}
+use Prim.Native.Nat.{◌-◌}
+use Rattle.difference.proofs.Rest.{Rest}
 use Rattle.difference.proofs.locate.Given as goal
 
 -- `difference::locate` meets its contract: the tests, then position by position.

@@ -1,13 +1,12 @@
 use mathlib.Core.Path.{◌≡◌, sym, ap, ◌∙◌}
-use mathlib.Core.Bool.{Bool, cond}
+use mathlib.Core.Bool.{Bool, true, cond}
 use Prim.Native.Nat.{ℕ, ◌+◌, ◌-◌, ◌*◌}
 use lib.ListN.{take, drop}
 use native.Mathlib.Nat.{add-sub_cancel_left}
 use native.Mathlib.Omega.{arith}
-use borrow.Author.Tests.{not-true, not-false}
 use Rattle.buffer.specs.Bytes.{Bytes, same}
 use Rattle.difference.specs.declared.Side.TheVariants.{First, Neither}
-use Rattle.difference.specs.Difference.{entry_at, side_of}
+use Rattle.difference.specs.Difference.{entry_at, active, side_of}
 use Rattle.difference.proofs.Positions.{only-second, no_active, only-first, both-active, active-within}
 use Rattle.difference.proofs.side_at.Goals as goal
 
@@ -42,17 +41,19 @@ slice_bounds-equal-end-2 c =
     omega (arith, active-within c.args.b.now c.args.i c.requires.1 (sym c.is_active-second.ensures ∙ c.if-not-second.false))
 
 -- both active: by whether they are equal
-both : (e : tie.After-equal) → let a = (start e.before.before.before.before.before.before).args in
-    cond e.equal.result Neither First ≡ side_of (entry_at a.a.now a.i) (entry_at a.b.now a.i)
-both e =
-    let i = e.before.before.before in
-    let t = i.before.before in
-    let a = (start t.before).args in
-    both-active (entry_at a.a.now a.i) (entry_at a.b.now a.i) t.is-active2.ensures t.before.is-active.ensures
-    (not-false _ i.before.if1.false) (not-false _ i.if3.false) _ (e.equal.ensures ∙ forty (drop (40 * a.i) a.a.now) (drop (40 * a.i) a.b.now) (40 * a.i))
+both : (a b : Bytes) (i : ℕ) {p q s t : Bool} → p ≡ active (entry_at a i) → q ≡ active (entry_at b i) → p ≡ true → q ≡ true
+    → s ≡ same (take (40 * i + 40 - 40 * i) (drop (40 * i) a)) (take (40 * i + 40 - 40 * i) (drop (40 * i) b)) → s ≡ t
+    → cond t Neither First ≡ side_of (entry_at a i) (entry_at b i)
+both a b i ep eq hp hq es et =
+    ap (λ (s : Bool). cond s Neither First) (sym et)
+    ∙ both-active (entry_at a i) (entry_at b i) ep eq hp hq _ (es ∙ forty (drop (40 * i) a) (drop (40 * i) b) (40 * i))
 
 pub returns-then-equal : goal.returns-then-equal
-returns-then-equal c = ap (λ (s : Bool). cond s Neither First) (sym c.if-equal.true) ∙ both TODO.c.before
+returns-then-equal c =
+    both c.args.a.now c.args.b.now c.args.i c.is_active.ensures c.is_active-second.ensures c.if-not-is_active.false c.if-not-second.false
+    c.equal.ensures c.if-equal.true
 
 pub returns : goal.returns
-returns c = ap (λ (s : Bool). cond s Neither First) (sym c.if-equal.false) ∙ both TODO.c.before
+returns c =
+    both c.args.a.now c.args.b.now c.args.i c.is_active.ensures c.is_active-second.ensures c.if-not-is_active.false c.if-not-second.false
+    c.equal.ensures c.if-equal.false

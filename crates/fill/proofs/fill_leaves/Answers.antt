@@ -1,17 +1,17 @@
-use mathlib.Core.Path.{refl, ap, ◌∙◌}
-use Prim.Native.Nat.{ℕ, ◌+◌, ◌-◌, ◌%◌, ◌≤◌}
+use mathlib.Core.Path.{◌≡◌, refl, ap, ◌∙◌}
+use Prim.Native.Nat.{ℕ, ◌+◌, ◌-◌, ◌%◌, ◌≤◌, ◌<◌, min}
 use native.Mathlib.Nat.{mod-lt}
 use native.Mathlib.Omega.{arith}
-use lib.ListN.{length, length-take, length-drop}
+use lib.ListN.{length, take, drop, length-take, length-drop}
+use Rattle.buffer.specs.Bytes.{Bytes}
 use Rattle.block.specs.Log.{joined}
-use Rattle.fill.specs.Fill.{byte_below, gathered, filled_with}
+use Rattle.entry.specs.declared.Entry.{Entry}
+use Rattle.leaf.specs.Fetch.{Open}
+use Rattle.fill.specs.declared.Filled.{Filled}
+use Rattle.fill.specs.Fill.{byte_below, gathered, fill_outcome, filled_with}
 use Rattle.fill.proofs.Gather.{rest_all, rest-none}
 use Rattle.fill.proofs.Tests.{open_on}
 use Rattle.fill.proofs.Turn.{Filling, Turned, turned}
-use Rattle.fill.proofs.fill_leaves.Reads as reads
-use Rattle.fill.proofs.fill_leaves.Lts as lts
-use Rattle.fill.proofs.fill_leaf.Reads as fill-leaf
-use Rattle.fill.proofs.lesser.Reads as lesser
 use Rattle.fill.proofs.fill_leaves.Goals as goal
 
 pub overflow_sub-e : goal.overflow_sub-e
@@ -40,41 +40,55 @@ fill_leaf-leaf-requires c =
     (p.0, open_on c.args.e c.args.offset _ p.1 (omega (arith, lt, short)), p.2, simp (length-take, length-drop) (omega (arith, lt, full)))
 
 -- where a leaf was filled
-abbrev Leaf : Type 0
-Leaf = lts.After-fill-leaf (lesser.Asked, lesser.Learnt, fill-leaf.Asked, fill-leaf.Learnt) reads.Pre reads.Post invariant-loop decreases-loop
-
-turn : (w : Leaf) → let l = w.before.before.before in
-    let a = l.before.before.before.before.before.before.before.args in
-    Turned (byte_below (joined a.end.0 a.log.now a.waiting.now) a.e a.top.now) l.before.lesser.result a.offset a.d.now
-    l.loop.d l.loop.done w.fill-leaf.result w.fill-leaf.last.1.1.1.1.1.1.0
-turn w =
-    let l = w.before.before.before in
-    let lesser = l.before.lesser in
-    let s = l.before.before.before.before.before.before.before in
-    let a = s.args in
-    turned (byte_below (joined a.end.0 a.log.now a.waiting.now) a.e a.top.now) lesser.result a.offset a.d.now l.loop.d l.loop.done
-    (omega (arith, lesser.ensures)) l.loop.inv w.before.before.loop-test.taken (a.e.dsize - (a.offset + l.loop.done) % a.e.dsize)
-    (omega (arith, mod-lt (a.offset + l.loop.done) s.pre.1.dsize-from)) _ _ w.fill-leaf.ensures
+turn : (log : Bytes) (e : Entry) (top : Bytes) (offset count : ℕ) (d₀ d : Bytes) (done : ℕ) (f : Filled) (ys : Bytes)
+    → Open e offset → count ≡ min (length d₀) (e.size - offset) → Filling (byte_below log e top) count offset d₀ d done → done < count
+    → let part = take (count - done) (drop done d) in
+    fill_outcome f ys ≡ filled_with part (gathered (byte_below log e top) (min (length part) (e.dsize - (offset + done) % e.dsize)) (offset + done))
+    → Turned (byte_below log e top) count offset d₀ d done f ys
+turn log e top offset count d₀ d done f ys opened least held lt filled =
+    turned (byte_below log e top) count offset d₀ d done (omega (arith, least)) held lt (e.dsize - (offset + done) % e.dsize)
+    (omega (arith, mod-lt (offset + done) opened.dsize-from)) f ys filled
 
 pub overflow_add-done : goal.overflow_add-done
-overflow_add-done c = omega (arith, (turn TODO.w).within)
+overflow_add-done c =
+    let a = c.args in
+    let T =
+    turn (joined a.end.0 a.log.now a.waiting.now) a.e a.top.now a.offset _ a.d.now _ _ _ _ c.requires.1 c.lesser-count.ensures c.loop-done.invariant
+    c.loop-done-test.true c.fill_leaf-leaf.ensures in
+    omega (arith, T.within)
 
 pub loop-done-smaller : goal.loop-done-smaller
 loop-done-smaller c =
-    omega (arith, c.loop-done-test.true, (turn TODO.w).some c.in-Done.is)
+    let a = c.args in
+    let T =
+    turn (joined a.end.0 a.log.now a.waiting.now) a.e a.top.now a.offset _ a.d.now _ _ _ _ c.requires.1 c.lesser-count.ensures c.loop-done.invariant
+    c.loop-done-test.true c.fill_leaf-leaf.ensures in
+    omega (arith, c.loop-done-test.true, T.some c.in-Done.is)
 
 pub loop-done-preserved : goal.loop-done-preserved
-loop-done-preserved c = (turn TODO.c.before.before.before.before.before).goes_on c.in-Done.is
+loop-done-preserved c =
+    let a = c.args in
+    let T =
+    turn (joined a.end.0 a.log.now a.waiting.now) a.e a.top.now a.offset _ a.d.now _ _ _ _ c.requires.1 c.lesser-count.ensures c.loop-done.invariant
+    c.loop-done-test.true c.fill_leaf-leaf.ensures in
+    T.goes_on c.in-Done.is
 
 pub shape_of-d-in_default : goal.shape_of-d-in_default
-shape_of-d-in_default c = (turn TODO.c.before.before.before.before.before).same_length
+shape_of-d-in_default c =
+    let a = c.args in
+    let T =
+    turn (joined a.end.0 a.log.now a.waiting.now) a.e a.top.now a.offset _ a.d.now _ _ _ _ c.requires.1 c.lesser-count.ensures c.loop-done.invariant
+    c.loop-done-test.true c.fill_leaf-leaf.ensures in
+    T.same_length
 
 pub returns-in_default : goal.returns-in_default
 returns-in_default c =
-    let lesser = c.lesser-count in
     let a = c.args in
     let log = joined a.end.0 a.log.now a.waiting.now in
-    (turn TODO.w).ends _ c.in_default.is ∙ ap (λ (n : ℕ). filled_with a.d.now (gathered (byte_below log a.e a.top.now) n a.offset)) lesser.ensures
+    let T =
+    turn log a.e a.top.now a.offset _ a.d.now _ _ _ _ c.requires.1 c.lesser-count.ensures c.loop-done.invariant c.loop-done-test.true
+    c.fill_leaf-leaf.ensures in
+    T.ends _ c.in_default.is ∙ ap (λ (n : ℕ). filled_with a.d.now (gathered (byte_below log a.e a.top.now) n a.offset)) c.lesser-count.ensures
 
 pub shape_of-d : goal.shape_of-d
 shape_of-d c = c.loop-done.invariant.1

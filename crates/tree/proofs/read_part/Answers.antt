@@ -1,12 +1,14 @@
 use mathlib.Core.Path.{◌≡◌, refl, sym, ap, ◌∙◌}
-use Prim.Native.Nat.{ℕ, ◌+◌, ◌-◌, ◌%◌, ◌≤◌, ◌<◌, min}
+use Prim.Native.Nat.{ℕ, ◌+◌, ◌-◌, ◌%◌, ◌<◌, min}
 use native.Mathlib.Omega.{arith}
 use lib.ListN.{length, take, drop}
+use Rattle.buffer.specs.Bytes.{Bytes}
 use Rattle.buffer.proofs.Put.{length-put}
 use Rattle.sector.specs.Sector.{payload_of}
+use Rattle.block.specs.declared.Block.{Block}
 use Rattle.block.specs.Log.{joined, bytes_of}
 use Rattle.reader.proofs.Pieces.{length-bytes}
-use Rattle.tree.proofs.Pieces.{Left, left-all, left-none, left-zeros, Piece, piece}
+use Rattle.tree.proofs.Pieces.{left-all, left-none, left-zeros, Piece, piece}
 use Rattle.tree.proofs.read_part.Goals as goal
 
 pub loop-done-init : goal.loop-done-init
@@ -26,41 +28,49 @@ returns-then-b-k c =
     (omega (arith, if1.true, length-bytes log a.b q.1.1)) clear.ensures l.invariant.2
 
 -- the piece that was found, of the block's bytes
-found : (c : tie.After-piece-from invariant-loop decreases-loop) → let a = c.before.before.before.before.before.before.before.before.args in
-    let l = c.before.before.before.before.loop in
-    Piece (bytes_of (joined a.end.0 a.log.now a.waiting.now) a.b) a.from a.d.now l.d c.piece-from.result.now l.done
-found c =
-    let s = c.before.before.before.before.before.before.before.before in
-    let a = s.args in
-    let l = c.before.before.before.before.loop in
-    let log = joined a.end.0 a.log.now a.waiting.now in
-    let b = bytes_of log a.b in
-    let w = payload_of a.b.label in
-    let pos : 0 < w = omega arith in
-    let k = a.from + l.done in
-    let size = length-bytes log a.b s.requires.1.1 in
-    let inside : k < length b = omega (arith, size, c.before.if1.false) in
-    let here = c.piece-from.ensures ∙ ap (λ (n : ℕ). take (min (w - k % w) (min (n - k) (length l.d - l.done))) (drop k b)) (sym size) in
-    piece b a.from a.d.now w pos l.d _ l.done c.before.before.before.loop-test.true l.invariant.1 inside here
+found : (log : Bytes) (b : Block) (from : ℕ) (d₀ d s : Bytes) (done : ℕ) → b.label < 499 → done < length d → length d ≡ length d₀ → from + done < b.size
+    → let w = payload_of b.label in
+    s ≡ take (min (w - (from + done) % w) (min (b.size - (from + done)) (length d - done))) (drop (from + done) (bytes_of log b))
+    → Piece (bytes_of log b) from d₀ d s done
+found log b from d₀ d s done short more same inside e =
+    let w = payload_of b.label in
+    let k = from + done in
+    let size = length-bytes log b short in
+    piece (bytes_of log b) from d₀ w (omega arith) d s done more same (omega (arith, size, inside))
+    (e ∙ ap (λ (n : ℕ). take (min (w - k % w) (min (n - k) (length d - done))) (drop k (bytes_of log b))) (sym size))
 
 pub copy_at-requires : goal.copy_at-requires
-copy_at-requires c = (found TODO.c.before).fits
+copy_at-requires c =
+    let a = c.args in
+    let l = c.loop-done in
+    let F = found (joined a.end.0 a.log.now a.waiting.now) a.b a.from a.d.now l.d _ l.done c.requires.1.1 c.loop-done-test.true l.invariant.1 c.if-b-k.false
+    c.piece_from-piece.ensures in
+    F.fits
 
 pub overflow_add-done : goal.overflow_add-done
-overflow_add-done c = omega (arith, (found TODO.c.before.before.before.before).fits)
+overflow_add-done c =
+    let a = c.args in
+    let l = c.loop-done in
+    let F = found (joined a.end.0 a.log.now a.waiting.now) a.b a.from a.d.now l.d _ l.done c.requires.1.1 c.loop-done-test.true l.invariant.1 c.if-b-k.false
+    c.piece_from-piece.ensures in
+    omega (arith, F.fits)
 
 pub loop-done-smaller : goal.loop-done-smaller
 loop-done-smaller c =
+    let a = c.args in
     let l = c.loop-done in
-    omega (arith, c.loop-done-test.true, l.invariant.1, (found TODO.p).is_some)
+    let F = found (joined a.end.0 a.log.now a.waiting.now) a.b a.from a.d.now l.d _ l.done c.requires.1.1 c.loop-done-test.true l.invariant.1 c.if-b-k.false
+    c.piece_from-piece.ensures in
+    omega (arith, c.loop-done-test.true, l.invariant.1, F.is_some)
 
 pub loop-done-preserved : goal.loop-done-preserved
 loop-done-preserved c =
+    let a = c.args in
     let l = c.loop-done in
-    let copy_at = c.copy_at in
-    let F = found TODO.p in
-    let same = ap length copy_at.ensures ∙ length-put l.d l.done c.piece_from-piece.result.now F.fits in
-    (omega (arith, F.fits, same), same ∙ l.invariant.1, F.behind _ copy_at.ensures l.invariant.2)
+    let F = found (joined a.end.0 a.log.now a.waiting.now) a.b a.from a.d.now l.d _ l.done c.requires.1.1 c.loop-done-test.true l.invariant.1 c.if-b-k.false
+    c.piece_from-piece.ensures in
+    let same = ap length c.copy_at.ensures ∙ length-put l.d l.done c.piece_from-piece.result.now F.fits in
+    (omega (arith, F.fits, same), same ∙ l.invariant.1, F.behind _ c.copy_at.ensures l.invariant.2)
 
 pub returns : goal.returns
 returns c =

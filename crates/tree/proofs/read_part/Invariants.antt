@@ -1,12 +1,8 @@
-use mathlib.Core.Path.{◌≡◌, refl, sym, ap, ◌∙◌}
-use Prim.Native.Nat.{ℕ, ◌+◌, ◌-◌, ◌%◌, ◌≤◌, ◌<◌, min}
-use native.Mathlib.Omega.{arith}
-use lib.ListN.{length, take, drop}
-use Rattle.buffer.proofs.Put.{length-put}
-use Rattle.sector.specs.Sector.{payload_of}
+use mathlib.Core.Path.{◌≡◌}
+use Prim.Native.Nat.{◌-◌, ◌≤◌}
+use lib.ListN.{length}
 use Rattle.block.specs.Log.{joined, bytes_of}
-use Rattle.reader.proofs.Pieces.{length-bytes}
-use Rattle.tree.proofs.Pieces.{Left, left-all, left-none, left-zeros, Piece, piece}
+use Rattle.tree.proofs.Pieces.{Left}
 use Rattle.tree.proofs.read_part.Given as goal
 
 -- `tree::read_part` meets its contract: filling in what is left makes what filling in the whole makes.

@@ -1,8 +1,9 @@
 use mathlib.Core.Path.{ap, ◌∙◌}
-use Prim.Native.Nat.{◌+◌, ◌*◌, ◌≤◌}
+use Prim.Native.Nat.{ℕ, ◌+◌, ◌*◌, ◌≤◌, ◌<◌}
 use native.Mathlib.Omega.{arith}
 use lib.ListN.{length, length-take}
 use Rattle.buffer.specs.Bytes.{Bytes}
+use Rattle.block.specs.Block.{parts_of}
 use Rattle.append.proofs.Images.{part_start}
 use Rattle.sector_log.specs.Parts.{beside}
 use Rattle.sector_log.specs.Store.{store}
@@ -14,20 +15,32 @@ use Rattle.write.proofs.store_piece.Goals as goal
 
 -- `write::store_piece` meets its contract: the part that is stored is the piece.
 -- where the piece begins
-begins : (s : tie.Start) → s.args.width * s.args.i + 1 ≤ length s.args.source.now
-begins s = omega (arith, part_start s.args.width (length s.args.source.now) s.args.i s.pre.2 s.pre.5)
+begins : (width i : ℕ) (source : Bytes) → 1 ≤ width → i < parts_of width (length source) → width * i + 1 ≤ length source
+begins width i source pos h = omega (arith, part_start width (length source) i pos h)
 
 pub overflow_mul-at : goal.overflow_mul-at
-overflow_mul-at c = omega (arith, begins TODO.c.before.before.before.before, c.requires.4)
+overflow_mul-at c =
+    let a = c.args in
+    let p = c.requires in
+    omega (arith, begins a.width a.i a.source.now p.2 p.5, p.4)
 
 pub overflow_add-at : goal.overflow_add-at
-overflow_add-at c = let p = c.requires in omega (arith, begins TODO.c.before.before.before.before, p.3, p.4)
+overflow_add-at c =
+    let a = c.args in
+    let p = c.requires in
+    omega (arith, begins a.width a.i a.source.now p.2 p.5, p.3, p.4)
 
 pub slice_bounds-store_cut-count : goal.slice_bounds-store_cut-count
-slice_bounds-store_cut-count c = omega (arith, begins TODO.c.before.before.before.before.before.before, c.smaller-to.ensures)
+slice_bounds-store_cut-count c =
+    let a = c.args in
+    let p = c.requires in
+    omega (arith, begins a.width a.i a.source.now p.2 p.5, c.smaller-to.ensures)
 
 pub slice_bounds-store_cut-start : goal.slice_bounds-store_cut-start
-slice_bounds-store_cut-start c = omega (arith, begins TODO.c.before.before.before.before.before.before, c.smaller-to.ensures)
+slice_bounds-store_cut-start c =
+    let a = c.args in
+    let p = c.requires in
+    omega (arith, begins a.width a.i a.source.now p.2 p.5, c.smaller-to.ensures)
 
 pub slice_bounds-store_cut-end : goal.slice_bounds-store_cut-end
 slice_bounds-store_cut-end c = omega (arith, c.smaller-to.ensures)

@@ -1,12 +1,9 @@
-use mathlib.Core.Path.{◌≡◌, refl, sym, ◌∙◌}
-use Prim.Native.Nat.{◌+◌, ◌-◌, ◌*◌, ◌≤◌, ◌<◌}
-use native.Mathlib.Omega.{arith}
+use mathlib.Core.Path.{◌≡◌}
+use Prim.Native.Nat.{◌-◌}
 use lib.ListN.{length}
-use lib.Seq.{take_all}
 use Rattle.block.specs.Block.{parts_of}
 use Rattle.sector_log.specs.Parts.{beside}
-use Rattle.writer.proofs.Cutting.{data_lawful, data_whole}
-use Rattle.write.proofs.Level.{refused-not-done, Going, going_start, going_end, Turn, score-length, going-stopped, going_next}
+use Rattle.write.proofs.Level.{Going}
 use Rattle.write.proofs.write_leaves.Given as goal
 
 -- `write::write_leaves` meets its contract: the leaves one after the other.
