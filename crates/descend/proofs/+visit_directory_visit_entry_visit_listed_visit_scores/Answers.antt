@@ -2,7 +2,7 @@
 use Prim.Native.Nat.{ℕ}
 use mathlib.Core.Path.{◌≡◌, sym, ◌∙◌}
 use native.Mathlib.Omega.{arith}
-use Rattle.buffer.specs.Bytes.{Bytes}
+use mathlib.Core.List.{List}
 use Rattle.entry.specs.declared.Entry.{Entry}
 use Rattle.tree.specs.Tree.{type_at, count_at}
 use Rattle.visit.specs.declared.Met.{Met}
@@ -56,7 +56,7 @@ visit_listed-returns-in-Visited-clause-exact t c =
     λ f l. is_visited r (sym c.in-Visited.is ∙ c.judge-judged.ensures) _ _ _ c.nest_of.ensures f (c.visit_entry.ensures.exact f l)
 
 -- `descend::visit_entry`: by what was met, the level and the length
-met : {log : Bytes} {e : Entry} {level nest : ℕ} {score : Bytes} {left : ℕ} {m : Met} → m ≡ met_of log nest left (type_at e level) (count_at e level) score
+met : {log : List ℕ} {e : Entry} {level nest : ℕ} {score : List ℕ} {left : ℕ} {m : Met} → m ≡ met_of log nest left (type_at e level) (count_at e level) score
     → EntryMet log e level nest score left m
 met h = record { met = h }
 
