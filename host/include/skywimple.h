@@ -1,7 +1,7 @@
-/* The functions of target/staticlib/libboundary.a, which `rt staticlib boundary` writes.
-   crates/boundary/src has their contracts. A slice is a pointer to its bytes, not null, and their
-   count. Slices of one call do not overlap, unless both are only read. "Number" is the number of a
-   refusal, 1 to 26, or 0 for none.
+/* The functions of target/staticlib/libboundary.a, a copy of what `rt lib` in crates/boundary writes
+   to out/ there. crates/boundary/src has their contracts. A slice is a pointer to its bytes, not
+   null, and their count. Slices of one call do not overlap, unless both are only read. "Number" is
+   the number of a refusal, 1 to 26, or 0 for none.
 
    waiting is the waiting part of log: whole sectors of 512 bytes, at most 256 of them (else 3), all
    zeros at first, and from then on as the last skywimple_serve left it. Its sectors are numbered on

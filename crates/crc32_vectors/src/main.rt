@@ -3,9 +3,10 @@
 
 ghost use Rattle.std.specs.Prelude.{◌≡◌, length};
 
-fn show(checksum: u32) {
-    io::print_hex(1, checksum as u64, 8);
-    io::write_all(1, b"\n");
+use std::io;
+
+fn show(rt: &impl Print, checksum: u32) -> io::Result<()> {
+    println!(rt; "{checksum:08x}")
 }
 
 // The bytes 0 to 255, over and over.
@@ -21,14 +22,17 @@ fn cycle() -> [u8; 8192]
     bytes
 }
 
-fn main() {
-    show(crc32::crc32(b"123456789"));
-    show(crc32::crc32(b""));
-    show(crc32::crc32(b"The quick brown fox jumps over the lazy dog"));
+fn main(rt: HostRuntime) -> io::Result<()> {
+    show(&rt, crc32::crc32(b"123456789"))?;
+    show(&rt, crc32::crc32(b""))?;
+    show(
+        &rt,
+        crc32::crc32(b"The quick brown fox jumps over the lazy dog"),
+    )?;
     let zeros = [0u8; 499];
-    show(crc32::crc32(&zeros));
+    show(&rt, crc32::crc32(&zeros))?;
     let ones = [255u8; 499];
-    show(crc32::crc32(&ones));
+    show(&rt, crc32::crc32(&ones))?;
     let bytes = cycle();
-    show(crc32::crc32(&bytes));
+    show(&rt, crc32::crc32(&bytes))
 }

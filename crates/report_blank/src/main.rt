@@ -2,13 +2,14 @@
 #![tactic(auto)]
 
 use report::Reported;
+use std::io;
 
-fn main() {
+fn main(rt: HostRuntime) -> io::Result<()> {
     let log = [0u8; 1024];
     let mut text = [0u8; 128];
     let told = report::report(&log, &mut text);
     let Reported::Written(n) = told else {
-        return;
+        return Ok(());
     };
-    io::write_all(libc::STDOUT_FILENO, &text[..n]);
+    rt.write_all(&text[..n])
 }

@@ -6,6 +6,8 @@ ghost use Rattle.buffer.specs.Bytes.{put};
 ghost use Rattle.report_main.specs.Printed.{why, printed};
 
 use report::Reported;
+use std::io;
+use std::io::Read;
 
 // Writes refusal 3 to the front of d; how many bytes it is.
 fn refuse(d: &mut [u8]) -> usize
@@ -31,11 +33,11 @@ fn answer(log: &[u8], d: &mut [u8]) -> usize
     n
 }
 
-// The input's buffer is longer than the longest log, so that a longer input is seen.
-fn main() {
-    let mut input = io::large_buffer();
-    let n = io::read_full(libc::STDIN_FILENO, &mut input);
+// The bytes of the input that are taken are more than the longest log has, so that a longer input is seen.
+fn main(rt: HostRuntime) -> io::Result<()> {
+    let mut input = Vec::new(rt.alloc());
+    rt.stdin().take(65536).read_to_end(&mut input)?;
     let mut text = [0u8; 128];
-    let end = answer(&input[..n], &mut text);
-    io::write_all(libc::STDOUT_FILENO, &text[..end]);
+    let end = answer(&input, &mut text);
+    rt.write_all(&text[..end])
 }

@@ -3,30 +3,32 @@
 
 ghost use Rattle.std.specs.Prelude.{◌<◌, ◌≤◌};
 
+use std::io;
+
 fn wide(x: u8) -> u64 {
     x as u64
 }
 
-fn end_line() {
-    io::write_all(1, b"\n");
+fn end_line(rt: &impl Print) -> io::Result<()> {
+    println!(rt;)
 }
 
 // A digest as a line of hexadecimal digits.
-fn print_digest(d: [u8; 20]) {
+fn print_digest(rt: &impl Print, d: [u8; 20]) -> io::Result<()> {
     let mut i = 0;
     while i < 20 {
-        io::print_hex(1, wide(d[i]), 2);
+        print!(rt; "{:02x}", wide(d[i]))?;
         i += 1;
     }
-    end_line();
+    end_line(rt)
 }
 
-fn print_sha1(m: &[u8]) {
-    print_digest(sha1_digest::sha1(m));
+fn print_sha1(rt: &impl Print, m: &[u8]) -> io::Result<()> {
+    print_digest(rt, sha1_digest::sha1(m))
 }
 
 // The digest of the bytes 0, 1, 2 .. of which there are n: the lengths about the end of a block.
-fn print_counted(n: usize)
+fn print_counted(rt: &impl Print, n: usize) -> io::Result<()>
     requires { n ≤ 128 }
 {
     let mut m = [0u8; 128];
@@ -35,7 +37,7 @@ fn print_counted(n: usize)
         m[i] = i as u8;
         i += 1;
     }
-    print_sha1(&m[..n]);
+    print_sha1(rt, &m[..n])
 }
 
 // The lengths of the pieces, one after the other.
@@ -63,7 +65,7 @@ fn next(turn: usize, left: usize) -> usize
 }
 
 // The digest of a million bytes `a` that come in pieces.
-fn print_million() {
+fn print_million(rt: &impl Print) -> io::Result<()> {
     let a = [b'a'; 1000];
     let mut s = sha1_digest::start();
     let mut left: usize = 1000000;
@@ -74,22 +76,26 @@ fn print_million() {
         left -= n;
         turn += 1;
     }
-    print_digest(sha1_digest::finish(s));
+    print_digest(rt, sha1_digest::finish(s))
 }
 
-fn main() {
-    print_sha1(b"");
-    print_sha1(b"abc");
-    print_sha1(b"abcdbcdecdefdefgefghfghighijhijkijkljklmklmnlmnomnopnopq");
+fn main(rt: HostRuntime) -> io::Result<()> {
+    print_sha1(&rt, b"")?;
+    print_sha1(&rt, b"abc")?;
     print_sha1(
+        &rt,
+        b"abcdbcdecdefdefgefghfghighijhijkijkljklmklmnlmnomnopnopq",
+    )?;
+    print_sha1(
+        &rt,
         b"abcdefghbcdefghicdefghijdefghijkefghijklfghijklmghijklmnhijklmnoijklmnopjklmnopqklmnopqrlmnopqrsmnopqrstnopqrstu",
-    );
-    print_million();
-    print_counted(55);
-    print_counted(56);
-    print_counted(63);
-    print_counted(64);
-    print_counted(65);
-    print_counted(119);
-    print_counted(120);
+    )?;
+    print_million(&rt)?;
+    print_counted(&rt, 55)?;
+    print_counted(&rt, 56)?;
+    print_counted(&rt, 63)?;
+    print_counted(&rt, 64)?;
+    print_counted(&rt, 65)?;
+    print_counted(&rt, 119)?;
+    print_counted(&rt, 120)
 }

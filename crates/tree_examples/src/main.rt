@@ -5,6 +5,7 @@ ghost use Rattle.std.specs.Prelude.{◌≡◌, ◌+◌, ◌*◌, ◌≤◌, ◌<
 
 use file::Located;
 use kind::LONGEST;
+use std::io;
 
 // ---- printing
 
@@ -12,33 +13,34 @@ fn wide(x: u8) -> u64 {
     x as u64
 }
 
-fn print(text: &[u8]) {
-    io::write_all(libc::STDOUT_FILENO, text);
+fn print(rt: &impl Print, text: &[u8]) -> io::Result<()> {
+    rt.write_all(text)
 }
 
 // A name and a number.
-fn print_number(name: &[u8], n: u64) {
-    print(name);
-    io::print_decimal(libc::STDOUT_FILENO, n);
+fn print_number(rt: &impl Print, name: &[u8], n: u64) -> io::Result<()> {
+    print(rt, name)?;
+    print!(rt; "{n}")
 }
 
 // A name and bytes in hexadecimal.
-fn print_bytes(name: &[u8], s: &[u8]) {
-    print(name);
+fn print_bytes(rt: &impl Print, name: &[u8], s: &[u8]) -> io::Result<()> {
+    print(rt, name)?;
     let mut i: usize = 0;
     while i < s.len() {
-        io::print_hex(libc::STDOUT_FILENO, wide(s[i]), 2);
+        print!(rt; "{:02x}", wide(s[i]))?;
         i += 1;
     }
+    Ok(())
 }
 
 // ---- blocks
 
 // Empties the log for a tree, and prints the tree's name.
-fn begin(log: &mut [u8], name: &[u8]) {
+fn begin(rt: &impl Print, log: &mut [u8], name: &[u8]) -> io::Result<()> {
     buffer::clear(log);
-    print(name);
-    print(b"\n");
+    print(rt, name)?;
+    print(rt, b"\n")
 }
 
 // Stores a block and settles it; its score.
@@ -136,7 +138,13 @@ fn put_tree(log: &mut [u8], depth: usize) -> [u8; 20]
 }
 
 // An entry of three pointers a block, printed.
-fn entry(dsize: usize, flags: u8, size: usize, score: &[u8; 20]) -> [u8; 40] {
+fn entry(
+    rt: &impl Print,
+    dsize: usize,
+    flags: u8,
+    size: usize,
+    score: &[u8; 20],
+) -> io::Result<[u8; 40]> {
     let mut e = [0u8; 40];
     e[5] = 60;
     e[6] = (dsize / 256 % 256) as u8;
@@ -145,9 +153,9 @@ fn entry(dsize: usize, flags: u8, size: usize, score: &[u8; 20]) -> [u8; 40] {
     e[18] = (size / 256 % 256) as u8;
     e[19] = (size % 256) as u8;
     buffer::copy_at(&mut e, 20, score);
-    print_bytes(b"entry=", &e);
-    print(b"\n");
-    e
+    print_bytes(rt, b"entry=", &e)?;
+    print(rt, b"\n")?;
+    Ok(e)
 }
 
 // Stores a root, all of it, with the score of a root before it that no log here holds.
@@ -180,38 +188,33 @@ fn damage(log: &mut [u8], sector: usize)
 // ---- reading
 
 // Prints which buffer holds a run, and where it starts there.
-fn print_place(run: Located) {
+fn print_place(rt: &impl Print, run: Located) -> io::Result<()> {
     match run {
-        Located::Stored { at, length: _ } => {
-            print_number(b" from=log start=", at as u64);
-        }
-        Located::Waiting { at, length: _ } => {
-            print_number(b" from=waiting start=", at as u64);
-        }
-        Located::Zeros { length: _ } => {
-            print(b" from=page start=0");
-        }
-        Located::Refused(_) => {}
+        Located::Stored { at, length: _ } => print_number(rt, b" from=log start=", at as u64),
+        Located::Waiting { at, length: _ } => print_number(rt, b" from=waiting start=", at as u64),
+        Located::Zeros { length: _ } => print(rt, b" from=page start=0"),
+        Located::Refused(_) => Ok(()),
     }
 }
 
 // Prints the answer at an offset; the run's length.
 fn read_at<'a>(
+    rt: &impl Print,
     log: &'a [u8],
     waiting: &'a [u8],
     page: &'a [u8],
     entry: &[u8],
     offset: u64,
-) -> usize {
+) -> io::Result<usize> {
     let run = file::locate(log, waiting, page, entry, offset);
     let bytes = file_read::read(log, waiting, page, entry, offset);
-    print_number(b"offset=", offset);
-    print_number(b" number=", wide(file::number(run)));
-    print_place(run);
-    print_number(b" length=", bytes.len() as u64);
-    print_bytes(b" bytes=", bytes);
-    print(b"\n");
-    bytes.len()
+    print_number(rt, b"offset=", offset)?;
+    print_number(rt, b" number=", wide(file::number(run)))?;
+    print_place(rt, run)?;
+    print_number(rt, b" length=", bytes.len() as u64)?;
+    print_bytes(rt, b" bytes=", bytes)?;
+    print(rt, b"\n")?;
+    Ok(bytes.len())
 }
 
 // How far to go on: past the run, or past the leaf where there is none.
@@ -227,111 +230,132 @@ fn step(length: usize, dsize: u64) -> u64
 
 // Reads a file from run to run, and once at its end.
 fn read_parts<'a>(
+    rt: &impl Print,
     log: &'a [u8],
     waiting: &'a [u8],
     page: &'a [u8],
     entry: &[u8],
     dsize: u64,
     size: u64,
-)
+) -> io::Result<()>
     requires { 0 < dsize }
 {
     let mut offset: u64 = 0;
     while offset < size {
-        let n = step(read_at(log, waiting, page, entry, offset), dsize);
+        let n = step(read_at(rt, log, waiting, page, entry, offset)?, dsize);
         if size - offset < n {
             offset = size;
         } else {
             offset += n;
         }
     }
-    read_at(log, waiting, page, entry, size);
+    read_at(rt, log, waiting, page, entry, size)?;
+    Ok(())
 }
 
 // The same with nothing waiting.
-fn read_file<'a>(log: &'a [u8], page: &'a [u8], entry: &[u8], dsize: u64, size: u64)
+fn read_file<'a>(
+    rt: &impl Print,
+    log: &'a [u8],
+    page: &'a [u8],
+    entry: &[u8],
+    dsize: u64,
+    size: u64,
+) -> io::Result<()>
     requires { 0 < dsize }
 {
     let none = [0u8; 0];
-    read_parts(log, &none, page, entry, dsize, size);
+    read_parts(rt, log, &none, page, entry, dsize, size)
 }
 
 // ---- walking
 
 // Prints the answer of a walk; its visits.
-fn walk_with<'a>(log: &'a [u8], waiting: &'a [u8], root: &[u8; 20], allowance: u64) -> u64 {
+fn walk_with<'a>(
+    rt: &impl Print,
+    log: &'a [u8],
+    waiting: &'a [u8],
+    root: &[u8; 20],
+    allowance: u64,
+) -> io::Result<u64> {
     let w = walk::walk(log, waiting, root, allowance);
     let end = w.end;
-    print_number(b"allowance=", allowance);
-    print_number(b" number=", wide(walk::number(end)));
-    print_number(b" visits=", w.visits as u64);
-    print(b"\n");
-    w.visits as u64
+    print_number(rt, b"allowance=", allowance)?;
+    print_number(rt, b" number=", wide(walk::number(end)))?;
+    print_number(rt, b" visits=", w.visits as u64)?;
+    print(rt, b"\n")?;
+    Ok(w.visits as u64)
 }
 
 // Walks with a large allowance, with the visits that it spent, and with one less.
-fn walk_parts<'a>(log: &'a [u8], waiting: &'a [u8], root: &[u8; 20]) {
-    print_bytes(b"root=", root);
-    print(b"\n");
-    let visits = walk_with(log, waiting, root, 1000);
-    walk_with(log, waiting, root, visits);
+fn walk_parts<'a>(
+    rt: &impl Print,
+    log: &'a [u8],
+    waiting: &'a [u8],
+    root: &[u8; 20],
+) -> io::Result<()> {
+    print_bytes(rt, b"root=", root)?;
+    print(rt, b"\n")?;
+    let visits = walk_with(rt, log, waiting, root, 1000)?;
+    walk_with(rt, log, waiting, root, visits)?;
     if 0 < visits {
-        walk_with(log, waiting, root, visits - 1);
+        walk_with(rt, log, waiting, root, visits - 1)?;
     }
+    Ok(())
 }
 
 // The same with nothing waiting.
-fn walk_thrice(log: &[u8], root: &[u8; 20]) {
+fn walk_thrice(rt: &impl Print, log: &[u8], root: &[u8; 20]) -> io::Result<()> {
     let none = [0u8; 0];
-    walk_parts(log, &none, root);
+    walk_parts(rt, log, &none, root)
 }
 
 // Walks from a root above a directory block of some entries.
-fn walk_above(log: &mut [u8], entries: &[u8]) {
+fn walk_above(rt: &impl Print, log: &mut [u8], entries: &[u8]) -> io::Result<()> {
     let directory = put(log, 2, entries);
     let root = put_short_root(log, &directory);
-    walk_thrice(log, &root);
+    walk_thrice(rt, log, &root)
 }
 
 // ---- trees
 
 // A leaf across two payloads, longer than the file.
-fn wide_leaf(log: &mut [u8]) {
-    begin(log, b"tree=wide_leaf");
+fn wide_leaf(rt: &impl Print, log: &mut [u8]) -> io::Result<()> {
+    begin(rt, log, b"tree=wide_leaf")?;
     let top = put_leaf(log, 0, 500);
-    let e = entry(500, 1, 450, &top);
+    let e = entry(rt, 500, 1, 450, &top)?;
     let page = [0u8; 64];
-    read_file(log, &page, &e, 500, 450);
-    walk_above(log, &e);
+    read_file(rt, log, &page, &e, 500, 450)?;
+    walk_above(rt, log, &e)
 }
 
 // A leaf shorter than the file: the rest is zeros, a page at a time.
-fn short_leaf(log: &mut [u8]) {
-    begin(log, b"tree=short_leaf");
+fn short_leaf(rt: &impl Print, log: &mut [u8]) -> io::Result<()> {
+    begin(rt, log, b"tree=short_leaf")?;
     let top = put_leaf(log, 0, 410);
-    let e = entry(500, 1, 500, &top);
+    let e = entry(rt, 500, 1, 500, &top)?;
     let page = [0u8; 64];
-    read_file(log, &page, &e, 500, 500);
-    walk_above(log, &e);
+    read_file(rt, log, &page, &e, 500, 500)?;
+    walk_above(rt, log, &e)
 }
 
 // A whole tree of leaves of 5 bytes.
-fn whole(log: &mut [u8], name: &[u8], depth: usize, size: usize)
+fn whole(rt: &impl Print, log: &mut [u8], name: &[u8], depth: usize, size: usize) -> io::Result<()>
     requires { depth ≤ 3 }
 {
-    begin(log, name);
+    begin(rt, log, name)?;
     let top = put_tree(log, depth);
-    let e = entry(5, (1 + 4 * depth) as u8, size, &top);
+    let e = entry(rt, 5, (1 + 4 * depth) as u8, size, &top)?;
     let page = [0u8; 64];
-    read_file(log, &page, &e, 5, size as u64);
-    walk_above(log, &e);
+    read_file(rt, log, &page, &e, 5, size as u64)?;
+    walk_above(rt, log, &e)
 }
 
 // Reads and walks a file of leaves of 5 bytes, with a page of 4.
-fn read_hole(log: &mut [u8], e: &[u8; 40], size: u64) {
+fn read_hole(rt: &impl Print, log: &mut [u8], e: &[u8; 40], size: u64) -> io::Result<()> {
     let page = [0u8; 4];
-    read_file(log, &page, e, 5, size);
-    walk_above(log, e);
+    read_file(rt, log, &page, e, 5, size)?;
+    walk_above(rt, log, e)
 }
 
 // Stores a pointer block of three scores.
@@ -344,258 +368,267 @@ fn put_three(log: &mut [u8], a: &[u8; 20], b: &[u8; 20], c: &[u8; 20]) -> [u8; 2
 }
 
 // The zero score between two leaves, the second of 2 bytes. The page is shorter than a leaf.
-fn zero_leaf(log: &mut [u8]) {
-    begin(log, b"tree=zero_leaf");
+fn zero_leaf(rt: &impl Print, log: &mut [u8]) -> io::Result<()> {
+    begin(rt, log, b"tree=zero_leaf")?;
     let first = put_leaf(log, 0, 5);
     let last = put_leaf(log, 10, 2);
     let top = put_three(log, &first, &kind::zero_score(), &last);
-    read_hole(log, &entry(5, 5, 15, &top), 15);
+    read_hole(rt, log, &entry(rt, 5, 5, 15, &top)?, 15)
 }
 
 // A pointer block of one score, under one of one score.
-fn short_pointers(log: &mut [u8]) {
-    begin(log, b"tree=short_pointers");
+fn short_pointers(rt: &impl Print, log: &mut [u8]) -> io::Result<()> {
+    begin(rt, log, b"tree=short_pointers")?;
     let leaf = put_leaf(log, 0, 5);
     let below = put(log, 3, &leaf);
     let top = put(log, 4, &below);
-    read_hole(log, &entry(5, 9, 40, &top), 40);
+    read_hole(rt, log, &entry(rt, 5, 9, 40, &top)?, 40)
 }
 
 // The zero score at the top.
-fn zero_top(log: &mut [u8]) {
-    begin(log, b"tree=zero_top");
+fn zero_top(rt: &impl Print, log: &mut [u8]) -> io::Result<()> {
+    begin(rt, log, b"tree=zero_top")?;
     let top = kind::zero_score();
-    read_hole(log, &entry(5, 13, 12, &top), 12);
+    read_hole(rt, log, &entry(rt, 5, 13, 12, &top)?, 12)
 }
 
 // Stores a directory block of one entry, a file of 5 bytes.
-fn put_one(log: &mut [u8], from: usize) -> [u8; 20] {
+fn put_one(rt: &impl Print, log: &mut [u8], from: usize) -> io::Result<[u8; 20]> {
     let leaf = put_leaf(log, from, 5);
-    let e = entry(5, 1, 5, &leaf);
-    put(log, 2, &e)
+    let e = entry(rt, 5, 1, 5, &leaf)?;
+    Ok(put(log, 2, &e))
 }
 
 // Stores two such blocks under a pointer block.
-fn put_two(log: &mut [u8]) -> [u8; 20] {
-    let first = put_one(log, 100);
-    let second = put_one(log, 105);
+fn put_two(rt: &impl Print, log: &mut [u8]) -> io::Result<[u8; 20]> {
+    let first = put_one(rt, log, 100)?;
+    let second = put_one(rt, log, 105)?;
     let mut p = [0u8; 40];
     buffer::copy_at(&mut p, 0, &first);
     buffer::copy_at(&mut p, 20, &second);
-    put(log, 3, &p)
+    Ok(put(log, 3, &p))
 }
 
 // The bytes of a directory block: a file, an entry that isn't active, a directory, and five bytes of a fourth entry.
-fn three_entries(file: &[u8; 20], directory: &[u8; 40]) -> [u8; 125] {
+fn three_entries(rt: &impl Print, file: &[u8; 20], directory: &[u8; 40]) -> io::Result<[u8; 125]> {
     let mut d = [0u8; 125];
-    let first = entry(5, 5, 15, file);
-    let second = entry(5, 4, 15, file);
+    let first = entry(rt, 5, 5, 15, file)?;
+    let second = entry(rt, 5, 4, 15, file)?;
     buffer::copy_at(&mut d, 0, &first);
     buffer::copy_at(&mut d, 40, &second);
     buffer::copy_at(&mut d, 80, directory);
     d[124] = 9;
-    d
+    Ok(d)
 }
 
 // A directory in a directory.
-fn directories(log: &mut [u8]) {
-    begin(log, b"tree=directories");
+fn directories(rt: &impl Print, log: &mut [u8]) -> io::Result<()> {
+    begin(rt, log, b"tree=directories")?;
     let file = put_tree(log, 1);
-    let inner = put_two(log);
-    let e = entry(40, 7, 80, &inner);
+    let inner = put_two(rt, log)?;
+    let e = entry(rt, 40, 7, 80, &inner)?;
     let page = [0u8; 64];
-    read_file(log, &page, &e, 40, 80);
-    let d = three_entries(&file, &e);
-    walk_directories(log, &d);
+    read_file(rt, log, &page, &e, 40, 80)?;
+    let d = three_entries(rt, &file, &e)?;
+    walk_directories(rt, log, &d)
 }
 
 // Walks from a root above a directory block, also with allowances of the most, of too many and of none, and from a score that is no root's.
-fn walk_directories(log: &mut [u8], d: &[u8]) {
+fn walk_directories(rt: &impl Print, log: &mut [u8], d: &[u8]) -> io::Result<()> {
     let directory = put(log, 2, d);
     let root = put_root(log, &directory);
-    walk_thrice(log, &root);
+    walk_thrice(rt, log, &root)?;
     let none = [0u8; 0];
-    walk_with(log, &none, &root, walk::MOST_ALLOWANCE);
-    walk_with(log, &none, &root, 1000001);
-    walk_with(log, &none, &root, 0);
-    walk_with(log, &none, &directory, 1000);
+    walk_with(rt, log, &none, &root, walk::MOST_ALLOWANCE)?;
+    walk_with(rt, log, &none, &root, 1000001)?;
+    walk_with(rt, log, &none, &root, 0)?;
+    walk_with(rt, log, &none, &directory, 1000)?;
+    Ok(())
 }
 
 // A tree of depth 2 with damage in a sector: leaf k is sector k, the pointer block above leaf 3k is sector 9 + k.
-fn damaged(log: &mut [u8], name: &[u8], sector: usize)
+fn damaged(rt: &impl Print, log: &mut [u8], name: &[u8], sector: usize) -> io::Result<()>
     requires { sector < 127 }
 {
-    begin(log, name);
+    begin(rt, log, name)?;
     let top = put_tree(log, 2);
-    let e = entry(5, 9, 45, &top);
+    let e = entry(rt, 5, 9, 45, &top)?;
     let directory = put(log, 2, &e);
     let root = put_short_root(log, &directory);
     damage(log, sector);
     let page = [0u8; 64];
-    read_file(log, &page, &e, 5, 45);
-    walk_thrice(log, &root);
+    read_file(rt, log, &page, &e, 5, 45)?;
+    walk_thrice(rt, log, &root)
 }
 
 // Reads and walks a tree of which the first five sectors are the log, and all others wait.
-fn in_two_parts(log: &[u8], entry: &[u8], root: &[u8; 20]) {
+fn in_two_parts(rt: &impl Print, log: &[u8], entry: &[u8], root: &[u8; 20]) -> io::Result<()> {
     if 2560 <= log.len() {
         let page = [0u8; 64];
-        read_parts(&log[..2560], &log[2560..], &page, entry, 5, 45);
-        walk_parts(&log[..2560], &log[2560..], root);
+        read_parts(rt, &log[..2560], &log[2560..], &page, entry, 5, 45)?;
+        walk_parts(rt, &log[..2560], &log[2560..], root)?;
     }
+    Ok(())
 }
 
 // The same, and again with damage in a waiting sector.
-fn in_two_parts_twice(log: &mut [u8], entry: &[u8], root: &[u8; 20]) {
-    in_two_parts(log, entry, root);
+fn in_two_parts_twice(
+    rt: &impl Print,
+    log: &mut [u8],
+    entry: &[u8],
+    root: &[u8; 20],
+) -> io::Result<()> {
+    in_two_parts(rt, log, entry, root)?;
     damage(log, 7);
-    in_two_parts(log, entry, root);
+    in_two_parts(rt, log, entry, root)
 }
 
 // A tree of depth 2 in two parts: leaf k is sector k, and the other blocks come behind.
-fn waiting(log: &mut [u8]) {
-    begin(log, b"tree=waiting");
+fn waiting(rt: &impl Print, log: &mut [u8]) -> io::Result<()> {
+    begin(rt, log, b"tree=waiting")?;
     let top = put_tree(log, 2);
-    let e = entry(5, 9, 45, &top);
+    let e = entry(rt, 5, 9, 45, &top)?;
     let directory = put(log, 2, &e);
     let root = put_short_root(log, &directory);
-    in_two_parts_twice(log, &e, &root);
+    in_two_parts_twice(rt, log, &e, &root)
 }
 
 // n directories, each the only entry of the one before, and a file in the last.
-fn nest(log: &mut [u8], name: &[u8], n: usize)
+fn nest(rt: &impl Print, log: &mut [u8], name: &[u8], n: usize) -> io::Result<()>
     requires { n ≤ 20 }
 {
-    begin(log, name);
+    begin(rt, log, name)?;
     let leaf = put_leaf(log, 0, 5);
-    let mut e = entry(5, 1, 5, &leaf);
+    let mut e = entry(rt, 5, 1, 5, &leaf)?;
     let mut k: usize = 1;
     while k < n {
         let s = put(log, 2, &e);
-        e = entry(40, 3, 40, &s);
+        e = entry(rt, 40, 3, 40, &s)?;
         k += 1;
     }
-    walk_above(log, &e);
+    walk_above(rt, log, &e)
 }
 
 // Prints the answer at the offset 0.
-fn read_once(log: &[u8], entry: &[u8]) {
+fn read_once(rt: &impl Print, log: &[u8], entry: &[u8]) -> io::Result<()> {
     let page = [0u8; 64];
     let none = [0u8; 0];
-    read_at(log, &none, &page, entry, 0);
+    read_at(rt, log, &none, &page, entry, 0)?;
+    Ok(())
 }
 
 // The same of an entry without its last byte.
-fn read_cut(log: &[u8], entry: &[u8]) {
+fn read_cut(rt: &impl Print, log: &[u8], entry: &[u8]) -> io::Result<()> {
     if 0 < entry.len() {
         let n = entry.len() - 1;
-        read_once(log, &entry[..n]);
+        read_once(rt, log, &entry[..n])?;
     }
+    Ok(())
 }
 
 // Entries that are ill-formed or inactive, and one of 39 bytes.
-fn read_ill_formed(log: &[u8], top: &[u8; 20]) {
-    read_once(log, &entry(5, 5, 16, top));
-    read_once(log, &entry(0, 5, 15, top));
-    read_once(log, &entry(5, 37, 15, top));
-    read_once(log, &entry(5, 7, 15, top));
-    read_once(log, &entry(5, 4, 15, top));
-    read_cut(log, &entry(5, 5, 15, top));
+fn read_ill_formed(rt: &impl Print, log: &[u8], top: &[u8; 20]) -> io::Result<()> {
+    read_once(rt, log, &entry(rt, 5, 5, 16, top)?)?;
+    read_once(rt, log, &entry(rt, 0, 5, 15, top)?)?;
+    read_once(rt, log, &entry(rt, 5, 37, 15, top)?)?;
+    read_once(rt, log, &entry(rt, 5, 7, 15, top)?)?;
+    read_once(rt, log, &entry(rt, 5, 4, 15, top)?)?;
+    read_cut(rt, log, &entry(rt, 5, 5, 15, top)?)
 }
 
 // A directory block of a good entry and an ill-formed one.
-fn ill_formed_second(top: &[u8; 20]) -> [u8; 80] {
+fn ill_formed_second(rt: &impl Print, top: &[u8; 20]) -> io::Result<[u8; 80]> {
     let mut d = [0u8; 80];
-    let first = entry(5, 5, 15, top);
-    let second = entry(5, 5, 16, top);
+    let first = entry(rt, 5, 5, 15, top)?;
+    let second = entry(rt, 5, 5, 16, top)?;
     buffer::copy_at(&mut d, 0, &first);
     buffer::copy_at(&mut d, 40, &second);
-    d
+    Ok(d)
 }
 
 // Ill-formed entries, read and walked.
-fn ill_formed(log: &mut [u8]) {
-    begin(log, b"tree=ill_formed");
+fn ill_formed(rt: &impl Print, log: &mut [u8]) -> io::Result<()> {
+    begin(rt, log, b"tree=ill_formed")?;
     let top = put_tree(log, 1);
-    read_ill_formed(log, &top);
-    let d = ill_formed_second(&top);
-    walk_above(log, &d);
+    read_ill_formed(rt, log, &top)?;
+    let d = ill_formed_second(rt, &top)?;
+    walk_above(rt, log, &d)
 }
 
 // A leaf of 6 bytes under an entry whose leaves have at most 5.
-fn long_leaf(log: &mut [u8]) {
-    begin(log, b"tree=long_leaf");
+fn long_leaf(rt: &impl Print, log: &mut [u8]) -> io::Result<()> {
+    begin(rt, log, b"tree=long_leaf")?;
     let top = put_leaf(log, 0, 6);
-    read_hole(log, &entry(5, 1, 5, &top), 5);
+    read_hole(rt, log, &entry(rt, 5, 1, 5, &top)?, 5)
 }
 
 // A pointer block of 30 bytes.
-fn ragged_pointers(log: &mut [u8]) {
-    begin(log, b"tree=ragged_pointers");
+fn ragged_pointers(rt: &impl Print, log: &mut [u8]) -> io::Result<()> {
+    begin(rt, log, b"tree=ragged_pointers")?;
     let leaf = put_leaf(log, 0, 5);
     let mut p = [0u8; 30];
     buffer::copy_at(&mut p, 0, &leaf);
     let top = put(log, 3, &p);
-    read_hole(log, &entry(5, 5, 10, &top), 10);
+    read_hole(rt, log, &entry(rt, 5, 5, 10, &top)?, 10)
 }
 
 // A score that was never stored.
-fn missing(log: &mut [u8]) {
-    begin(log, b"tree=missing");
+fn missing(rt: &impl Print, log: &mut [u8]) -> io::Result<()> {
+    begin(rt, log, b"tree=missing")?;
     let leaf = put_leaf(log, 0, 5);
     let none = [85u8; 20];
     let top = put_three(log, &leaf, &none, &leaf);
-    read_hole(log, &entry(5, 5, 15, &top), 15);
+    read_hole(rt, log, &entry(rt, 5, 5, 15, &top)?, 15)
 }
 
 // A block that was stored under another type: the tree is one level deeper than the entry says.
-fn other_type(log: &mut [u8]) {
-    begin(log, b"tree=other_type");
+fn other_type(rt: &impl Print, log: &mut [u8]) -> io::Result<()> {
+    begin(rt, log, b"tree=other_type")?;
     let top = put_tree(log, 2);
-    read_hole(log, &entry(5, 5, 15, &top), 15);
+    read_hole(rt, log, &entry(rt, 5, 5, 15, &top)?, 15)
 }
 
-fn whole_files(log: &mut [u8]) {
-    whole(log, b"tree=depth_0", 0, 4);
-    whole(log, b"tree=depth_1", 1, 13);
-    whole(log, b"tree=depth_2", 2, 45);
-    whole(log, b"tree=depth_3", 3, 131);
+fn whole_files(rt: &impl Print, log: &mut [u8]) -> io::Result<()> {
+    whole(rt, log, b"tree=depth_0", 0, 4)?;
+    whole(rt, log, b"tree=depth_1", 1, 13)?;
+    whole(rt, log, b"tree=depth_2", 2, 45)?;
+    whole(rt, log, b"tree=depth_3", 3, 131)
 }
 
-fn holes(log: &mut [u8]) {
-    zero_leaf(log);
-    short_pointers(log);
-    zero_top(log);
+fn holes(rt: &impl Print, log: &mut [u8]) -> io::Result<()> {
+    zero_leaf(rt, log)?;
+    short_pointers(rt, log)?;
+    zero_top(rt, log)
 }
 
-fn damages_and_nests(log: &mut [u8]) {
-    damaged(log, b"tree=damaged_leaf", 4);
-    damaged(log, b"tree=damaged_pointer", 10);
-    nest(log, b"tree=nest_16", 16);
-    nest(log, b"tree=nest_17", 17);
+fn damages_and_nests(rt: &impl Print, log: &mut [u8]) -> io::Result<()> {
+    damaged(rt, log, b"tree=damaged_leaf", 4)?;
+    damaged(rt, log, b"tree=damaged_pointer", 10)?;
+    nest(rt, log, b"tree=nest_16", 16)?;
+    nest(rt, log, b"tree=nest_17", 17)
 }
 
-fn refusals(log: &mut [u8]) {
-    ill_formed(log);
-    long_leaf(log);
-    ragged_pointers(log);
-    missing(log);
-    other_type(log);
+fn refusals(rt: &impl Print, log: &mut [u8]) -> io::Result<()> {
+    ill_formed(rt, log)?;
+    long_leaf(rt, log)?;
+    ragged_pointers(rt, log)?;
+    missing(rt, log)?;
+    other_type(rt, log)
 }
 
-fn trees(log: &mut [u8]) {
-    wide_leaf(log);
-    short_leaf(log);
-    whole_files(log);
-    holes(log);
-    directories(log);
-    waiting(log);
-    damages_and_nests(log);
-    refusals(log);
+fn trees(rt: &impl Print, log: &mut [u8]) -> io::Result<()> {
+    wide_leaf(rt, log)?;
+    short_leaf(rt, log)?;
+    whole_files(rt, log)?;
+    holes(rt, log)?;
+    directories(rt, log)?;
+    waiting(rt, log)?;
+    damages_and_nests(rt, log)?;
+    refusals(rt, log)
 }
 
 // A log of 127 sectors.
-fn main() {
-    let mut space = io::large_buffer();
-    trees(&mut space[..65024]);
+fn main(rt: HostRuntime) -> io::Result<()> {
+    let mut space = [0u8; 65024];
+    trees(&rt, &mut space)
 }

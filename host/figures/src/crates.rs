@@ -1,4 +1,4 @@
-//! The crates: what each stands on, its lines, edits, and how long its check took.
+//! The crates: what each stands on, its lines and edits.
 
 use std::path::Path;
 use std::{fs, io};
@@ -13,8 +13,6 @@ pub struct Crate {
     pub spec: usize,
     pub proof: usize,
     pub edits: usize,
-    /// Seconds, where a check's words are there.
-    pub check: Option<u64>,
 }
 
 /// The crates in the order of crates.txt.
@@ -24,17 +22,18 @@ pub fn read(root: &Path) -> io::Result<Vec<Crate>> {
         .lines()
         .filter(|l| !l.starts_with('#'))
         .filter_map(|l| l.split_once(':'))
+        .map(|(name, on)| (named(name), on))
         .collect();
     let mut crates: Vec<Crate> = Vec::new();
     for (name, on) in &lines {
-        let dir = root.join("crates").join(name.trim());
+        let dir = root.join("crates").join(name);
         let on = on
             .split_whitespace()
-            .filter_map(|d| lines.iter().position(|(n, _)| n.trim() == d))
+            .filter_map(|d| lines.iter().position(|(n, _)| *n == d))
             .collect();
         let source = texts(&dir.join("src"))?.concat();
         crates.push(Crate {
-            name: name.trim().to_owned(),
+            name: (*name).to_owned(),
             on,
             program: dir.join("src/main.rt").exists(),
             functions: source.lines().filter(|l| is_function(l)).count(),
@@ -42,10 +41,14 @@ pub fn read(root: &Path) -> io::Result<Vec<Crate>> {
             spec: count(&dir.join("specs"))?,
             proof: count(&dir.join("proofs"))?,
             edits: files(&dir.join("must-fail"))?.len(),
-            check: seconds(root, name.trim()),
         });
     }
     Ok(crates)
+}
+
+/// A crate's name; its line may say `staticlib` behind it.
+fn named(said: &str) -> &str {
+    said.split_whitespace().next().unwrap_or_default()
 }
 
 fn is_function(line: &str) -> bool {
@@ -78,14 +81,4 @@ fn texts(dir: &Path) -> io::Result<Vec<String>> {
 
 fn count(dir: &Path) -> io::Result<usize> {
     Ok(texts(dir)?.iter().map(|t| t.lines().count()).sum())
-}
-
-/// From the words of the last check: `rt: NAME proved (12 s)`.
-fn seconds(root: &Path, name: &str) -> Option<u64> {
-    let said = fs::read_to_string(root.join(format!("target/log/{name}.out"))).ok()?;
-    let line = said
-        .lines()
-        .rev()
-        .find_map(|l| l.split_once(&format!("{name} proved (")))?;
-    line.1.split_once(' ')?.0.parse().ok()
 }

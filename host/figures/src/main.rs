@@ -1,11 +1,11 @@
-//! Writes docs/crates.svg, the picture of the crates, the table of docs/BENCHMARKS.md with their sizes, edits and times, and
+//! Writes docs/crates.svg, the picture of the crates, the table of docs/BENCHMARKS.md with their sizes and edits, and
 //! that of docs/DESIGN.md with how much there is to read.
 //!
 //! ```text
 //! cargo run --release --offline --manifest-path host/Cargo.toml -p figures
 //! ```
 //!
-//! What a crate stands on is read from crates.txt, how long its check took from the last `rt check` or `rt ci` (target/log).
+//! What a crate stands on is read from crates.txt.
 
 mod crates;
 mod picture;

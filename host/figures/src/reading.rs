@@ -71,12 +71,12 @@ fn reached(crates: &Path, from: &[&str]) -> io::Result<BTreeSet<PathBuf>> {
     Ok(found)
 }
 
-/// The file of definitions that an import names: `use Rattle·log·specs.specs.Parts.{Lent}`. What is declared by code has none.
+/// The file of definitions that an import names: `use Rattle.sector_log.specs.Parts.{Lent}`. What is declared by code has none, nor
+/// has what is not of this repository.
 fn imported(crates: &Path, line: &str) -> Option<PathBuf> {
-    let (name, rest) = line.split_once("Rattle·")?.1.split_once(".specs.")?;
+    let (name, rest) = line.split_once("Rattle.")?.1.split_once(".specs.")?;
     let module = rest.split(['.', ' ']).next()?;
-    let name = name.trim_end_matches("·specs");
-    (module != "declared").then(|| {
+    (module != "declared" && name != "std").then(|| {
         crates
             .join(name)
             .join("specs")
@@ -129,14 +129,15 @@ mod tests {
         let here = Path::new("c");
         let of = |line| imported(here, line);
         assert_eq!(
-            of("use Rattle·log·specs.specs.Parts.{Lent}"),
-            Some(here.join("log/specs/Parts.antt"))
+            of("use Rattle.sector_log.specs.Parts.{Lent}"),
+            Some(here.join("sector_log/specs/Parts.antt"))
         );
         assert_eq!(
-            of("use Rattle·block.specs.Log.{used}"),
+            of("use Rattle.block.specs.Log.{used}"),
             Some(here.join("block/specs/Log.antt"))
         );
-        assert_eq!(of("use Rattle·block.specs.declared.Block.{Block}"), None);
+        assert_eq!(of("use Rattle.block.specs.declared.Block.{Block}"), None);
+        assert_eq!(of("use Rattle.std.specs.Prelude.{cond}"), None);
         assert_eq!(of("use mathlib.Core.Bool.{cond}"), None);
     }
 

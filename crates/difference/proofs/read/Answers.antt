@@ -6,21 +6,9 @@ use lib.ListN.{length}
 use Rattle.difference.proofs.First.{first-within, second-within}
 use Rattle.difference.proofs.read.Goals as goal
 
-first-inside : (c : tie.After-found) → c.found.given.0.0 + 40 ≤ length (start c.before.before).args.a.now
-first-inside c =
-    let l = c.before.before in
-    let a = (start l).args in
-    first-within a.a.now a.b.now _ (sym l.locate.ensures ∙ c.found.given.1)
-
 pub returns-in-First : goal.returns-in-First
 returns-in-First c =
     rw (← c.locate-found.ensures, c.in-First.is) (record { bytes = rw (add-sub_cancel_left _ _); block = refl; place = refl })
-
-second-inside : (c : tie.After-found2) → c.found2.given.0.0 + 40 ≤ length (start c.before.before).args.b.now
-second-inside c =
-    let l = c.before.before in
-    let a = (start l).args in
-    second-within a.a.now a.b.now _ (sym l.locate.ensures ∙ c.found2.given.1)
 
 pub returns-in-Second : goal.returns-in-Second
 returns-in-Second c =
@@ -33,3 +21,15 @@ returns-in-Nowhere c =
 pub returns-in-Refused : goal.returns-in-Refused
 returns-in-Refused c =
     rw (← c.locate-found.ensures, c.in-Refused.is) (record { bytes = refl; block = refl; place = sym (zero-add _) })
+
+pub overflow_add-end : goal.overflow_add-end
+overflow_add-end c = omega (arith, first-within c.args.a.now c.args.b.now _ (sym c.locate-found.ensures ∙ c.in-First.is))
+
+pub slice_bounds-result-end : goal.slice_bounds-result-end
+slice_bounds-result-end c = omega (arith, first-within c.args.a.now c.args.b.now _ (sym c.locate-found.ensures ∙ c.in-First.is))
+
+pub overflow_add-end-in-Second : goal.overflow_add-end-in-Second
+overflow_add-end-in-Second c = omega (arith, second-within c.args.a.now c.args.b.now _ (sym c.locate-found.ensures ∙ c.in-Second.is))
+
+pub slice_bounds-result-end-in-Second : goal.slice_bounds-result-end-in-Second
+slice_bounds-result-end-in-Second c = omega (arith, second-within c.args.a.now c.args.b.now _ (sym c.locate-found.ensures ∙ c.in-Second.is))

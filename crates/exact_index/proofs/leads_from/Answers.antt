@@ -33,8 +33,8 @@ pub overflow_add-last : goal.overflow_add-last
 overflow_add-last c =
     omega (arith, c.front_length-k.ensures, front-most c.args.s.now)
 
-pub slice_bounds-read_hex_bytes-end : goal.slice_bounds-read_hex_bytes-end
-slice_bounds-read_hex_bytes-end c = let args = c.args in
+pub slice_bounds-read_hex_bytes-end-2 : goal.slice_bounds-read_hex_bytes-end-2
+slice_bounds-read_hex_bytes-end-2 c = let args = c.args in
     let Front-length = c.front_length-k in
     let given = c.requires in
     omega (arith, Front-length.ensures, front-most args.s.now, given.1)

@@ -24,11 +24,7 @@ returns-then-known c = let args = c.args in
     let if1 = c.if-is_lawful in
     let is_lawful = c.is_lawful in
     let a = args in
-    let not-empty = ⊎_elim
-    (λ w. not-zero a.kind a.score.now _ w.1.ensures w.2.left)
-    (λ w. not-lawful a.kind a.score.now _ is_lawful.ensures w.left)
-    if1.branch in
-    by_nothing a.known a.log.now a.waiting.now a.index.now a.kind a.score.now find-hint.result not-empty _ find-hint.ensures c.in-Nowhere.is
+    by_nothing a.known a.log.now a.waiting.now a.index.now a.kind a.score.now find-hint.result (elim c.if-is_lawful.branch [ then-is_lawful+else-is_zero_score w ↦ not-zero a.kind a.score.now _ w.is_zero_score.ensures w.if-is_zero_score.false | else-is_lawful w ↦ not-lawful a.kind a.score.now _ c.is_lawful.ensures w.if-is_lawful.false ]) _ find-hint.ensures c.in-Nowhere.is
     c.if-known.true
 
 pub returns : goal.returns
@@ -37,9 +33,5 @@ returns c = let args = c.args in
     let if1 = c.if-is_lawful in
     let is_lawful = c.is_lawful in
     let a = args in
-    let not-empty = ⊎_elim
-    (λ w. not-zero a.kind a.score.now _ w.1.ensures w.2.left)
-    (λ w. not-lawful a.kind a.score.now _ is_lawful.ensures w.left)
-    if1.branch in
-    by_scan a.known a.log.now a.waiting.now a.index.now a.kind a.score.now _ not-empty _ find-hint.ensures c.in-Nowhere.is c.if-known.false
+    by_scan a.known a.log.now a.waiting.now a.index.now a.kind a.score.now _ (elim c.if-is_lawful.branch [ then-is_lawful+else-is_zero_score w ↦ not-zero a.kind a.score.now _ w.is_zero_score.ensures w.if-is_zero_score.false | else-is_lawful w ↦ not-lawful a.kind a.score.now _ c.is_lawful.ensures w.if-is_lawful.false ]) _ find-hint.ensures c.in-Nowhere.is c.if-known.false
     c.find_held-2.ensures

@@ -14,4 +14,4 @@ move_behind-requires c =
 pub returns : goal.returns
 unfolding can_settle_known settled_known
 returns c =
-    let move-behind = c.move_behind in record { fits = (move-behind.ensures).0; lent = (move-behind.ensures).1 }
+    let move-behind = c.move_behind in record { fits = move-behind.ensures.fits; lent = move-behind.ensures.lent }

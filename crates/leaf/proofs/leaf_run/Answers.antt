@@ -30,7 +30,7 @@ returns c =
     let a = c.args in
     let if1 = c.if-b-k in
     let payload-of = c.payload_of-p in
-    let IsPlace-in = TODO.c.before.before.before.IsPlace-in in
+    let IsPlace-in = c.place_in in
     let k = a.offset % a.e.dsize in
     ap₂ Stored IsPlace-in.ensures (c.least.ensures ∙ ap (λ (p : ℕ). min (p - k % p) (min (a.b.size - k) (a.e.size - a.offset))) payload-of.ensures)
     ∙ leaf_in a.page a.e a.offset a.b if1.false

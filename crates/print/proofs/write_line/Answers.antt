@@ -5,7 +5,7 @@ use Rattle.print.proofs.Lines.{line-written}
 use Rattle.print.proofs.write_line.Goals as goal
 
 pub shape_of-d : goal.shape_of-d
-shape_of-d c = simp length-set (c.write_number-end.auto.0 ∙ c.copy_at.auto.0)
+shape_of-d c = simp length-set (c.write_number-end.auto.d ∙ c.copy_at.auto.d)
 
 pub returns : goal.returns
 returns c =

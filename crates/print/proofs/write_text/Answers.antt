@@ -11,7 +11,7 @@ pub write_line-b-requires : goal.write_line-b-requires
 write_line-b-requires c =
     let w1 = c.write_line-a in
     let p1 = line-end sectors_name 0 w1.result c.args.count c.requires.1 w1.ensures.1 in
-    line-room used_name w1.result c.args.end _ c.requires.2 (omega (arith, c.requires.0, w1.auto.0))
+    line-room used_name w1.result c.args.end _ c.requires.2 (omega (arith, c.requires.0, w1.auto.d))
 
 pub write_line-c-requires : goal.write_line-c-requires
 write_line-c-requires c =
@@ -19,7 +19,7 @@ write_line-c-requires c =
     let p1 = line-end sectors_name 0 w1.result c.args.count c.requires.1 w1.ensures.1 in
     let w2 = c.write_line-b in
     let p2 = line-end used_name w1.result w2.result c.args.end c.requires.2 w2.ensures.1 in
-    line-room records_name w2.result c.args.s.records _ c.requires.3 (omega (arith, c.requires.0, w1.auto.0, w2.auto.0))
+    line-room records_name w2.result c.args.s.records _ c.requires.3 (omega (arith, c.requires.0, w1.auto.d, w2.auto.d))
 
 pub write_line-e-requires : goal.write_line-e-requires
 write_line-e-requires c =
@@ -29,7 +29,7 @@ write_line-e-requires c =
     let p2 = line-end used_name w1.result w2.result c.args.end c.requires.2 w2.ensures.1 in
     let w3 = c.write_line-c in
     let p3 = line-end records_name w2.result w3.result c.args.s.records c.requires.3 w3.ensures.1 in
-    line-room doubtful_name w3.result c.args.s.doubtful _ c.requires.4 (omega (arith, c.requires.0, w1.auto.0, w2.auto.0, w3.auto.0))
+    line-room doubtful_name w3.result c.args.s.doubtful _ c.requires.4 (omega (arith, c.requires.0, w1.auto.d, w2.auto.d, w3.auto.d))
 
 pub write_verdict-requires : goal.write_verdict-requires
 write_verdict-requires c =
@@ -41,7 +41,7 @@ write_verdict-requires c =
     let p3 = line-end records_name w2.result w3.result c.args.s.records c.requires.3 w3.ensures.1 in
     let w4 = c.write_line-e in
     let p4 = line-end doubtful_name w3.result w4.result c.args.s.doubtful c.requires.4 w4.ensures.1 in
-    omega (arith, c.requires.0, w1.auto.0, w2.auto.0, w3.auto.0, w4.auto.0)
+    omega (arith, c.requires.0, w1.auto.d, w2.auto.d, w3.auto.d, w4.auto.d)
 
 pub returns : goal.returns
 returns c =

@@ -18,19 +18,17 @@ tag_of-requires c = omega (arith, read_length _ _ _ c.requires.0)
 pub answer_settled-requires : goal.answer_settled-requires
 answer_settled-requires c =
     let a = c.args in
-    let place = c.place-1.given in
     let w = settled-within a.kind c.score_of-score.result.now a.index.now a.log.now _
-    (c.find_settled-place.ensures _ place.1) in
+    (c.find_settled-place.ensures _ c.in-At.is) in
     (w.0, w.1, c.requires.1)
 
 pub returns-in-At : goal.returns-in-At
 returns-in-At c =
     let a = c.args in
     let score = c.score_of-score in
-    let place = c.place-1.given in
     let tag = c.tag_of in
     let told = c.answer_settled.ensures a.waiting.now in
-    let found = c.find_settled-place.ensures _ place.1 in
+    let found = c.find_settled-place.ensures _ c.in-At.is in
     read_as a.message.now a.index.now (beside a.log.now a.waiting.now) _ _ tag.ensures a.kind a.count _ _ score.ensures
     (read-settled a.kind score.result.now a.index.now a.log.now _ found a.count _ a.waiting.now _ _ c.is_lawful.ensures
     c.if-is_lawful.true _ told)

@@ -27,8 +27,8 @@ overflow_add-from c = omega (arith, c.front_length-k.ensures, front-most c.args.
 pub overflow_add-to : goal.overflow_add-to
 overflow_add-to c = omega (arith, c.front_length-k.ensures, front-most c.args.s.now)
 
-pub slice_bounds-read_hex_bytes-end : goal.slice_bounds-read_hex_bytes-end
-slice_bounds-read_hex_bytes-end c = omega (arith, c.front_length-k.ensures, front-most c.args.s.now)
+pub slice_bounds-read_hex_bytes-end-2 : goal.slice_bounds-read_hex_bytes-end-2
+slice_bounds-read_hex_bytes-end-2 c = omega (arith, c.front_length-k.ensures, front-most c.args.s.now)
 
 pub returns : goal.returns
 returns c =

@@ -1,12 +1,9 @@
-use mathlib.Core.Path.{sym}
-use Prim.Native.Nat.{◌+◌, ◌≤◌, ◌-◌}
-use native.Mathlib.Omega.{arith}
-use lib.Seq.{length-take-le}
+use Prim.Native.Nat.{◌+◌, ◌≤◌}
 use Rattle.sha1_vectors.proofs.print_million.Given as goal
 
 -- `sha1_vectors::print_million` is safe and ends: each piece has a byte at least. Assumes nothing.
 abbrev pub invariant-loop-left : goal.invariant-loop-left
-invariant-loop-left l = l.turn + l.left ≤ 1000000
+invariant-loop-left g l = l.turn + l.left ≤ 1000000
 
 abbrev pub decreases-loop-left : goal.decreases-loop-left
-decreases-loop-left l = l.left
+decreases-loop-left g l = l.left

@@ -4,7 +4,7 @@ use Rattle.tree_examples.proofs.print_bytes.Given as goal
 
 -- `tree_examples::print_bytes` is safe and ends.
 abbrev pub invariant-loop-i : goal.invariant-loop-i
-invariant-loop-i l = l.i ≤ length l.s
+invariant-loop-i g l = l.i ≤ length l.s
 
 abbrev pub decreases-loop-i : goal.decreases-loop-i
-decreases-loop-i l = length l.s - l.i
+decreases-loop-i g l = length l.s - l.i

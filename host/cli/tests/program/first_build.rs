@@ -13,7 +13,7 @@ fn repository(rt: &str) -> Place {
     let place = Place::new();
     let script = concat!(env!("CARGO_MANIFEST_DIR"), "/../../skywimple");
     copy_program(Path::new(script), &place.path("skywimple"));
-    let list = "# The crates.\nword:\nother: word\nlog: word libc\nboundary: word log\n";
+    let list = "# The crates.\nword:\nother: word\nlog: word bytes\nboundary staticlib: log\n";
     place.write("crates.txt", list);
     for name in ["word", "other", "log", "boundary"] {
         let source = place.path("crates").join(name).join("src");
@@ -54,12 +54,17 @@ fn run(place: &Place) -> Answer {
     }
 }
 
-const PROVES: &str = "echo 'rt: word proved (1 s)' >&2
-echo 'rt: log proved (unchanged since it was last proved)' >&2
+const PROVES: &str = "test \"$1\" = lib && test \"${PWD##*/}\" = boundary || exit 2
+echo 'rt: chose --jobs 2 for word' >&2
+echo 'fn word::low: proved'
+echo 'crate word: modules loaded=0 checked=57'
+echo 'logic=proved functions=1'
+echo 'library word: modules loaded=36 checked=0'
+echo 'crate log: modules loaded=0 checked=64'
+echo 'logic=proved functions=2'
 sleep 2
-mkdir -p target/staticlib
-echo made > target/staticlib/libboundary.a
-echo 'rt: target/staticlib/libboundary.a has the functions of boundary'
+mkdir -p out
+echo made > out/libboundary.a
 ";
 
 #[test]

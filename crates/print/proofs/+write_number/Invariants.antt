@@ -1,0 +1,5 @@
+-- What falls with each call: the number.
+use Rattle.print.proofs.+write_number.Given as goal
+
+abbrev pub decreases-write_number : goal.decreases-write_number
+decreases-write_number l = l.n
