@@ -14,9 +14,12 @@ found c = found-known _ _ _ _ _ _ _ c.before.before.visit.ensures _ c.look.given
 
 pub returns-in_default : goal.returns-in_default
 returns-in_default c =
-    let a = c.args in record { within = (top-refused (joined a.end.0 a.log.now a.waiting.now) a.date.now a.score.now a.left a.second.now _ c.visit-m.ensures _ c.in_default.is _
-    c.answer.ensures).0; exact = (top-refused (joined a.end.0 a.log.now a.waiting.now) a.date.now a.score.now a.left a.second.now _ c.visit-m.ensures _ c.in_default.is _
-    c.answer.ensures).1 }
+    let a = c.args in record {
+      within = (top-refused (joined a.end.0 a.log.now a.waiting.now) a.date.now a.score.now a.left a.second.now _ c.visit-m.ensures _ c.in_default.is _
+          c.answer.ensures).0;
+      exact = (top-refused (joined a.end.0 a.log.now a.waiting.now) a.date.now a.score.now a.left a.second.now _ c.visit-m.ensures _ c.in_default.is _
+          c.answer.ensures).1;
+    }
 
 pub overflow_sub-left : goal.overflow_sub-left
 overflow_sub-left c = omega (arith, (found TODO.c.before.before).some_left)
@@ -37,6 +40,9 @@ pub returns : goal.returns
 returns c = let copy-directory = c.copy_directory-below in
     let w = copy-directory in
     let a = c.args in
-    let q = c.keep.ensures in record { within = (top_kept (joined a.end.0 a.log.now a.waiting.now) a.date.now a.score.now a.left a.second.now _ c.visit-m.ensures _ c.in-Found.is _ _ w.ensures _ _ q.count
-    q.exact).0; exact = (top_kept (joined a.end.0 a.log.now a.waiting.now) a.date.now a.score.now a.left a.second.now _ c.visit-m.ensures _ c.in-Found.is _ _ w.ensures _ _ q.count
-    q.exact).1 }
+    let q = c.keep.ensures in record {
+      within = (top_kept (joined a.end.0 a.log.now a.waiting.now) a.date.now a.score.now a.left a.second.now _ c.visit-m.ensures _ c.in-Found.is _ _ w.ensures _ _ q.count
+          q.exact).0;
+      exact = (top_kept (joined a.end.0 a.log.now a.waiting.now) a.date.now a.score.now a.left a.second.now _ c.visit-m.ensures _ c.in-Found.is _ _ w.ensures _ _ q.count
+          q.exact).1;
+    }
