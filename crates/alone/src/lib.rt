@@ -7,9 +7,9 @@ ghost use Rattle.sector_log.specs.Parts.{alone};
 ghost use Rattle.sector_log.specs.Store.{after_store};
 ghost use Rattle.sector_log.specs.Store.{store as store_of};
 
-use sector_log::Receipt;
 use reader::Place;
 use sector::SECTOR;
+use sector_log::Receipt;
 use sector_number::SectorNumber;
 
 // Stores a block of a type, with a date, in a log for which nothing waits: it is appended to the log itself.

@@ -15,10 +15,10 @@ ghost use Rattle.request.specs.declared.Session.TheVariants.{Greeted, Closed as 
 ghost use Rattle.request.specs.Step.{reply_room, outcome_of, silent, refused, granted, written, fresh};
 
 use block::Block;
-use sector_log::{Receipt, Stored};
 use message::Request;
 use refusal::Refusal;
 use request::{Answer, Session};
+use sector_log::{Receipt, Stored};
 use sector_number::SectorNumber;
 
 // The least length of a reply buffer.

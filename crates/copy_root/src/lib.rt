@@ -9,8 +9,8 @@ ghost use Rattle.copying.specs.Parts.{copy_below_root};
 
 use entry::{ROOT_SCORE, ROOT_SCORE_END};
 use kind::LONGEST;
-use sector_log::Look;
 use refusal::Refusal;
+use sector_log::Look;
 use sector_number::SectorNumber;
 use visit::{End, Walked};
 

@@ -7,8 +7,8 @@ ghost use Rattle.leaf.specs.Fetch.{Open};
 ghost use Rattle.fill.specs.Fill.{stop_number, fill_outcome, filled_with, byte_below, gathered};
 
 use entry::Entry;
-use sector_log::Look;
 use refusal::Refusal;
+use sector_log::Look;
 use sector_number::SectorNumber;
 
 // How filling a buffer ended: the buffer or the file is full, or the refusal at the first offset that has one.

@@ -7,10 +7,10 @@ ghost use Rattle.sector_log.specs.LookUp.{counted};
 ghost use Rattle.reader.specs.Reader.{placed};
 ghost use Rattle.hint.specs.Hint.{true_at, hint, held_by, look_up_by, look_up_by_asked};
 
-use sector_log::Look;
 use reader::Place;
 use refusal::Refusal;
 use sector::SECTOR;
+use sector_log::Look;
 use sector_number::SectorNumber;
 
 // The block that the entry at a place is true of: it names the score and type, and such a block starts at its sector.

@@ -10,9 +10,9 @@ ghost use Rattle.sector_log.specs.Parts.{beside};
 ghost use Rattle.sector_log.specs.Store.{after_store, receipt, appended};
 ghost use Rattle.sector_log.specs.Behind.{appended_behind};
 
-use sector_log::Stored;
 use refusal::Refusal;
 use sector::{FRONT, LABEL, SECTOR};
+use sector_log::Stored;
 use sector_number::SectorNumber;
 
 // Appends a block that look-up did not find to the waiting part, whose sectors are numbered on from `from` and of which the first `waits` are

@@ -11,10 +11,10 @@ ghost use Rattle.known.specs.Known.{missing, held_known, owner, store_known, lis
 ghost use Rattle.known.specs.Known.{belongs as belongsOf};
 
 use known::{Doubt, Known};
-use sector_log::{Receipt, Stored};
 use reader::Place;
 use refusal::Refusal;
 use sector::SECTOR;
+use sector_log::{Receipt, Stored};
 use sector_number::SectorNumber;
 
 // Whether what is said to be known can belong to a log and a waiting part of these lengths.

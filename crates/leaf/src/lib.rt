@@ -10,9 +10,9 @@ ghost use Rattle.sector.specs.Sector.{body_length};
 
 use block::Block;
 use entry::Entry;
-use sector_log::Look;
 use refusal::Refusal;
 use sector::SECTOR;
+use sector_log::Look;
 
 // Where the run at an offset lies in one log of bytes: at a byte of it, or at the front of the page; or why there is none.
 #[derive(Clone, Copy)]

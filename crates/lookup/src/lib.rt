@@ -7,12 +7,12 @@ ghost use Rattle.sector_log.specs.Parts.{tape};
 ghost use Rattle.sector_log.specs.LookUp.{look_up, counted, look_number, look_up_asked};
 
 pub use doubt::why_absent;
-use sector_log::Look;
 pub use log_length::{are_allowed, is_allowed};
 use reader::Place;
 use refusal::Refusal;
 pub use score_scan::find_held;
 use sector::SECTOR;
+use sector_log::Look;
 use sector_number::SectorNumber;
 
 // The number of a look-up: 0 for a block that is found.

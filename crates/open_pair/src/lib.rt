@@ -11,8 +11,8 @@ ghost use Rattle.open_pair.specs.Opens.{Opens};
 use block::Block;
 use comparison::Compared;
 use entry::Entry;
-use sector_log::Look;
 use refusal::Refusal;
+use sector_log::Look;
 use sector_number::SectorNumber;
 use visit::End;
 

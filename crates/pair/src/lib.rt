@@ -6,8 +6,8 @@ ghost use Rattle.block.specs.Log.{sectors, joined};
 ghost use Rattle.pair.specs.Opened.{place_at};
 
 use entry::Entry;
-use sector_log::Look;
 use refusal::Refusal;
+use sector_log::Look;
 use sector_number::SectorNumber;
 
 // A block of an entry at a level: look-up with its count, and whole scores in a pointer block.

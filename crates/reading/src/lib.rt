@@ -15,11 +15,11 @@ ghost use Rattle.reading.specs.Settled.{settled_read};
 ghost use Rattle.indexed.specs.Indexed.{indexed_of, read_by};
 
 use block::Block;
-use sector_log::Look;
 use reader::Place;
 use refusal::Refusal;
 use request::{Answer, Session};
 use sector::SECTOR;
+use sector_log::Look;
 use sector_number::SectorNumber;
 
 // A read: test 9, the look-up by index among the log's sectors and those that wait, test 13.

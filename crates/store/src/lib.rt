@@ -12,10 +12,10 @@ ghost use Rattle.sector_log.specs.Store.{after_store, receipt, compared};
 ghost use Rattle.sector_log.specs.Store.{store as store_of};
 
 use block::Block;
-use sector_log::{Receipt, Stored};
 use reader::Place;
 use refusal::Refusal;
 use sector::SECTOR;
+use sector_log::{Receipt, Stored};
 use sector_number::SectorNumber;
 
 // A block that look-up found: a duplicate if it has these very bytes, else a clash.

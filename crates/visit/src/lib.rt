@@ -11,8 +11,8 @@ ghost use Rattle.visit.specs.Met.{met_of, answer_of};
 
 use block::Block;
 use entry::Entry;
-use sector_log::Look;
 use refusal::Refusal;
+use sector_log::Look;
 use sector_number::SectorNumber;
 
 // How a walk ended.

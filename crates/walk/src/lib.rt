@@ -8,8 +8,8 @@ ghost use Rattle.walk.specs.Walk.{walk_top, walk_root, walk_of};
 
 use entry::{ROOT_SCORE, ROOT_SCORE_END};
 use kind::LONGEST;
-use sector_log::Look;
 use refusal::Refusal;
+use sector_log::Look;
 use sector_number::SectorNumber;
 use visit::{End, Walked};
 

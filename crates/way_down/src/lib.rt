@@ -8,9 +8,9 @@ ghost use Rattle.leaf.specs.Fetch.{LiesIn, run_in, Open};
 
 use block::Block;
 use entry::Entry;
-use sector_log::Look;
 use refusal::Refusal;
 use sector::LABEL;
+use sector_log::Look;
 use sector_number::SectorNumber;
 
 // The digit of weight p to the power d of n in base p. Repeated division: the power itself may pass 64 bits.

@@ -18,8 +18,8 @@ ghost use Rattle.writer.specs.declared.End.TheVariants.{Done};
 use cut::Kept;
 use entry::ENTRY;
 use kind::LONGEST;
-use sector_log::{Receipt, Stored};
 use refusal::Refusal;
+use sector_log::{Receipt, Stored};
 use writer::End;
 
 // How long the lent buffer of scores is at least: a score for each of the most leaves.

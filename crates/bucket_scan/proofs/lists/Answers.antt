@@ -31,8 +31,11 @@ loop-p-preserved c = let args = c.args in
     let names = c.names in
     let a = args in (
       omega (arith, if1.true),
-      elim c.if-names.branch [ then-names+else-sector_at-first w ↦ list_elsewhere a.index.now a.score.now a.kind a.first.0 l.p bucket-of.result.to if1.true l.invariant.1 _ names.ensures _ w.if-names.true w.sector_at.ensures
-          w.if-sector_at-first.false | else-names w ↦ list_unnamed a.index.now a.score.now a.kind a.first.0 l.p bucket-of.result.to if1.true l.invariant.1 _ names.ensures w.if-names.false ],
+      elim c.if-names.branch [
+        | then-names+else-sector_at-first w ↦ list_elsewhere a.index.now a.score.now a.kind a.first.0 l.p bucket-of.result.to if1.true l.invariant.1 _ names.ensures _ w.if-names.true w.sector_at.ensures
+            w.if-sector_at-first.false
+        | else-names w ↦ list_unnamed a.index.now a.score.now a.kind a.first.0 l.p bucket-of.result.to if1.true l.invariant.1 _ names.ensures w.if-names.false
+      ],
     )
 
 pub returns : goal.returns

@@ -148,7 +148,7 @@ pub compare_position-returns-then-level-eq0 : goal.compare_position-returns-then
 compare_position-returns-then-level-eq0 t c =
     let a = c.args in
     λ f h. c.compare_entries.ensures f h
-        ∙ in_leaves f (joined a.end.0 a.log.now a.waiting.now) a.e a.level a.nest _ _ a.i a.left c.if-level-eq0.true c.entry_bytes-x.ensures c.entry_bytes-y.ensures
+    ∙ in_leaves f (joined a.end.0 a.log.now a.waiting.now) a.e a.level a.nest _ _ a.i a.left c.if-level-eq0.true c.entry_bytes-x.ensures c.entry_bytes-y.ensures
 
 pub compare_position-score_at-s-requires : goal.compare_position-score_at-s-requires
 compare_position-score_at-s-requires t c = let p = c.requires in (p.0, p.1.before, p.1.full-scores c.if-level-eq0.false, omega (arith, p.7))
@@ -176,4 +176,4 @@ pub compare_position-returns : goal.compare_position-returns
 compare_position-returns t c =
     let a = c.args in
     λ f h. c.compare_blocks.ensures f h
-        ∙ above_leaves f (joined a.end.0 a.log.now a.waiting.now) a.e a.level a.nest _ _ a.i a.left c.if-level-eq0.false c.score_at-s.ensures c.score_at-t.ensures
+    ∙ above_leaves f (joined a.end.0 a.log.now a.waiting.now) a.e a.level a.nest _ _ a.i a.left c.if-level-eq0.false c.score_at-s.ensures c.score_at-t.ensures

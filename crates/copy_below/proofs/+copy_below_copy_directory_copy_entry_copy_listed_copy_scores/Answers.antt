@@ -28,7 +28,7 @@ copy_directory-returns-in_default t c =
     let w = c.copy_listed-w.ensures in
     let d =
     entries_are_directory _ a.date.now _ a.b c.requires.1.1 _ _ _ _
-        (refused_stops c.loop-i.invariant c.loop-i-test.true _ _ w.within w.exact _ c.in_default.is) in
+    (refused_stops c.loop-i.invariant c.loop-i-test.true _ _ w.within w.exact _ c.in_default.is) in
     record { within = d.0; exact = d.1 }
 
 pub copy_directory-loop-i-preserved : goal.copy_directory-loop-i-preserved
@@ -102,7 +102,7 @@ copy_entry-returns t c =
     let b = c.copy_below-below.ensures in
     let v =
     kept-behind log a.date.now a.e a.level a.nest a.score.now a.left a.second.now _ c.visit_level-m.ensures _ c.in-Found.is _ _ (b.within, b.exact)
-        _ c.type_at-kind.ensures _ _ c.keep.ensures.count c.keep.ensures.exact in
+    _ c.type_at-kind.ensures _ _ c.keep.ensures.count c.keep.ensures.exact in
     record { within = v.0; exact = v.1 }
 
 -- `copy_below::copy_below`: by the part that is below
@@ -118,7 +118,7 @@ copy_below-returns-in-Entries-clause-exact t c =
     let log = joined a.end.0 a.log.now a.waiting.now in
     let d = c.copy_directory.ensures in
     (below-directory log a.date.now a.e a.level a.nest a.left a.b c.requires.1.1 a.second.now c.below_block-below.ensures c.in-Entries.is _ _
-        (d.within, d.exact)).1
+    (d.within, d.exact)).1
 
 pub copy_below-overflow_sub-level : goal.copy_below-overflow_sub-level
 copy_below-overflow_sub-level t c = (whole-scores _ _ _ c.below_block-below.ensures c.in-Scores.is).0
@@ -134,7 +134,7 @@ copy_below-returns-in-Scores-clause-exact t c =
     let log = joined a.end.0 a.log.now a.waiting.now in
     let d = c.copy_scores.ensures in
     (below-scores log a.date.now a.e a.level a.nest a.left a.b c.requires.1.1 a.second.now c.below_block-below.ensures c.in-Scores.is _ _
-        (d.within, d.exact)).1
+    (d.within, d.exact)).1
 
 -- `copy_below::copy_scores`: the scores of the block in order
 pub copy_scores-loop-i-init : goal.copy_scores-loop-i-init
@@ -154,7 +154,7 @@ copy_scores-returns-in_default t c =
     let h = c.loop-i-test.true in
     let v =
     scores-one_by_one log a.date.now a.b short _ _ _ _ _ _ _
-        (refused_stops c.loop-i.invariant h _ _ w.within (score-copied log a.date.now a.b short _ _ _ _ _ _ h c.score_at-s.ensures w.exact) _ c.in_default.is) in
+    (refused_stops c.loop-i.invariant h _ _ w.within (score-copied log a.date.now a.b short _ _ _ _ _ _ h c.score_at-s.ensures w.exact) _ c.in_default.is) in
     record { within = v.0; exact = v.1 }
 
 pub copy_scores-loop-i-preserved : goal.copy_scores-loop-i-preserved

@@ -23,7 +23,7 @@ visit_directory-returns-in_default t c =
     let w = c.visit_listed-w in
     let d =
     entries_are_directory _ _ c.args.b c.requires.1.1 _ _
-        (refused_stops c.loop-i.invariant c.loop-i-test.true _ _ w.ensures.within w.ensures.exact _ c.in_default.is) in
+    (refused_stops c.loop-i.invariant c.loop-i-test.true _ _ w.ensures.within w.ensures.exact _ c.in_default.is) in
     record { within = d.0; exact = d.1 }
 
 pub visit_directory-loop-i-preserved : goal.visit_directory-loop-i-preserved
@@ -126,7 +126,7 @@ visit_scores-returns-in_default t c =
     let h = c.loop-i-test.true in
     let v =
     scores-one_by_one _ b short _ _ _ _ _
-        (refused_stops c.loop-i.invariant h _ _ w.within (score_visited _ b short _ _ _ _ h c.score_at-s.ensures w.exact) _ c.in_default.is) in
+    (refused_stops c.loop-i.invariant h _ _ w.within (score_visited _ b short _ _ _ _ h c.score_at-s.ensures w.exact) _ c.in_default.is) in
     record { within = v.0; exact = v.1 }
 
 pub visit_scores-loop-i-preserved : goal.visit_scores-loop-i-preserved

@@ -12,7 +12,7 @@ returns-then-not-e c =
     let if1 = c.if-b-ne-ENTRY in
     let entry_at = c.entry_at-e in
     let if2 = c.if-not-e in
-    entry-inactive a.b.now _ if1.false (entry_whole a.b.now _ if1.false entry_at.ensures) if2.true
+    entry-inactive a.b.now _ if1.false (entry_whole a.b.now _ if1.false entry_at.ensures) (not-true _ if2.true)
 
 pub returns : goal.returns
 returns c =
@@ -21,4 +21,4 @@ returns c =
     let entry_at = c.entry_at-e in
     let if2 = c.if-not-e in
     let is-well-formed = c.is_well_formed in
-    entry-active a.b.now _ _ if1.false (entry_whole a.b.now _ if1.false entry_at.ensures) if2.false is-well-formed.ensures
+    entry-active a.b.now _ _ if1.false (entry_whole a.b.now _ if1.false entry_at.ensures) (not-false _ if2.false) is-well-formed.ensures

@@ -150,7 +150,7 @@ returns c =
     let yes = if3.false in
     let l = readable-length a.entry.now _ readable yes in
     c.split.ensures
-    ∙ ap (split (512 * border.result.0)) (run_in.ensures ∙ descend.ensures.run (length a.page.now) a.offset refl)
+    ∙ ap (split (512 * border.result.0)) (run_in_lem.ensures ∙ descend.ensures.run (length a.page.now) a.offset refl)
     ∙ border_split log waiting border.result.0 border.ensures.within border.ensures.alike (length a.page.now) e a.offset e.depth (score_of a.entry.now)
     ∙ shown log waiting a.page.now a.entry.now a.offset _
     (goes_down _ (tape log waiting) a.page.now a.entry.now a.offset _ are-allowed.ensures if1.false _ is-page.ensures if2.false _

@@ -55,9 +55,12 @@ returns-in_default c =
     let is-zero-score = c.is_zero_score in
     let if1 = c.if-is_zero_score in
     let log = joined a.end.0 a.log.now a.waiting.now in
-    let e : l.level ≡ suc (l.level - 1) = omega (arith, loop-test.true) in record { room = look_room log type_at.result l.score count_at.result fetch.result fetch.ensures _ (sectors-joined a.end.0 a.log.now a.waiting.now p.0); run = λ page o q. level-refused log page a.e o l.level (l.level - 1) e l.score _ is-zero-score.ensures if1.false
+    let e : l.level ≡ suc (l.level - 1) = omega (arith, loop-test.true) in record {
+      room = look_room log type_at.result l.score count_at.result fetch.result fetch.ensures _ (sectors-joined a.end.0 a.log.now a.waiting.now p.0);
+      run = λ page o q. level-refused log page a.e o l.level (l.level - 1) e l.score _ is-zero-score.ensures if1.false
           _ type_at.ensures _ count_at.ensures fetch.result fetch.ensures _ c.in_default.is
-          ∙ l.invariant.2 page o q }
+          ∙ l.invariant.2 page o q;
+    }
 
 pub returns-then-b-ne0 : goal.returns-then-b-ne0
 returns-then-b-ne0 c =
@@ -71,9 +74,12 @@ returns-then-b-ne0 c =
     let if1 = c.if-is_zero_score in
     let if2 = c.if-b-ne0 in
     let log = joined a.end.0 a.log.now a.waiting.now in
-    let e : l.level ≡ suc (l.level - 1) = omega (arith, loop-test.true) in record { room = tt; run = λ page o q. level-ragged log page a.e o l.level (l.level - 1) e l.score _ is-zero-score.ensures if1.false
+    let e : l.level ≡ suc (l.level - 1) = omega (arith, loop-test.true) in record {
+      room = tt;
+      run = λ page o q. level-ragged log page a.e o l.level (l.level - 1) e l.score _ is-zero-score.ensures if1.false
           _ type_at.ensures _ count_at.ensures fetch.result fetch.ensures _ c.in-Found.is if2.true
-          ∙ l.invariant.2 page o q }
+          ∙ l.invariant.2 page o q;
+    }
 
 pub overflow_sub-level : goal.overflow_sub-level
 overflow_sub-level c = omega (arith, c.loop-level-test.true)
@@ -144,5 +150,8 @@ returns c =
     let p = c.requires in
     let log = joined a.end.0 a.log.now a.waiting.now in
     let t = type_at.result in
-    let z : l.level ≡ 0 = omega (arith, loop-test.false) in record { room = look_room log t l.score a.e.dsize fetch2.result fetch2.ensures _ (sectors-joined a.end.0 a.log.now a.waiting.now p.0); run = λ page o q. leaf_looked_up log page a.e o l.score t type_at.ensures fetch2.result fetch2.ensures
-          ∙ ap (λ (n : ℕ). under log page a.e o n l.score) (sym z) ∙ l.invariant.2 page o q }
+    let z : l.level ≡ 0 = omega (arith, loop-test.false) in record {
+      room = look_room log t l.score a.e.dsize fetch2.result fetch2.ensures _ (sectors-joined a.end.0 a.log.now a.waiting.now p.0);
+      run = λ page o q. leaf_looked_up log page a.e o l.score t type_at.ensures fetch2.result fetch2.ensures
+          ∙ ap (λ (n : ℕ). under log page a.e o n l.score) (sym z) ∙ l.invariant.2 page o q;
+    }

@@ -27,5 +27,8 @@ pub returns : goal.returns
 returns c = let a = c.args in
     let write-leaves = c.write_leaves-ended in
     let write-levels = c.write_levels in
-    let f = write-leaves.ensures.scores c.in-Done.is in record { blocks = leaves-stored a.slice.now a.dsize a.psize a.depth a.date.now (beside a.log.now a.waiting.now) _ _ write-leaves.ensures.blocks c.in-Done.is _ f _ _
-          write-levels.ensures.blocks; top = λ q. top-is a.slice.now a.dsize a.psize a.depth _ _ f (write-levels.ensures.top q) }
+    let f = write-leaves.ensures.scores c.in-Done.is in record {
+      blocks = leaves-stored a.slice.now a.dsize a.psize a.depth a.date.now (beside a.log.now a.waiting.now) _ _ write-leaves.ensures.blocks c.in-Done.is _ f _ _
+          write-levels.ensures.blocks;
+      top = λ q. top-is a.slice.now a.dsize a.psize a.depth _ _ f (write-levels.ensures.top q);
+    }

@@ -32,11 +32,10 @@ turn : {dsize : ℕ} {slice date : Bytes} {L₀ L L' : Lent} {count : ℕ} {scor
 turn lt e g s = record { one_left = omega arith; going = g; stored = s }
 
 pub keep_score-ended-requires : goal.keep_score-ended-requires
-keep_score-ended-requires c =
-    (
-      omega (arith, c.loop-i-test.true, c.pieces-count.ensures, c.loop-i.invariant.1, c.requires.4),
-      score-length (turn c.loop-i-test.true c.pieces-count.ensures c.loop-i.invariant.0 c.store_piece-receipt.ensures),
-    )
+keep_score-ended-requires c = (
+  omega (arith, c.loop-i-test.true, c.pieces-count.ensures, c.loop-i.invariant.1, c.requires.4),
+  score-length (turn c.loop-i-test.true c.pieces-count.ensures c.loop-i.invariant.0 c.store_piece-receipt.ensures),
+)
 
 pub returns-in_default : goal.returns-in_default
 returns-in_default c =
@@ -46,8 +45,7 @@ returns-in_default c =
 pub loop-i-preserved : goal.loop-i-preserved
 loop-i-preserved c =
     let T = turn c.loop-i-test.true c.pieces-count.ensures c.loop-i.invariant.0 c.store_piece-receipt.ensures in
-    let d = c.in-Done.is in
-    (
+    let d = c.in-Done.is in (
       (going_next T c.keep_score-ended.ensures.end d (c.keep_score-ended.ensures.score d) (omega (arith, c.loop-i-test.true, c.pieces-count.ensures, c.loop-i.invariant.1, c.requires.4))).0,
       search rules,
       search rules,

@@ -27,8 +27,7 @@ store_piece-receipt-requires c =
     let a = c.args in
     let l = c.loop-i in
     let p = c.requires in
-    let left : l.i < parts_of a.width (length a.scores.now) = omega (arith, c.loop-i-test.true, c.pieces-count.ensures) in
-    (
+    let left : l.i < parts_of a.width (length a.scores.now) = omega (arith, c.loop-i-test.true, c.pieces-count.ensures) in (
       p.0,
       pointer-lawful a.kind p.1,
       omega (arith, p.2),

@@ -40,8 +40,11 @@ pub returns-in_default : goal.returns-in_default
 returns-in_default c = let a = c.args in
     let turn = c.loop-k in
     let loop-test = c.loop-k-test in
-    let write-level = c.write_level-ended in record { blocks = climbing_stopped a.width a.scores.now a.date.now (beside a.log.now a.waiting.now) (beside a.log.now turn.waiting) turn.scores turn.n turn.k turn.invariant.0 _ _
-          write-level.ensures.blocks _ a.depth (c.in_default.is) loop-test.true; top = λ q. let p = (c.in_default.is) in let z : ◌≡◌ {A = ℕ} 0 1 = cc in absurd (omega arith) }
+    let write-level = c.write_level-ended in record {
+      blocks = climbing_stopped a.width a.scores.now a.date.now (beside a.log.now a.waiting.now) (beside a.log.now turn.waiting) turn.scores turn.n turn.k turn.invariant.0 _ _
+          write-level.ensures.blocks _ a.depth (c.in_default.is) loop-test.true;
+      top = λ q. let p = (c.in_default.is) in let z : ◌≡◌ {A = ℕ} 0 1 = cc in absurd (omega arith);
+    }
 
 pub pieces-n-requires : goal.pieces-n-requires
 pieces-n-requires c = let turn = c.loop-k in
@@ -72,5 +75,8 @@ pub returns : goal.returns
 returns c = let a = c.args in
     let turn = c.loop-k in
     let e : turn.k ≡ a.depth = omega (arith, (c.loop-k-test.false), turn.invariant.1) in
-    let g = turn.invariant.0 in record { blocks = g.blocks ∙ ap (λ (x : ℕ). store_all (beside a.log.now a.waiting.now) a.date.now (pointer_blocks a.width a.scores.now x)) e; top = λ _. climbing_end a.width a.scores.now a.date.now (beside a.log.now a.waiting.now) (beside a.log.now turn.waiting) turn.scores turn.n turn.k turn.invariant.2 g
-          ∙ ap (λ (x : ℕ). top_of (scores_at a.width a.scores.now x)) e }
+    let g = turn.invariant.0 in record {
+      blocks = g.blocks ∙ ap (λ (x : ℕ). store_all (beside a.log.now a.waiting.now) a.date.now (pointer_blocks a.width a.scores.now x)) e;
+      top = λ _. climbing_end a.width a.scores.now a.date.now (beside a.log.now a.waiting.now) (beside a.log.now turn.waiting) turn.scores turn.n turn.k turn.invariant.2 g
+          ∙ ap (λ (x : ℕ). top_of (scores_at a.width a.scores.now x)) e;
+    }
