@@ -3,6 +3,7 @@ use lib.ListN.{length}
 use Rattle.message.proofs.Requests.{framed-head}
 use Rattle.sector.proofs.Dates.{date-length}
 use Rattle.quick.proofs.Admission.{passed, roomy_enough, others-handed-on, read-admitted, write-admitted, sync-admitted}
+use borrow.Enum.Refused.{opened}
 use Rattle.quick.proofs.serve_admitted.Goals as goal
 
 -- `quick::serve_admitted` meets its contract: a case for each request.
@@ -80,4 +81,4 @@ returns-in_default c =
     let a = c.args in
     let p = passed a.session a.message.now a.date.now (length a.log.now) (length a.waiting.now) (length a.reply.now) c.requires in
     hand_on.ensures ∙ others-handed-on a.known a.session a.message.now a.date.now a.index.now a.log.now a.waiting.now a.reply.now p _
-    (sym parse.ensures) match.keys4
+    (sym parse.ensures) (opened match.keys4)
