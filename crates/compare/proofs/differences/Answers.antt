@@ -36,14 +36,13 @@ returns-then-not-is_directory-2 c =
     (sym c.is_directory-2.ensures ∙ c.if-not-is_directory-2.true)
 
 pub compare_entries-requires : goal.compare_entries-requires
-compare_entries-requires c =
-    (
-      c.border-end.ensures.within,
-      directory-length _ (sym c.is_directory.ensures ∙ c.if-not-is_directory.false),
-      directory-length _ (sym c.is_directory-2.ensures ∙ c.if-not-is_directory-2.false),
-      omega arith,
-      omega (arith, c.if-allowance-gt-MOST_ALLOWANCE.false),
-    )
+compare_entries-requires c = (
+  c.border-end.ensures.within,
+  directory-length _ (sym c.is_directory.ensures ∙ c.if-not-is_directory.false),
+  directory-length _ (sym c.is_directory-2.ensures ∙ c.if-not-is_directory-2.false),
+  omega arith,
+  omega (arith, c.if-allowance-gt-MOST_ALLOWANCE.false),
+)
 
 pub returns : goal.returns
 returns c =

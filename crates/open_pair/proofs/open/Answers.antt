@@ -45,8 +45,7 @@ returns-in-Found-other c =
     let a = c.args in
     let p = c.requires.0 in
     let O = found_at _ _ _ _ _ (sym c.read_block-one.ensures ∙ c.in-Found.is) in
-    let O' = found_at _ _ _ _ _ (sym c.read_block-other.ensures ∙ c.in-Found-other.is) in
-    (
+    let O' = found_at _ _ _ _ _ (sym c.read_block-other.ensures ∙ c.in-Found-other.is) in (
       lies a.end.0 a.log.now a.waiting.now p O,
       lies a.end.0 a.log.now a.waiting.now p O',
       c.if-nest-gt16.false,
