@@ -58,24 +58,6 @@ slice_bounds-is_before-count-in-loop-at c =
     let p = placed s l.at (omega arith) line_at_lem.result line_at_lem.ensures _ _ _ c.in-Line.is in
     omega (arith, p.1.starts)
 
--- TODO no such goal
--- part-is-before-start-2 : tie.Need-slice-bounds-is-before-start-2 invariant-loop decreases-loop
--- part-is-before-start-2 c =
---     let s = c.before.before.before.before.before.before.before.before.before.before.before.args.s.now in
---     let l = c.before.before.before.before.before.before.before.before.before.loop in
---     let line_at_lem = c.before.before.before.before.before.before.before.line_at_lem in
---     let p = placed s l.at (omega arith) line_at_lem.result line_at_lem.ensures _ _ _ c.before.before.before.before.before.place.given.1 in
---     omega (arith, p.1.starts)
-
--- TODO no such goal
--- part-is-before-end-2 : tie.Need-slice-bounds-is-before-end-2 invariant-loop decreases-loop
--- part-is-before-end-2 c =
---     let s = c.before.before.before.before.before.before.before.before.before.before.before.args.s.now in
---     let l = c.before.before.before.before.before.before.before.before.before.loop in
---     let line_at_lem = c.before.before.before.before.before.before.before.line_at_lem in
---     let p = placed s l.at (omega arith) line_at_lem.result line_at_lem.ensures _ _ _ c.before.before.before.before.before.place.given.1 in
---     omega (arith, p.1.ends, p.1.fits)
-
 pub returns-then-not-is_before : goal.returns-then-not-is_before
 returns-then-not-is_before c =
     let s = c.args.s.now in

@@ -28,12 +28,11 @@ overflow_add-end-in-Waiting c =
     let locate = c.locate-run in
     omega (arith, waiting_in a.log.now a.waiting.now a.page.now a.entry.now a.offset _ locate.ensures _ _ c.in-Waiting.is)
 
-pub slice_bounds-result-end-in-Refused : goal.slice_bounds-result-end-in-Refused
-slice_bounds-result-end-in-Refused c =
+pub slice_bounds-result-end-in-Waiting : goal.slice_bounds-result-end-in-Waiting
+slice_bounds-result-end-in-Waiting c =
     let a = c.args in
     let locate = c.locate-run in
-    let run2 = TODO.c.before.run2 in
-    omega (arith, waiting_in a.log.now a.waiting.now a.page.now a.entry.now a.offset _ locate.ensures _ _ run2.given.1)
+    omega (arith, waiting_in a.log.now a.waiting.now a.page.now a.entry.now a.offset _ locate.ensures _ _ c.in-Waiting.is)
 
 pub returns-in-Waiting : goal.returns-in-Waiting
 returns-in-Waiting c =
