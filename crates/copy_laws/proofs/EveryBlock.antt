@@ -45,6 +45,7 @@ abbrev Under : List Visit → List Visit → Type 0
 Under vs ws = (role : Role) (s b : Bytes) → Sees role s b vs → Sees role s b ws
 
 mem_later : (n : ℕ) (v : Visit) (vs : List Visit) → Memᴰ v vs → Memᴰ (later n v) (map (later n) vs)
+mem_later n v [] m = elim m [ ]
 mem_later n v (x ∷ vs) (Memᴰ.head e) = Memᴰ.head (ap (later n) e)
 mem_later n v (x ∷ vs) (Memᴰ.tail m) = Memᴰ.tail (mem_later n v vs m)
 

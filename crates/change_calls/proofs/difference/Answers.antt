@@ -6,12 +6,24 @@ use Rattle.results.specs.Changes.{difference_packed}
 use Rattle.results.proofs.Changes.{first_small, second-small}
 use Rattle.change_calls.proofs.difference.Goals as goal
 
--- the byte is one of the longest block
-first_byte : (c : tie.After-found) → c.found.given.0.0 ≤ longest
-first_byte c = let l = c.before.before in let a = (start l).args in first_small a.first.now a.second.now _ _ l.locate.ensures c.found.given.1
+-- The byte is one of the longest block.
+pub overflow_mul-result : goal.overflow_mul-result
+overflow_mul-result c = omega (arith, first_small c.args.first.now c.args.second.now _ _ c.locate-found.ensures c.in-First.is)
 
-second-byte : (c : tie.After-found2) → c.found2.given.0.0 ≤ longest
-second-byte c = let l = c.before.before in let a = (start l).args in second-small a.first.now a.second.now _ _ l.locate.ensures c.found2.given.1
+pub overflow_add-result : goal.overflow_add-result
+overflow_add-result c = omega (arith, first_small c.args.first.now c.args.second.now _ _ c.locate-found.ensures c.in-First.is)
+
+pub overflow_mul-result-in-First : goal.overflow_mul-result-in-First
+overflow_mul-result-in-First c = omega (arith, first_small c.args.first.now c.args.second.now _ _ c.locate-found.ensures c.in-First.is)
+
+pub overflow_mul-result-in-Second : goal.overflow_mul-result-in-Second
+overflow_mul-result-in-Second c = omega (arith, second-small c.args.first.now c.args.second.now _ _ c.locate-found.ensures c.in-Second.is)
+
+pub overflow_add-result-in-Second : goal.overflow_add-result-in-Second
+overflow_add-result-in-Second c = omega (arith, second-small c.args.first.now c.args.second.now _ _ c.locate-found.ensures c.in-Second.is)
+
+pub overflow_mul-result-in-Second-2 : goal.overflow_mul-result-in-Second-2
+overflow_mul-result-in-Second-2 c = omega (arith, second-small c.args.first.now c.args.second.now _ _ c.locate-found.ensures c.in-Second.is)
 
 pub returns-in-First : goal.returns-in-First
 returns-in-First c = sym (ap difference_packed c.in-First.is) ∙ ap difference_packed c.locate-found.ensures

@@ -4,23 +4,29 @@ use Rattle.walk.specs.Walk.{most_allowance}
 use Rattle.results.proofs.Changes.{compared_few, compared_so}
 use Rattle.change_calls.proofs.differences.Goals as goal
 
-few : (c : tie.After-end-sector) → Within most_allowance 1 c.before.before.differences.result
-few c =
-    let d = c.before.before in
-    let a = (start d).args in
-    compared_few a.log.now a.waiting.now a.first.now a.second.now a.allowance _ d.differences.ensures
-
 pub overflow_mul-result : goal.overflow_mul-result
-overflow_mul-result c = let w = few c in omega (arith, w.0, w.1)
+overflow_mul-result c = let a = c.args in
+    let w : Within most_allowance 1 c.differences-compared.result =
+    compared_few a.log.now a.waiting.now a.first.now a.second.now a.allowance _ c.differences-compared.ensures in
+    omega (arith, w.0, w.1)
 
 pub overflow_add-result : goal.overflow_add-result
-overflow_add-result c = let w = few c in omega (arith, w.0, w.1)
+overflow_add-result c = let a = c.args in
+    let w : Within most_allowance 1 c.differences-compared.result =
+    compared_few a.log.now a.waiting.now a.first.now a.second.now a.allowance _ c.differences-compared.ensures in
+    omega (arith, w.0, w.1)
 
 pub overflow_mul-result-2 : goal.overflow_mul-result-2
-overflow_mul-result-2 c = let w = few c in omega (arith, w.0, w.1)
+overflow_mul-result-2 c = let a = c.args in
+    let w : Within most_allowance 1 c.differences-compared.result =
+    compared_few a.log.now a.waiting.now a.first.now a.second.now a.allowance _ c.differences-compared.ensures in
+    omega (arith, w.0, w.1)
 
 pub overflow_add-result-2 : goal.overflow_add-result-2
-overflow_add-result-2 c = let w = few c in omega (arith, w.0, w.1)
+overflow_add-result-2 c = let a = c.args in
+    let w : Within most_allowance 1 c.differences-compared.result =
+    compared_few a.log.now a.waiting.now a.first.now a.second.now a.allowance _ c.differences-compared.ensures in
+    omega (arith, w.0, w.1)
 
 pub returns : goal.returns
 returns c =

@@ -6,23 +6,83 @@ use Rattle.results.proofs.Bounds.{stored-within, waiting-within, zeros_within, r
 use Rattle.tree_calls.proofs.locate.Goals as goal
 
 -- what is located lies in a log and its waiting part, and is no longer than a block
-stored-small : (c : tie.After-run) → (c.run.given.0.0 < 512 * most_both) × (c.run.given.0.1.0 ≤ 57344)
-stored-small c =
-    let l = c.before.before in
-    let s = (start l).args in
-    stored-within s.log.now s.waiting.now s.page.now s.entry.now s.offset _ l.locate.ensures _ _ c.run.given.1
+pub overflow_add-result : goal.overflow_add-result
+overflow_add-result c =
+    let s = c.args in
+    let small : (c.in-Stored.at < 512 * most_both) × (c.in-Stored.length ≤ 57344) =
+    stored-within s.log.now s.waiting.now s.page.now s.entry.now s.offset _ c.locate-run.ensures _ _ c.in-Stored.is in
+    omega (arith, small.0, small.1)
 
-waiting-small : (c : tie.After-run2) → (c.run2.given.0.0 < 512 * most_both) × (c.run2.given.0.1.0 ≤ 57344)
-waiting-small c =
-    let l = c.before.before in
-    let s = (start l).args in
-    waiting-within s.log.now s.waiting.now s.page.now s.entry.now s.offset _ l.locate.ensures _ _ c.run2.given.1
+pub overflow_add-result-in-Waiting : goal.overflow_add-result-in-Waiting
+overflow_add-result-in-Waiting c =
+    let s = c.args in
+    let small : (c.in-Waiting.at < 512 * most_both) × (c.in-Waiting.length ≤ 57344) =
+    waiting-within s.log.now s.waiting.now s.page.now s.entry.now s.offset _ c.locate-run.ensures _ _ c.in-Waiting.is in
+    omega (arith, small.0, small.1)
 
-zeros-small : (c : tie.After-run3) → c.run3.given.0.0 ≤ 57344
-zeros-small c =
-    let l = c.before.before in
-    let s = (start l).args in
-    zeros_within s.log.now s.waiting.now s.page.now s.entry.now s.offset _ l.locate.ensures _ c.run3.given.1
+pub overflow_add-result-in-Waiting-2 : goal.overflow_add-result-in-Waiting-2
+overflow_add-result-in-Waiting-2 c =
+    let s = c.args in
+    let small : (c.in-Waiting.at < 512 * most_both) × (c.in-Waiting.length ≤ 57344) =
+    waiting-within s.log.now s.waiting.now s.page.now s.entry.now s.offset _ c.locate-run.ensures _ _ c.in-Waiting.is in
+    omega (arith, small.0, small.1)
+
+pub overflow_add-result-in-Zeros : goal.overflow_add-result-in-Zeros
+overflow_add-result-in-Zeros c =
+    let s = c.args in
+    omega (arith, zeros_within s.log.now s.waiting.now s.page.now s.entry.now s.offset _ c.locate-run.ensures _ c.in-Zeros.is)
+
+pub overflow_mul-result : goal.overflow_mul-result
+overflow_mul-result c =
+    let s = c.args in
+    let small : (c.in-Stored.at < 512 * most_both) × (c.in-Stored.length ≤ 57344) =
+    stored-within s.log.now s.waiting.now s.page.now s.entry.now s.offset _ c.locate-run.ensures _ _ c.in-Stored.is in
+    omega (arith, small.0, small.1)
+
+pub overflow_mul-result-in-Stored : goal.overflow_mul-result-in-Stored
+overflow_mul-result-in-Stored c =
+    let s = c.args in
+    let small : (c.in-Stored.at < 512 * most_both) × (c.in-Stored.length ≤ 57344) =
+    stored-within s.log.now s.waiting.now s.page.now s.entry.now s.offset _ c.locate-run.ensures _ _ c.in-Stored.is in
+    omega (arith, small.0, small.1)
+
+pub overflow_mul-result-in-Stored-2 : goal.overflow_mul-result-in-Stored-2
+overflow_mul-result-in-Stored-2 c =
+    let s = c.args in
+    let small : (c.in-Stored.at < 512 * most_both) × (c.in-Stored.length ≤ 57344) =
+    stored-within s.log.now s.waiting.now s.page.now s.entry.now s.offset _ c.locate-run.ensures _ _ c.in-Stored.is in
+    omega (arith, small.0, small.1)
+
+pub overflow_mul-result-in-Waiting : goal.overflow_mul-result-in-Waiting
+overflow_mul-result-in-Waiting c =
+    let s = c.args in
+    let small : (c.in-Waiting.at < 512 * most_both) × (c.in-Waiting.length ≤ 57344) =
+    waiting-within s.log.now s.waiting.now s.page.now s.entry.now s.offset _ c.locate-run.ensures _ _ c.in-Waiting.is in
+    omega (arith, small.0, small.1)
+
+pub overflow_mul-result-in-Waiting-2 : goal.overflow_mul-result-in-Waiting-2
+overflow_mul-result-in-Waiting-2 c =
+    let s = c.args in
+    let small : (c.in-Waiting.at < 512 * most_both) × (c.in-Waiting.length ≤ 57344) =
+    waiting-within s.log.now s.waiting.now s.page.now s.entry.now s.offset _ c.locate-run.ensures _ _ c.in-Waiting.is in
+    omega (arith, small.0, small.1)
+
+pub overflow_mul-result-in-Waiting-3 : goal.overflow_mul-result-in-Waiting-3
+overflow_mul-result-in-Waiting-3 c =
+    let s = c.args in
+    let small : (c.in-Waiting.at < 512 * most_both) × (c.in-Waiting.length ≤ 57344) =
+    waiting-within s.log.now s.waiting.now s.page.now s.entry.now s.offset _ c.locate-run.ensures _ _ c.in-Waiting.is in
+    omega (arith, small.0, small.1)
+
+pub overflow_mul-result-in-Zeros : goal.overflow_mul-result-in-Zeros
+overflow_mul-result-in-Zeros c =
+    let s = c.args in
+    omega (arith, zeros_within s.log.now s.waiting.now s.page.now s.entry.now s.offset _ c.locate-run.ensures _ c.in-Zeros.is)
+
+pub overflow_mul-result-in-Zeros-2 : goal.overflow_mul-result-in-Zeros-2
+overflow_mul-result-in-Zeros-2 c =
+    let s = c.args in
+    omega (arith, zeros_within s.log.now s.waiting.now s.page.now s.entry.now s.offset _ c.locate-run.ensures _ c.in-Zeros.is)
 
 pub refused-requires : goal.refused-requires
 refused-requires c =
