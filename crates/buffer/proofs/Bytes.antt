@@ -9,7 +9,7 @@ use lib.Dec.{ltb, eqb}
 use borrow.Author.Tests.{ltb-true, eqb-true, lt-ltb, eq-eqb}
 use lib.ListN.{length, get_or, take, drop, replicate}
 use Rattle.bedrock.proofs.Choices.{and-true, and_assoc, false_unless}
-use Rattle.word.specs.Number.{small}
+use Rattle.digits.specs.Number.{small}
 use Rattle.buffer.specs.Bytes.{Bytes, same, zeros}
 
 pub same_refl : (x : Bytes) → same x x ≡ true
