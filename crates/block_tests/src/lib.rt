@@ -2,9 +2,9 @@
 // sectors of a log and the sectors that wait behind them, read as one.
 #![tactic(auto)]
 
-ghost use Rattle.std.specs.Prelude.{◌≡◌, ◌+◌, ◌≤◌, ◌<◌, length, take, drop};
+ghost use Rattle.std.specs.Prelude.{◌≡◌, ◌+◌, ◌-◌, ◌≤◌, ◌<◌, length, take, drop};
 ghost use Rattle.buffer.specs.Bytes.{Bytes, zeros};
-ghost use Rattle.sector.specs.Sector.{front_of, date_field, behind, lines_length};
+ghost use Rattle.sector.specs.Sector.{front_of, date_field, behind, lines_length, sector_length};
 ghost use Rattle.block.specs.Block.{parts_in, Inside};
 ghost use Rattle.block.specs.Log.{sectors, at, joined, payloads, labelled, checked};
 ghost use Rattle.block_tests.specs.Number.{number_of};
@@ -88,7 +88,7 @@ pub fn rest_is_zero<'a>(log: &'a [u8], end: SectorNumber, waiting: &'a [u8], b: 
 }
 
 // The number that the hex digits of a field make, in the label of sector n behind a front of this length, and 0 where one of them is none.
-pub fn number_at<'a>(
+pub fn field_number<'a>(
     log: &'a [u8],
     end: SectorNumber,
     waiting: &'a [u8],
@@ -104,6 +104,26 @@ pub fn number_at<'a>(
     let s = two_runs::sector_at(log, end, waiting, n);
     let from = front + field;
     let to = from + width;
+    let h = word::hex::read_hex(&s[from..to]);
+    match h {
+        Hex::Value(v) => v as usize,
+        Hex::Bad => 0,
+    }
+}
+
+// The number that the hex digits of sector n from byte `from` to byte `to` make, and 0 where one of them is none.
+pub fn number_at<'a>(
+    log: &'a [u8],
+    end: SectorNumber,
+    waiting: &'a [u8],
+    n: SectorNumber,
+    from: usize,
+    to: usize,
+) -> usize
+    requires { (end.0 ≤ sectors (length log.now)) × (n.0 < end.0 + sectors (length waiting.now)) × (from ≤ to) × (to ≤ from + 16) × (to ≤ sector_length) }
+    ensures { result ≡ number_of (take (to - from) (drop from (at (joined end.0 log.now waiting.now) n.0))) }
+{
+    let s = two_runs::sector_at(log, end, waiting, n);
     let h = word::hex::read_hex(&s[from..to]);
     match h {
         Hex::Value(v) => v as usize,

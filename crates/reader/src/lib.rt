@@ -40,7 +40,7 @@ fn sound_behind<'a>(
     ensures { result ≡ placed (sound_as (joined end.0 log.now waiting.now) first.0 kind score.now) }
 {
     let k = front.len();
-    let size = block_tests::number_at(log, end, waiting, first, k, SIZE, SIZE_WIDTH);
+    let size = block_tests::field_number(log, end, waiting, first, k, SIZE, SIZE_WIDTH);
     if size < 1 {
         return Place::Nowhere;
     }
@@ -95,7 +95,7 @@ pub fn sound_at<'a>(
 {
     let s = two_runs::sector_at(log, end, waiting, first);
     let k = sector::front_length(s);
-    let kind = block_tests::number_at(log, end, waiting, first, k, KIND, KIND_WIDTH);
+    let kind = block_tests::field_number(log, end, waiting, first, k, KIND, KIND_WIDTH);
     if kind < 1 {
         return Place::Nowhere;
     }

@@ -1,46 +1,27 @@
+-- `block_tests::number_at` meets its contract.
 use mathlib.Core.Path.{ap, sym, ◌∙◌}
+use Prim.Native.Nat.{◌-◌}
 use native.Mathlib.Omega.{arith}
-use lib.ListN.{length}
-use Rattle.sector.proofs.Dates.{front-most}
-use Rattle.block.specs.Log.{joined, at}
+use lib.ListN.{length, take, drop}
+use Rattle.buffer.specs.Bytes.{Bytes}
+use Rattle.block_tests.specs.Number.{number_of}
 use Rattle.block.proofs.At.{length_at}
-use Rattle.block_tests.proofs.Digits.{value-number, bad-number, digits-at}
+use Rattle.block_tests.proofs.Digits.{value-number, bad-number}
+use Rattle.block.specs.Log.{joined}
 use Rattle.block_tests.proofs.number_at.Goals as goal
-
-pub overflow_add-from : goal.overflow_add-from
-overflow_add-from c =
-    let q = c.requires in
-    let a = c.args in
-    omega (arith, q.2, front-most (at (joined a.end.0 a.log.now a.waiting.now) a.n.0))
-
-pub overflow_add-to : goal.overflow_add-to
-overflow_add-to c =
-    let q = c.requires in
-    let a = c.args in
-    omega (arith, q.2, front-most (at (joined a.end.0 a.log.now a.waiting.now) a.n.0))
 
 pub slice_bounds-read_hex-end : goal.slice_bounds-read_hex-end
 slice_bounds-read_hex-end c =
     let a = c.args in
-    let q = c.requires in
-    let sector-at = c.sector_at-s in
     let log = joined a.end.0 a.log.now a.waiting.now in
-    omega (arith, ap length sector-at.ensures ∙ length_at log a.n.0, q.2, front-most (at log a.n.0))
+    omega (arith, ap length c.sector_at-s.ensures ∙ length_at log a.n.0)
 
 pub returns-in-Value : goal.returns-in-Value
 returns-in-Value c =
     let a = c.args in
-    let q = c.requires in
-    let sector-at = c.sector_at-s in
-    let read-hex = c.read_hex-h in
-    value-number _ _ (sym c.in-Value.is ∙ read-hex.ensures)
-    ∙ digits-at (joined a.end.0 a.log.now a.waiting.now) a.n.0 _ a.front a.field a.width sector-at.ensures q.2
+    value-number _ _ (sym c.in-Value.is ∙ c.read_hex-h.ensures) ∙ ap (λ (s : Bytes). number_of (take (a.to - a.from) (drop a.from s))) c.sector_at-s.ensures
 
 pub returns-in-Bad : goal.returns-in-Bad
 returns-in-Bad c =
     let a = c.args in
-    let q = c.requires in
-    let sector-at = c.sector_at-s in
-    let read-hex = c.read_hex-h in
-    bad-number _ (sym c.in-Bad.is ∙ read-hex.ensures)
-    ∙ digits-at (joined a.end.0 a.log.now a.waiting.now) a.n.0 _ a.front a.field a.width sector-at.ensures q.2
+    bad-number _ (sym c.in-Bad.is ∙ c.read_hex-h.ensures) ∙ ap (λ (s : Bytes). number_of (take (a.to - a.from) (drop a.from s))) c.sector_at-s.ensures

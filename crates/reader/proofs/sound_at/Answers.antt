@@ -20,8 +20,8 @@ front_length-k-requires c =
     let log = joined a.end.0 a.log.now a.waiting.now in
     omega (arith, ap length sector-at.ensures ∙ length_at log a.first.0)
 
-pub number_at-kind-requires : goal.number_at-kind-requires
-number_at-kind-requires c =
+pub field_number-kind-requires : goal.field_number-kind-requires
+field_number-kind-requires c =
     let a = c.args in
     let q = c.requires in
     let sector-at = c.sector_at-s in
@@ -32,7 +32,7 @@ number_at-kind-requires c =
 pub returns-then-kind-lt1 : goal.returns-then-kind-lt1
 returns-then-kind-lt1 c =
     let a = c.args in
-    let number_at = c.number_at-kind in
+    let number_at = c.field_number-kind in
     let log = joined a.end.0 a.log.now a.waiting.now in
     let z : number_at.result ≡ 0 = omega arith in
     no_kind log a.first.0 (sym number_at.ensures ∙ z)
@@ -79,7 +79,7 @@ slice_bounds-sound_behind-end c =
 pub overflow_cast-kind : goal.overflow_cast-kind
 overflow_cast-kind c =
     let a = c.args in
-    let number_at = c.number_at-kind in
+    let number_at = c.field_number-kind in
     let log = joined a.end.0 a.log.now a.waiting.now in
     let x = behind (at log a.first.0) in
     let w : length (take 2 (drop 36 x)) ≡ 2 = simp (length-take, length-drop) (omega (arith, length_at log a.first.0, front-most (at log a.first.0))) in
@@ -100,7 +100,7 @@ returns c =
     let a = c.args in
     let sector-at = c.sector_at-s in
     let Front-length = c.front_length-k in
-    let number_at = c.number_at-kind in
+    let number_at = c.field_number-kind in
     let if1 = c.if-kind-lt1 in
     let read-hex-bytes = c.read_hex_bytes in
     let if2 = c.if-not-read_hex_bytes in

@@ -14,8 +14,8 @@ use Rattle.reader.proofs.Sound.{unsized, unsound_behind, untested, passed}
 use Rattle.reader.proofs.sound_behind.Goals as goal
 
 -- `reader::sound_behind` meets its contract: each return knows which test failed, the last one that all passed.
-pub number_at-size-requires : goal.number_at-size-requires
-number_at-size-requires c =
+pub field_number-size-requires : goal.field_number-size-requires
+field_number-size-requires c =
     let q = c.requires in
     (q.0, q.1, ap length q.2, omega arith, omega arith)
 
@@ -23,7 +23,7 @@ pub returns-then-size-lt1 : goal.returns-then-size-lt1
 returns-then-size-lt1 c =
     let a = c.args in
     let q = c.requires in
-    let number_at = c.number_at-size in
+    let number_at = c.field_number-size in
     let log = joined a.end.0 a.log.now a.waiting.now in
     let z : number_at.result ≡ 0 = omega arith in
     unsized log a.first.0 a.kind a.score.now q.3 (sym number_at.ensures ∙ z)
@@ -32,7 +32,7 @@ pub returns-then-size-gt-LONGEST : goal.returns-then-size-gt-LONGEST
 returns-then-size-gt-LONGEST c =
     let a = c.args in
     let q = c.requires in
-    let number_at = c.number_at-size in
+    let number_at = c.field_number-size in
     let if1 = c.if-size-lt1 in
     let log = joined a.end.0 a.log.now a.waiting.now in
     let size = number_at.result in
@@ -42,7 +42,7 @@ pub returns-then-not-is_lawful : goal.returns-then-not-is_lawful
 returns-then-not-is_lawful c =
     let a = c.args in
     let q = c.requires in
-    let number_at = c.number_at-size in
+    let number_at = c.field_number-size in
     let if1 = c.if-size-lt1 in
     let is_lawful = c.is_lawful in
     let if3 = c.if-not-is_lawful in
@@ -63,7 +63,7 @@ pub overflow_add-after : goal.overflow_add-after
 overflow_add-after c =
     let q = c.requires in
     let a = c.args in
-    let number_at = c.number_at-size in
+    let number_at = c.field_number-size in
     let if2 = c.if-size-gt-LONGEST in
     let parts-of = c.parts_of-of in
     let few = few_parts (payload_of (length a.front.now + 96)) number_at.result in
@@ -73,7 +73,7 @@ pub returns-then-end-waiting : goal.returns-then-end-waiting
 returns-then-end-waiting c =
     let a = c.args in
     let q = c.requires in
-    let number_at = c.number_at-size in
+    let number_at = c.field_number-size in
     let if1 = c.if-size-lt1 in
     let parts-of = c.parts_of-of in
     let log = joined a.end.0 a.log.now a.waiting.now in
@@ -87,7 +87,7 @@ pub returns-then-after-gt-PLACES : goal.returns-then-after-gt-PLACES
 returns-then-after-gt-PLACES c =
     let a = c.args in
     let q = c.requires in
-    let number_at = c.number_at-size in
+    let number_at = c.field_number-size in
     let if1 = c.if-size-lt1 in
     let parts-of = c.parts_of-of in
     let if5 = c.if-after-gt-PLACES in
@@ -111,7 +111,7 @@ pub returns-then-not-passes : goal.returns-then-not-passes
 returns-then-not-passes c =
     let a = c.args in
     let q = c.requires in
-    let number_at = c.number_at-size in
+    let number_at = c.field_number-size in
     let if1 = c.if-size-lt1 in
     let passes = c.passes in
     let if6 = c.if-not-passes in
@@ -123,7 +123,7 @@ pub returns : goal.returns
 returns c =
     let a = c.args in
     let q = c.requires in
-    let number_at = c.number_at-size in
+    let number_at = c.field_number-size in
     let if1 = c.if-size-lt1 in
     let if2 = c.if-size-gt-LONGEST in
     let is_lawful = c.is_lawful in

@@ -1,0 +1,46 @@
+use mathlib.Core.Path.{ap, sym, ◌∙◌}
+use native.Mathlib.Omega.{arith}
+use lib.ListN.{length}
+use Rattle.sector.proofs.Dates.{front-most}
+use Rattle.block.specs.Log.{joined, at}
+use Rattle.block.proofs.At.{length_at}
+use Rattle.block_tests.proofs.Digits.{value-number, bad-number, digits-at}
+use Rattle.block_tests.proofs.field_number.Goals as goal
+
+pub overflow_add-from : goal.overflow_add-from
+overflow_add-from c =
+    let q = c.requires in
+    let a = c.args in
+    omega (arith, q.2, front-most (at (joined a.end.0 a.log.now a.waiting.now) a.n.0))
+
+pub overflow_add-to : goal.overflow_add-to
+overflow_add-to c =
+    let q = c.requires in
+    let a = c.args in
+    omega (arith, q.2, front-most (at (joined a.end.0 a.log.now a.waiting.now) a.n.0))
+
+pub slice_bounds-read_hex-end : goal.slice_bounds-read_hex-end
+slice_bounds-read_hex-end c =
+    let a = c.args in
+    let q = c.requires in
+    let sector-at = c.sector_at-s in
+    let log = joined a.end.0 a.log.now a.waiting.now in
+    omega (arith, ap length sector-at.ensures ∙ length_at log a.n.0, q.2, front-most (at log a.n.0))
+
+pub returns-in-Value : goal.returns-in-Value
+returns-in-Value c =
+    let a = c.args in
+    let q = c.requires in
+    let sector-at = c.sector_at-s in
+    let read-hex = c.read_hex-h in
+    value-number _ _ (sym c.in-Value.is ∙ read-hex.ensures)
+    ∙ digits-at (joined a.end.0 a.log.now a.waiting.now) a.n.0 _ a.front a.field a.width sector-at.ensures q.2
+
+pub returns-in-Bad : goal.returns-in-Bad
+returns-in-Bad c =
+    let a = c.args in
+    let q = c.requires in
+    let sector-at = c.sector_at-s in
+    let read-hex = c.read_hex-h in
+    bad-number _ (sym c.in-Bad.is ∙ read-hex.ensures)
+    ∙ digits-at (joined a.end.0 a.log.now a.waiting.now) a.n.0 _ a.front a.field a.width sector-at.ensures q.2
