@@ -57,7 +57,7 @@ def code(m):
 
 
 for f in ["README.md", *sorted(glob.glob("docs/*.md"))]:
-    if f.endswith(("PORT.md", "PORT-programs.md")):
+    if f.endswith("PORT.md"):
         continue
     text = read(f)
     new = re.sub(r"(?<!`)`[^`\n]+`(?!`)", code, text)
