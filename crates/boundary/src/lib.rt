@@ -9,8 +9,8 @@ pub mod copies;
 pub mod files;
 pub mod hints;
 pub mod learning;
-pub mod survey;
-pub mod tree;
+pub mod runs;
+pub mod surveys;
 
 ghost use Rattle.std.specs.Prelude.{◌≡◌};
 ghost use Rattle.std.proofs.Math.Option.{some};
