@@ -92,9 +92,9 @@ ruling_of s m buffer close = record { answer = record { number = 0; buffer = buf
 
 -- by the session: "session closed", or open and whether a hello was accepted in it
 abbrev pub by_session : Session → Decision → (Bool → Decision) → Decision
-by_session Shut closed f = closed
-by_session Fresh closed f = f false
-by_session Greeted closed f = f true
+by_session Shut d f = d
+by_session Fresh d f = f false
+by_session Greeted d f = f true
 
 -- intact: the intact rows; end: "one past the last sector covered or changed, else 0"; start: the rows wait that stand from there on; x: what is lent;
 -- date: that of a block that is added, or none
