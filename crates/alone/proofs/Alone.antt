@@ -14,16 +14,16 @@ use Rattle.block.specs.declared.Block.{Block}
 use Rattle.block.specs.Log.{sectors, joined, used, bytes_of}
 use Rattle.block.proofs.Used.{used-void}
 use Rattle.reader.specs.Reader.{placed}
-use Rattle.reader.specs.declared.Place.{Place}
-use Rattle.reader.specs.declared.Place.TheVariants.{At, Nowhere}
 use Rattle.lookup.proofs.Held.{held-stands}
 use Rattle.lookup.proofs.Outcomes.{placed-some, placed-none}
 use Rattle.sector_log.specs.LookUp.{held}
 use Rattle.sector_log.specs.Parts.{tape, written_from, alone, beside, room_for, append_row}
 use Rattle.sector_log.specs.Store.{AfterStore, after_store, receipt, new_row, parts_for, appended, compared, store}
 use Rattle.sector_log.specs.declared.Stored.{Stored}
-use Rattle.sector_log.specs.declared.Stored.TheVariants.{New, Refused}
+use Rattle.sector_log.specs.declared.Stored.TheVariants.{New}
 use Rattle.refusal.specs.declared.Refusal.TheVariants.{NoRoom}
+use Rattle.std.specs.Prelude.{Some, None, Option as Optional, Ok, Err, Result}
+use Rattle.refusal.specs.declared.Refusal.{Refusal}
 
 -- nothing before a run is the run
 pub nothing-before : (log w : Bytes) → joined 0 log w ≡ w
@@ -54,13 +54,13 @@ module _ (log w : Bytes) (u : used log ≡ 0) (l : sectors (length log) ≡ sect
       row-alone (new_row (beside log w) date t d) ∙ ap (λ (x : Bytes). written w (record { kind = t; score = sha1_of d; bytes = d; first = used x; date = date })) tape-is-waiting
 
   only_by_room : (date : Bytes) (t : ℕ) (d : Bytes) (b : Bool)
-      → only (cond b (after_store (receipt (sha1_of d) (New (record { 0 = used (tape log w) }))) (append_row (beside log w) (new_row (beside log w) date t d)))
-      (after_store (receipt (sha1_of d) (Refused NoRoom)) (beside log w)))
-      ≡ cond b (after_store (receipt (sha1_of d) (New (record { 0 = used w }))) (append_row (alone w) (new_row (alone w) date t d)))
-      (after_store (receipt (sha1_of d) (Refused NoRoom)) (alone w))
+      → only (cond b (after_store (receipt (sha1_of d) (Ok (New (record { 0 = used (tape log w) })))) (append_row (beside log w) (new_row (beside log w) date t d)))
+      (after_store (receipt (sha1_of d) (Err NoRoom)) (beside log w)))
+      ≡ cond b (after_store (receipt (sha1_of d) (Ok (New (record { 0 = used w })))) (append_row (alone w) (new_row (alone w) date t d)))
+      (after_store (receipt (sha1_of d) (Err NoRoom)) (alone w))
   unfolding append_row
   only_by_room date t d true =
-      ap₂ (λ (x y : Bytes). after_store (receipt (sha1_of d) (New (record { 0 = used x }))) (alone y)) tape-is-waiting (row-alone-new date t d)
+      ap₂ (λ (x y : Bytes). after_store (receipt (sha1_of d) (Ok (New (record { 0 = used x })))) (alone y)) tape-is-waiting (row-alone-new date t d)
   only_by_room date t d false = refl
 
   only-appended : (date : Bytes) (t : ℕ) (d : Bytes) → only (appended (beside log w) date t d) ≡ appended (alone w) date t d
@@ -68,11 +68,11 @@ module _ (log w : Bytes) (u : used log ≡ 0) (l : sectors (length log) ≡ sect
 
 -- ---- a store, by what look-up finds
 
-module _ (w : Bytes) (t : ℕ) (date d s : Bytes) (p : Place) (r : Stored) (g : s ≡ sha1_of d) (e : p ≡ placed (held (joined 0 w w) t s)) where
+module _ (w : Bytes) (t : ℕ) (date d s : Bytes) (p : Optional Block) (r : Result Stored Refusal) (g : s ≡ sha1_of d) (e : p ≡ placed (held (joined 0 w w) t s)) where
   found : p ≡ placed (held w t s)
   found = e ∙ ap (λ (x : Bytes). placed (held x t s)) (nothing-before w w)
 
-  pub alone-found : (b : Block) → p ≡ At b
+  pub alone-found : (b : Block) → p ≡ Some b
       → after_store (receipt (sha1_of d) r) (alone w) ≡ compared (alone w) (bytes_of (joined 0 w w) b) b.first.0 d → after_store (receipt s r) (alone w) ≡ store (alone w) date t d
   unfolding store
   alone-found b z c =
@@ -82,7 +82,7 @@ module _ (w : Bytes) (t : ℕ) (date d s : Bytes) (p : Place) (r : Stored) (g : 
       ap (λ (y : Bytes). bytes_of y b) (nothing-before w w) ∙ ap (bytes_of w) q.2 ∙ sym (held-stands w t s q.0 q.1).bytes-there in
       rw (g, h) (c ∙ ap₂ (λ (y : Bytes) (k : Block). compared (alone w) y k.first.0 d) x q.2)
 
-  pub alone-new : (w' : Bytes) → p ≡ Nowhere
+  pub alone-new : (w' : Bytes) → p ≡ None
       → ((log : Bytes) → sectors (length log) ≡ sectors (length w) → used log ≡ 0 → after_store (receipt (sha1_of d) r) (beside log w') ≡ appended (beside log w) date t d)
       → after_store (receipt s r) (alone w') ≡ store (alone w) date t d
   unfolding store

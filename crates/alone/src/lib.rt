@@ -7,7 +7,6 @@ ghost use Rattle.sector_log.specs.Parts.{alone};
 ghost use Rattle.sector_log.specs.Store.{after_store};
 ghost use Rattle.sector_log.specs.Store.{store as store_of};
 
-use reader::Place;
 use sector::SECTOR;
 use sector_log::Receipt;
 use sector_number::SectorNumber;
@@ -19,7 +18,7 @@ pub fn store_alone(log: &mut [u8], date: &[u8], kind: u8, data: &[u8]) -> Receip
 {
     let score = sha1_digest::sha1(data);
     let place = lookup::find_held(log, SectorNumber(0), log, kind, &score);
-    let Place::At(b) = place else {
+    let Some(b) = place else {
         let most = log.len() / SECTOR;
         let stored = insert::append_new(most, SectorNumber(0), log, date, kind, &score, data);
         return Receipt {

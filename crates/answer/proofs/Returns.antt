@@ -11,7 +11,7 @@ use lib.ListN.{length, take, drop}
 use Rattle.buffer.specs.Bytes.{Bytes, same, put}
 use Rattle.refusal.specs.declared.Refusal.TheVariants.{Hello as BadHello}
 use Rattle.sector_log.specs.declared.Stored.{Stored}
-use Rattle.sector_log.specs.declared.Stored.TheVariants.{New, Duplicate, Refused as StoreRefused}
+use Rattle.sector_log.specs.declared.Stored.TheVariants.{New, Duplicate}
 use Rattle.sector_log.specs.Parts.{Lent, beside}
 use Rattle.block.specs.declared.Block.{Block}
 use Rattle.block.specs.Log.{bytes_of}
@@ -26,6 +26,8 @@ use Rattle.message.proofs.Replies.{head, head_body}
 use Rattle.request.specs.declared.Session.{Session}
 use Rattle.request.specs.declared.Session.TheVariants.{Fresh, Greeted}
 use Rattle.request.specs.Step.{Outcome, outcome_of, refused, granted, version, written, fresh}
+use Rattle.std.specs.Prelude.{Ok, Err, Result}
+use Rattle.refusal.specs.declared.Refusal.{Refusal}
 
 -- an outcome by its parts
 pub outcome : (n k : ℕ) (s : Session) (log w x y : Bytes) → n ≡ k → x ≡ y
@@ -61,11 +63,12 @@ module _ (m : Bytes) (L : Lent) (buffer : Bytes) (tag : ℕ) (b : Bool) (e : b �
 -- ---- a write
 
 -- what the store did, if it did not refuse
-pub kept : (s : Stored) (tag : ℕ) (score : Bytes) (L : Lent) (buffer : Bytes) → OneOf (0 ∷ 1 ∷ []) (variant the_type s) → granted (write_reply tag score) Greeted L buffer ≡ written s tag score L buffer
-kept (New at) tag score L buffer k = refl
-kept (Duplicate at) tag score L buffer k = refl
-kept (StoreRefused w) tag score L buffer (inl e) = absurd (omega arith)
-kept (StoreRefused w) tag score L buffer (inr e) = absurd (omega arith)
+pub kept : (r : Result Stored Refusal) (s : Stored) (tag : ℕ) (score : Bytes) (L : Lent) (buffer : Bytes) → r ≡ Ok s → granted (write_reply tag score) Greeted L buffer ≡ written r tag score L buffer
+kept r s tag score L buffer e = rw e (of s)
+  where
+    of : (s : Stored) → granted (write_reply tag score) Greeted L buffer ≡ written (Ok s) tag score L buffer
+    of (New at) = refl
+    of (Duplicate at) = refl
 
 -- ---- by what a message asks and its fields, as they were taken from it
 

@@ -133,7 +133,7 @@ pub fn answer_store(receipt: Receipt, tag: u8, reply: &mut [u8]) -> Answer
 {
     let score = receipt.score;
     let stored = receipt.stored;
-    if let Stored::Refused(why) = stored {
+    if let Err(why) = stored {
         return refuse(why, tag, Session::Greeted, reply);
     }
     reply::write_reply(reply, message::WRITE_REPLY, tag, &score);

@@ -1,7 +1,7 @@
 // A block written behind a log, sector by sector.
 #![tactic(auto)]
 
-ghost use Rattle.std.specs.Prelude.{◌≡◌, ◌+◌, ◌-◌, ◌*◌, ◌≤◌, ◌<◌, min, length};
+ghost use Rattle.std.specs.Prelude.{◌≡◌, ◌+◌, ◌-◌, ◌*◌, ◌≤◌, ◌<◌, length};
 ghost use Rattle.buffer.specs.Bytes.{Bytes, put};
 ghost use Rattle.sector.specs.Sector.{front_of, sector_length, body_length, lines_length};
 ghost use Rattle.kind.specs.Kind.{longest};
@@ -13,13 +13,6 @@ ghost use Rattle.append.specs.Append.{row_of, parts_behind};
 
 use sector::{FRONT, LABEL, Label, SECTOR};
 use sector_number::SectorNumber;
-
-// The smaller of two numbers.
-fn smaller(a: usize, b: usize) -> usize
-    ensures { result ≡ min a b }
-{
-    if a < b { a } else { b }
-}
 
 // Writes sector k of a block to its place in a part of the log that starts where the block does; the rest of the part stays. `front` is the line of the
 // block's date.
@@ -40,7 +33,7 @@ fn write_part(
     let label = front.len() + LABEL;
     let p = block::payload_of(label);
     let from = p * k;
-    let to = smaller(from + p, data.len());
+    let to = (from + p).min(data.len());
     let piece = &data[from..to];
     let of = block::parts_of(label, data.len());
     let label = Label {
@@ -70,10 +63,8 @@ fn write_parts(
         ≡ put part.old 0 (images (row_of kind score.now «data».now first.0 date) (parts_behind front.now «data».now) 0) }
 {
     let count = block::parts_of(front.len() + LABEL, data.len());
-    let mut k: usize = 0;
-    while k < count {
+    for k in 0..count {
         write_part(part, front, first, kind, score, data, k);
-        k += 1;
     }
 }
 

@@ -3,7 +3,7 @@ use mathlib.Core.Path.{◌≡◌, refl}
 use Prim.Native.Nat.{ℕ, ◌-◌, ◌*◌}
 use lib.ListN.{length, drop, length-drop}
 use Rattle.buffer.specs.Bytes.{Bytes}
-use Rattle.word.specs.Hex.{digit_char, hex}
+use Rattle.hexadecimal.specs.Hex.{digit_char, hex}
 use Rattle.block.specs.Block.{parts_of}
 use Rattle.block.specs.Counts.{count_of, Counts}
 

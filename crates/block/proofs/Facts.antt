@@ -11,9 +11,9 @@ use lib.ListN.{length}
 use Rattle.bedrock.proofs.Choices.{and-true}
 use Rattle.buffer.specs.Bytes.{Bytes, same}
 use Rattle.buffer.proofs.Bytes.{same_true, same_refl}
-use Rattle.word.specs.Number.{small}
-use Rattle.sha1_digest.specs.Sha1.{sha1_of}
-use Rattle.sha1_digest.proofs.Digest.{digest_length}
+use Rattle.digits.specs.Number.{small}
+use Rattle.kind.specs.Kind.{sha1_of}
+use Rattle.kind.proofs.ZeroScore.{digest_length}
 use Rattle.kind.specs.Kind.{lawful, longest}
 use Rattle.sector.specs.Sector.{is_date_or_none, front_of, label_length}
 use Rattle.sector.proofs.Editions.{front-lengths, label-lengths}

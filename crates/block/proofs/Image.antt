@@ -8,9 +8,9 @@ use native.Mathlib.Omega.{arith}
 use lib.ListN.{length, take, drop, length-append}
 use Rattle.buffer.specs.Bytes.{Bytes, zeros}
 use Rattle.buffer.proofs.Bytes.{small-drop}
-use Rattle.word.specs.Number.{small}
-use Rattle.word.specs.Hex.{hex, hex_bytes}
-use Rattle.word.proofs.HexLaws.{hex_injective}
+use Rattle.digits.specs.Number.{small}
+use Rattle.hexadecimal.specs.Hex.{hex, hex_bytes}
+use Rattle.hexadecimal.proofs.HexLaws.{hex_injective}
 use Rattle.sector.specs.Sector.{label_of, label_length, date_field, behind, fits, check, filled, encode, blank, score_digits}
 use Rattle.sector.specs.declared.Label.{Label}
 use Rattle.sector.specs.Near.{Near}

@@ -11,7 +11,7 @@ use lib.ListN.{length, take, drop, length-append, take-append-drop}
 use lib.Seq.{length-take-le}
 use Rattle.buffer.specs.Bytes.{Bytes, zeros}
 use Rattle.buffer.proofs.Bytes.{small-append, small-take}
-use Rattle.word.specs.Number.{small}
+use Rattle.digits.specs.Number.{small}
 use Rattle.block.specs.Log.{sectors, at, Alike, joined, used_of, used}
 use Rattle.block.proofs.At.{piece, piece-front, piece_skip, at_piece, at-past}
 use Rattle.block.proofs.Used.{lt_used, used_le, used_le_sectors, at-used, blank-past, at-beyond}

@@ -9,8 +9,8 @@ use lib.ListN.{length, take, drop}
 use Rattle.bedrock.proofs.Choices.{and-true, some_same, cond_or_none}
 use Rattle.buffer.specs.Bytes.{Bytes, same, zeros}
 use Rattle.buffer.proofs.Bytes.{same_true, same_refl}
-use Rattle.word.specs.Number.{small}
-use Rattle.sha1_digest.specs.Sha1.{sha1_of}
+use Rattle.digits.specs.Number.{small}
+use Rattle.kind.specs.Kind.{sha1_of}
 use Rattle.kind.specs.Kind.{lawful, longest}
 use Rattle.sector.specs.Sector.{is_date_or_none, dated_label, label_length, payload_of, date_field, behind, fits, size_field}
 use Rattle.sector.proofs.Dates.{field-date}

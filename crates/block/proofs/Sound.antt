@@ -10,7 +10,7 @@ use lib.ListN.{length, take, drop}
 use Rattle.bedrock.proofs.Choices.{and-true, false_unless, some-not-none}
 use Rattle.buffer.specs.Bytes.{Bytes, same}
 use Rattle.buffer.proofs.Bytes.{same_true, same_refl}
-use Rattle.word.specs.Hex.{hex, hex_bytes}
+use Rattle.hexadecimal.specs.Hex.{hex, hex_bytes}
 use Rattle.sector.specs.Sector.{label_length, date_field, behind, kind_field, size_field, score_field, score_digits}
 use Rattle.block.specs.Block.{Row, parts, place_of, image}
 use Rattle.block.specs.Log.{at, payloads, bytes_of, sound_as, sound}

@@ -8,10 +8,10 @@ use native.Mathlib.Omega.{arith}
 use lib.ListN.{length, get_or, take, drop, take-append-drop}
 use lib.Seq.{ext_get_or, get_or-drop, take-add, length-take-le}
 use Rattle.buffer.specs.Bytes.{Bytes}
-use Rattle.word.specs.Hex.{hex_value, read_bytes}
-use Rattle.word.proofs.HexLaws.{hex_value-hex, read_bytes-hex_bytes}
-use Rattle.sha1_digest.specs.Sha1.{sha1_of}
-use Rattle.sha1_digest.proofs.Digest.{digest_length, digest_bytes}
+use Rattle.hexadecimal.specs.Hex.{hex_value, read_bytes}
+use Rattle.hexadecimal.proofs.HexLaws.{hex_value-hex, read_bytes-hex_bytes}
+use Rattle.kind.specs.Kind.{sha1_of}
+use Rattle.kind.proofs.ZeroScore.{digest_length, digest_bytes}
 use Rattle.sector.specs.Sector.{dated_label, label_length, payload_of, date_field, behind, fits, filled, kind_field, size_field, score_field}
 use Rattle.sector.proofs.Encode.{encode-whole, length-filled}
 use Rattle.sector.proofs.Editions.{label-lengths, length-dated}

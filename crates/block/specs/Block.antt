@@ -1,8 +1,8 @@
 -- A block at its place in the log, and the sectors that a write of it makes.
 use Rattle.std.specs.Prelude.{Bool, ◌&&◌, [], ◌++◌, ℕ, zero, suc, ◌+◌, ◌-◌, ◌*◌, ◌/◌, ◌^◌, ◌≤◌, ◌<◌, leb, length, take, drop}
 use Rattle.buffer.specs.Bytes.{Bytes, same}
-use Rattle.word.specs.Number.{small}
-use Rattle.sha1_digest.specs.Sha1.{sha1_of}
+use Rattle.digits.specs.Number.{small}
+use Rattle.kind.specs.Kind.{sha1_of}
 use Rattle.kind.specs.Kind.{lawful, longest}
 use Rattle.sector.specs.Sector.{dated_label, encode, is_date_or_none, label_length, payload_of, sector_length, body_length}
 use Rattle.sector.specs.declared.Label.{Label}

@@ -2,7 +2,7 @@
 -- take 148 sectors, the last with 161": the table, and what the definitions say.
 use Rattle.std.specs.Prelude.{◌≡◌, List, [], ◌∷◌, map, ℕ, ◌-◌, ◌*◌, replicate}
 use Rattle.buffer.specs.Bytes.{Bytes}
-use Rattle.word.specs.Hex.{hex}
+use Rattle.hexadecimal.specs.Hex.{hex}
 use Rattle.sector.specs.Sector.{label_length, payload_of}
 use Rattle.block.specs.Block.{parts_of}
 

@@ -2,8 +2,8 @@
 use Rattle.std.specs.Prelude.{◌≡◌, Bool, true, cond, ◌&&◌, List, [], ◌∷◌, ◌++◌, ℕ, zero, suc, ◌+◌, ◌*◌, ◌/◌, ◌^◌, leb, ltb, length, take, drop}
 use Rattle.std.proofs.Math.Option.{Option, none, some}
 use Rattle.buffer.specs.Bytes.{Bytes, same, zeros}
-use Rattle.word.specs.Number.{small}
-use Rattle.sha1_digest.specs.Sha1.{sha1_of}
+use Rattle.digits.specs.Number.{small}
+use Rattle.kind.specs.Kind.{sha1_of}
 use Rattle.sector.specs.Sector.{dated_label, label_length, payload_of, date_field, behind, fits, blank, kind_field, size_field, score_field, sector_length}
 use Rattle.kind.specs.Kind.{lawful, longest}
 use Rattle.block.specs.Block.{Row, parts_of, parts_in, label_at, places}

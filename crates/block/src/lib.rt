@@ -6,7 +6,7 @@ ghost use Rattle.std.specs.Prelude.{◌≡◌, ◌+◌, ◌^◌, ◌≤◌, ◌<
 ghost use Rattle.sector.specs.Sector.{payload_of, body_length};
 ghost use Rattle.block.specs.Block.{parts_of};
 
-use sector::BODY;
+pub use sector::{BODY, SECTOR};
 use sector_number::SectorNumber;
 
 // Where a block stands: its first sector, its size in bytes, and how long its sectors' labels are.

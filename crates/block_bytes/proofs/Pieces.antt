@@ -12,7 +12,7 @@ use lib.ListN.{length, take, drop, length-take}
 use lib.Seq.{take-nil, take_all, take-take, length-take-le}
 use Rattle.buffer.specs.Bytes.{Bytes}
 use Rattle.buffer.proofs.Bytes.{small-append, small-take, small-drop, small-replicate}
-use Rattle.word.specs.Number.{small}
+use Rattle.digits.specs.Number.{small}
 use Rattle.sector.specs.Sector.{blank, payload_of}
 use Rattle.block.specs.Block.{parts_of, parts_in}
 use Rattle.block.specs.declared.Block.{Block}

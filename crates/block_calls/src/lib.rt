@@ -5,29 +5,27 @@ ghost use Rattle.std.specs.Prelude.{◌≡◌, length};
 ghost use Rattle.kind.specs.Kind.{wire_type};
 ghost use Rattle.cut.specs.Cut.{cut_of};
 ghost use Rattle.cut.specs.Pad.{pad_of};
-ghost use Rattle.results.specs.Blocks.{type_result, cut_result, pad_number, padded_buffer, pad_result};
+ghost use Rattle.block_calls.specs.Blocks.{type_result, cut_result, pad_number, padded_buffer, pad_result};
 
-use cut::{Kept, Padded};
-use kind::Wire;
+use refusal::Refusal;
 
 // The block type of a number of the enumeration: 256 times the type, or the number of the refusal.
 pub fn block_type(e: u64) -> u32
     ensures { result ≡ type_result (wire_type e) }
 {
-    let wire = kind::wire_type(e);
-    match wire {
-        Wire::Type(kind) => 256 * (kind as u32),
-        Wire::Refused(why) => refusal::number(why) as u32,
+    match kind::wire_type(e) {
+        Ok(kind) => 256 * (kind as u32),
+        Err(why) => refusal::number(why) as u32,
     }
 }
 
 // The number of a padding: 0 where it is done.
-fn pad_number(padded: Padded) -> u32
+fn pad_number(padded: Result<(), Refusal>) -> u32
     ensures { result ≡ pad_number padded }
 {
     match padded {
-        Padded::Done => 0,
-        Padded::Refused(why) => refusal::number(why) as u32,
+        Ok(()) => 0,
+        Err(why) => refusal::number(why) as u32,
     }
 }
 
@@ -44,7 +42,7 @@ pub fn cut(kind: u8, block: &[u8]) -> usize
 {
     let kept = cut::cut(kind, block);
     match kept {
-        Kept::Length(n) => n,
-        Kept::Refused(why) => block.len() + refusal::number(why) as usize,
+        Ok(n) => n,
+        Err(why) => block.len() + refusal::number(why) as usize,
     }
 }

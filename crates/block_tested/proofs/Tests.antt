@@ -14,6 +14,8 @@ use Rattle.block.specs.Log.{at, labelled, all}
 use Rattle.block.proofs.Facts.{some-parts}
 use Rattle.block_tests.proofs.Turns.{label_test}
 use Rattle.block_tested.specs.Tested.{sector_tests}
+pub use Rattle.block_tests.proofs.Digits.{field_at}
+pub use Rattle.block_bytes.proofs.Pieces.{length-bytes, block_at}
 
 -- a failed test fails all, one of the first and one of the rest
 pub all_fails : (ts : List Bool) (j : ℕ) → get_or ts j true ≡ false → all ts ≡ false

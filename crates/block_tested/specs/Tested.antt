@@ -1,12 +1,13 @@
 -- The tests of a block's sectors: the last five of `sound_as`, for a block at a place.
 use Rattle.std.specs.Prelude.{Bool, List, [], ◌∷◌, ℕ, drop}
 use Rattle.buffer.specs.Bytes.{Bytes, same, zeros}
-use Rattle.word.specs.Number.{small}
+use Rattle.digits.specs.Number.{small}
 use Rattle.sha1_digest.specs.Sha1.{sha1_of}
 use Rattle.sector.specs.Sector.{date_field}
 use Rattle.block.specs.declared.Block.{Block}
 use Rattle.block.specs.Block.{parts_in}
 use Rattle.block.specs.Log.{at, payloads, bytes_of, labelled, checked}
+unfoldable pub use Rattle.block_tests.specs.Number.{number_of}
 
 -- the labels of all parts, with the date of the first; the checks; zeros behind the block's bytes; the score is their SHA-1
 abbrev pub sector_tests : Bytes → Block → ℕ → Bytes → List Bool

@@ -9,6 +9,8 @@ ghost use Rattle.block.specs.Log.{sectors, at, joined, all};
 ghost use Rattle.block_tested.specs.Tested.{sector_tests};
 
 use block::Block;
+pub use block_bytes::{copy_out, same_bytes};
+pub use block_tests::{field_number, sector_at, used_part};
 use sector::Label;
 use sector_number::SectorNumber;
 
@@ -36,8 +38,8 @@ pub fn passes<'a>(
         kind,
         size: b.size,
     };
-    let s = two_runs::sector_at(log, end, waiting, first);
-    if !sector_lines::has_label(s, front, label, score) {
+    let s = block_tests::sector_at(log, end, waiting, first);
+    if !block_tests::has_label(s, front, label, score) {
         return false;
     }
     if !block_tests::checks_fit(log, end, waiting, first, of) {

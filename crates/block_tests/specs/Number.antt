@@ -1,7 +1,7 @@
 -- A number in a label.
 use Rattle.std.specs.Prelude.{cond, ℕ}
 use Rattle.buffer.specs.Bytes.{Bytes}
-use Rattle.word.specs.Hex.{is_hex, hex_value}
+use Rattle.hexadecimal.specs.Hex.{is_hex, hex_value}
 
 -- the number that hex digits make, and 0 where one is none
 unfoldable pub number_of : Bytes → ℕ

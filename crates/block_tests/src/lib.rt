@@ -11,8 +11,9 @@ ghost use Rattle.block_tests.specs.Number.{number_of};
 
 use block::Block;
 use sector::{BODY, Label};
+pub use sector_lines::has_label;
 use sector_number::SectorNumber;
-use word::hex::Hex;
+pub use two_runs::{sector_at, used_part};
 
 // Whether the sectors of a block have the labels of its parts, each behind `front`.
 pub fn labels_agree<'a>(
@@ -30,8 +31,7 @@ pub fn labels_agree<'a>(
 {
     let first = b.first;
     let of = block::parts_of(b.label, b.size);
-    let mut i: usize = 0;
-    while i < of {
+    for i in 0..of {
         let label = Label {
             first,
             part: i,
@@ -44,7 +44,6 @@ pub fn labels_agree<'a>(
         if !sector_lines::has_label(s, front, label, score) {
             return false;
         }
-        i += 1;
     }
     true
 }
@@ -62,14 +61,12 @@ pub fn checks_fit<'a>(
 {
     let low = crc32_tables::digits::low();
     let high = crc32_tables::digits::high();
-    let mut n = first.0;
-    let last = n + count;
-    while n < last {
+    let last = first.0 + count;
+    for n in first.0..last {
         let s = two_runs::sector_at(log, end, waiting, SectorNumber(n));
         if !sector_lines::has_check(&low, &high, s) {
             return false;
         }
-        n += 1;
     }
     true
 }
@@ -104,11 +101,7 @@ pub fn field_number<'a>(
     let s = two_runs::sector_at(log, end, waiting, n);
     let from = front + field;
     let to = from + width;
-    let h = word::hex::read_hex(&s[from..to]);
-    match h {
-        Hex::Value(v) => v as usize,
-        Hex::Bad => 0,
-    }
+    hexadecimal::read_hex(&s[from..to]).unwrap_or(0) as usize
 }
 
 // The number that the hex digits of sector n from byte `from` to byte `to` make, and 0 where one of them is none.
@@ -124,9 +117,5 @@ pub fn number_at<'a>(
     ensures { result ≡ number_of (take (to - from) (drop from (at (joined end.0 log.now waiting.now) n.0))) }
 {
     let s = two_runs::sector_at(log, end, waiting, n);
-    let h = word::hex::read_hex(&s[from..to]);
-    match h {
-        Hex::Value(v) => v as usize,
-        Hex::Bad => 0,
-    }
+    hexadecimal::read_hex(&s[from..to]).unwrap_or(0) as usize
 }

@@ -3,12 +3,12 @@ ghost use Rattle.std.specs.Prelude.{◌≡◌, length};
 ghost use Rattle.kind.specs.Kind.{wire_type};
 ghost use Rattle.cut.specs.Cut.{cut_of};
 ghost use Rattle.cut.specs.Pad.{pad_of};
-ghost use Rattle.results.specs.Blocks.{type_result, cut_result, padded_buffer, pad_result};
+ghost use Rattle.block_calls.specs.Blocks;
 
 // The block type of a number of the enumeration: 256 times the type, or the number of the refusal.
 #[unsafe(no_mangle)]
 pub extern "C" fn skywimple_block_type(e: u64) -> u32
-    ensures { result ≡ type_result (wire_type e) }
+    ensures { result ≡ Blocks.type_result (wire_type e) }
 {
     block_calls::block_type(e)
 }
@@ -16,7 +16,7 @@ pub extern "C" fn skywimple_block_type(e: u64) -> u32
 // Pads the block of `len` bytes at the front of the buffer to the target. The result is the number of the refusal, 0 for none.
 #[unsafe(no_mangle)]
 pub extern "C" fn skywimple_pad(kind: u8, buffer: &mut [u8], len: usize, target: usize) -> u32
-    ensures { padded_buffer result buffer.new ≡ pad_result (pad_of kind buffer.old len target) }
+    ensures { Blocks.padded_buffer result buffer.new ≡ Blocks.pad_result (pad_of kind buffer.old len target) }
 {
     block_calls::pad(kind, buffer, len, target)
 }
@@ -24,7 +24,7 @@ pub extern "C" fn skywimple_pad(kind: u8, buffer: &mut [u8], len: usize, target:
 // The length of a block once it is cut; a refusal is the block's length and its number.
 #[unsafe(no_mangle)]
 pub extern "C" fn skywimple_cut(kind: u8, block: &[u8]) -> usize
-    ensures { result ≡ cut_result (length block.now) (cut_of kind block.now) }
+    ensures { result ≡ Blocks.cut_result (length block.now) (cut_of kind block.now) }
 {
     block_calls::cut(kind, block)
 }

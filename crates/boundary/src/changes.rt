@@ -3,13 +3,13 @@
 ghost use Rattle.std.specs.Prelude.{◌≡◌};
 ghost use Rattle.difference.specs.Difference.{difference_of};
 ghost use Rattle.comparison.specs.Differences.{differences_of};
-ghost use Rattle.results.specs.Changes.{difference_packed, counts, compared_result};
+ghost use Rattle.change_calls.specs.Changes;
 
 // Where two directory blocks first differ, packed into one number: above the number of the refusal, which takes 8 bits, 2 bits for the
 // block that has the entry, 0 for none, 1 for the first and 2 for the second, then the byte of that block where its 40 bytes start.
 #[unsafe(no_mangle)]
 pub extern "C" fn skywimple_difference(first: &[u8], second: &[u8]) -> u64
-    ensures { result ≡ difference_packed (difference_of first.now second.now) }
+    ensures { result ≡ Changes.difference_packed (difference_of first.now second.now) }
 {
     change_calls::difference(first, second)
 }
@@ -25,7 +25,7 @@ pub extern "C" fn skywimple_differences<'a>(
     allowance: u64,
     told: &mut u64,
 ) -> u64
-    ensures { counts result told.new ≡ compared_result (differences_of log.now waiting.now first.now second.now allowance) }
+    ensures { Changes.counts result told.new ≡ Changes.compared_result (differences_of log.now waiting.now first.now second.now allowance) }
 {
     change_calls::differences(log, waiting, first, second, allowance, told)
 }

@@ -2,7 +2,7 @@
 ghost use Rattle.std.specs.Prelude.{◌≡◌};
 ghost use Rattle.sector_log.specs.Parts.{beside};
 ghost use Rattle.writer.specs.WriteFile.{write_file};
-ghost use Rattle.writer_calls.specs.Wrote.{wrote_file, wrote_result};
+ghost use Rattle.writer_calls.specs.Wrote;
 
 // Writes a slice as a file: data leaves of dsize bytes, pointer blocks of psize, into the waiting part, with a date; its entry into the 40 bytes that are
 // lent for it. The lent scores have room for one of each of the most leaves, 1,146,880 bytes, and those used are zeros afterwards. The result is the number of
@@ -18,8 +18,8 @@ pub extern "C" fn skywimple_write_file(
     entry: &mut [u8],
     scores: &mut [u8],
 ) -> u32
-    ensures { wrote_file result (beside log.now waiting.new) entry.new scores.new
-        ≡ wrote_result (write_file log.now waiting.old date.now slice.now dsize psize entry.old scores.old) }
+    ensures { Wrote.wrote_file result (beside log.now waiting.new) entry.new scores.new
+        ≡ Wrote.wrote_result (write_file log.now waiting.old date.now slice.now dsize psize entry.old scores.old) }
 {
     writer_calls::write_file(log, waiting, date, slice, dsize, psize, entry, scores)
 }

@@ -1,6 +1,6 @@
 // What is known of a log, its waiting part and an index: learned, and a request by it.
 ghost use Rattle.std.specs.Prelude.{◌≡◌};
-ghost use Rattle.known_calls.specs.Calls.{after_learn, learn_asked, served_known, serve_asked};
+ghost use Rattle.known_calls.specs.Calls;
 
 // Learns what is known of a log, its waiting part and an index, to the 25 bytes of `known`, and returns 0; a buffer of another length is 2.
 #[unsafe(no_mangle)]
@@ -10,7 +10,7 @@ pub extern "C" fn skywimple_learn<'a>(
     index: &[u8],
     known: &mut [u8],
 ) -> u32
-    ensures { after_learn result known.new ≡ learn_asked log.now waiting.now index.now known.old }
+    ensures { Calls.after_learn result known.new ≡ Calls.learn_asked log.now waiting.now index.now known.old }
 {
     known_calls::learn(log, waiting, index, known)
 }
@@ -27,8 +27,8 @@ pub extern "C" fn skywimple_serve_known(
     reply: &mut [u8],
     known: &mut [u8],
 ) -> u32
-    ensures { served_known result log.new waiting.new reply.new index.new known.new
-        ≡ serve_asked session message.now date.now index.old log.old waiting.old reply.old known.old }
+    ensures { Calls.served_known result log.new waiting.new reply.new index.new known.new
+        ≡ Calls.serve_asked session message.now date.now index.old log.old waiting.old reply.old known.old }
 {
     known_calls::serve_known(session, message, date, log, waiting, index, reply, known)
 }

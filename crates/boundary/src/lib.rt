@@ -17,8 +17,8 @@ ghost use Rattle.std.proofs.Math.Option.{some};
 ghost use Rattle.crc32_rule.specs.Crc32.{crc32_of};
 ghost use Rattle.sector_log.specs.Parts.{beside};
 ghost use Rattle.indexed.specs.Indexed.{step_by};
-ghost use Rattle.digest_calls.specs.Digest.{digest_number, digest_buffer};
-ghost use Rattle.results.specs.Serve.{session_of, served, served_of};
+ghost use Rattle.digest_calls.specs.Digest;
+ghost use Rattle.session_numbers.specs.Serve;
 
 // The CRC-32 of s.
 #[unsafe(no_mangle)]
@@ -31,8 +31,8 @@ pub extern "C" fn skywimple_crc32(s: &[u8]) -> u32
 // Writes the SHA-1 of s to the first 20 bytes of out and returns 0, or returns 2 where out is shorter.
 #[unsafe(no_mangle)]
 pub extern "C" fn skywimple_sha1(s: &[u8], out: &mut [u8]) -> u32
-    ensures number { result ≡ digest_number out.old }
-    ensures buffer { out.new ≡ digest_buffer s.now out.old }
+    ensures number { result ≡ Digest.digest_number out.old }
+    ensures buffer { out.new ≡ Digest.digest_buffer s.now out.old }
 {
     digest_calls::sha1(s, out)
 }
@@ -49,8 +49,8 @@ pub extern "C" fn skywimple_serve(
     index: &mut [u8],
     reply: &mut [u8],
 ) -> u32
-    ensures { served result log.new waiting.new reply.new index.new
-        ≡ served_of (step_by (session_of session) message.now (some date.now) index.old (beside log.old waiting.old) reply.old) }
+    ensures { Serve.served result log.new waiting.new reply.new index.new
+        ≡ Serve.served_of (step_by (Serve.session_of session) message.now (some date.now) index.old (beside log.old waiting.old) reply.old) }
 {
     serve_calls::serve(session, message, date, log, waiting, index, reply)
 }

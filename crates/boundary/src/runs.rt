@@ -4,7 +4,8 @@ ghost use Rattle.std.specs.Prelude.{◌≡◌};
 ghost use Rattle.file.specs.File.{located};
 ghost use Rattle.fill.specs.Fill.{fill_of};
 ghost use Rattle.walk.specs.Walk.{walk_of};
-ghost use Rattle.results.specs.Tree.{packed, filled_up, fill_result, walk_result};
+ghost use Rattle.tree_calls.specs.Tree;
+ghost use Rattle.walk_calls.specs.Walked.{walk_result};
 
 // Where the bytes of a file at an offset lie, packed into one number: above the number of the refusal, which takes 8 bits, 2 bits for the
 // slice, 0 for the log, 1 for the waiting part and 2 for the page, then the run's length in 16 bits, then the byte of the slice where it
@@ -17,7 +18,7 @@ pub extern "C" fn skywimple_locate<'a>(
     entry: &[u8],
     offset: u64,
 ) -> u64
-    ensures { result ≡ packed (located log.now waiting.now page.now entry.now offset) }
+    ensures { result ≡ Tree.packed (located log.now waiting.now page.now entry.now offset) }
 {
     tree_calls::locate(log, waiting, page, entry, offset)
 }
@@ -33,7 +34,7 @@ pub extern "C" fn skywimple_fill<'a>(
     buffer: &mut [u8],
     told: &mut u64,
 ) -> u64
-    ensures { filled_up result buffer.new told.new ≡ fill_result (fill_of log.now waiting.now entry.now offset buffer.old) }
+    ensures { Tree.filled_up result buffer.new told.new ≡ Tree.fill_result (fill_of log.now waiting.now entry.now offset buffer.old) }
 {
     tree_calls::fill(log, waiting, entry, offset, buffer, told)
 }

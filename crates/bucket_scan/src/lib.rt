@@ -12,14 +12,13 @@ pub fn lists(index: &[u8], score: &[u8], kind: u8, first: SectorNumber) -> bool
     ensures { result ≡ listed index.now score.now kind first.0 }
 {
     let b = index::bucket_of(index, score);
-    let mut p = b.from;
-    while p < b.to {
+    let to = b.to;
+    for p in b.from..to {
         if index::names(index, p, kind, score) {
             if index::sector_at(index, p).0 == first.0 {
                 return true;
             }
         }
-        p += 1;
     }
     false
 }

@@ -1,7 +1,8 @@
 -- One turn of each loop over byte strings, as the code has the numbers.
 use mathlib.Core.Path.{◌≡◌, refl, sym, ap, ◌∙◌}
 use mathlib.Core.Bool.{Bool, true, false, ◌&&◌}
-use mathlib.Core.List.{append_assoc}
+use mathlib.Core.List.{[], ◌∷◌, append_assoc}
+use Rattle.std.specs.Cmp.Lexicographic.{pointwise}
 use Prim.Native.Nat.{ℕ, suc, ◌+◌, ◌≤◌, ◌<◌}
 use native.Mathlib.Omega.{arith}
 use native.Mathlib.Numerals.{add-one}
@@ -66,3 +67,10 @@ agree_end a b i seen ha hb = rw (drop_of_length-le a ha, drop_of_length-le b hb)
 -- put: one byte more, none, all
 pub put_all : (d : Bytes) (at : ℕ) (s : Bytes) → paste d at s (length s) ≡ put d at s
 put_all d at s = rw (take_all (length s) s (omega arith)) (append_assoc (take at d) s (drop (at + length s) d))
+
+-- same: as the library compares
+pub same-pointwise : (a b : Bytes) → pointwise eqb a b ≡ same a b
+same-pointwise [] [] = refl
+same-pointwise [] (y ∷ b) = refl
+same-pointwise (x ∷ a) [] = refl
+same-pointwise (x ∷ a) (y ∷ b) = ap (λ (t : Bool). eqb x y && t) (same-pointwise a b)

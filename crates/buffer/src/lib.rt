@@ -8,17 +8,7 @@ ghost use Rattle.buffer.specs.Bytes.{same, zeros, put};
 pub fn equal(a: &[u8], b: &[u8]) -> bool
     ensures { result ≡ same a.now b.now }
 {
-    if a.len() != b.len() {
-        return false;
-    }
-    let mut i: usize = 0;
-    while i < a.len() {
-        if a[i] != b[i] {
-            return false;
-        }
-        i += 1;
-    }
-    true
+    a == b
 }
 
 // The same test, for bytes that are most often the same. No way out before the end: the compiler makes vector code of it.
@@ -29,10 +19,8 @@ pub fn agree(a: &[u8], b: &[u8]) -> bool
         return false;
     }
     let mut differ: u8 = 0;
-    let mut i: usize = 0;
-    while i < a.len() {
-        differ = differ | (a[i] ^ b[i]);
-        i += 1;
+    for i in 0..a.len() {
+        differ |= a[i] ^ b[i];
     }
     differ == 0
 }
@@ -42,10 +30,8 @@ pub fn is_zero(s: &[u8]) -> bool
     ensures { result ≡ zeros s.now }
 {
     let mut seen: u8 = 0;
-    let mut i: usize = 0;
-    while i < s.len() {
-        seen = seen | s[i];
-        i += 1;
+    for b in s {
+        seen |= *b;
     }
     seen == 0
 }
@@ -55,20 +41,12 @@ pub fn copy_at(d: &mut [u8], at: usize, s: &[u8])
     requires { at + length s.now ≤ length d.old }
     ensures { d.new ≡ put d.old at s.now }
 {
-    let mut i: usize = 0;
-    while i < s.len() {
-        d[at + i] = s[i];
-        i += 1;
-    }
+    d[at..at + s.len()].copy_from_slice(s);
 }
 
 // Sets every byte of d to zero.
 pub fn clear(d: &mut [u8])
     ensures { d.new ≡ replicate (length d.old) 0 }
 {
-    let mut i: usize = 0;
-    while i < d.len() {
-        d[i] = 0;
-        i += 1;
-    }
+    d.fill(0);
 }

@@ -7,38 +7,41 @@ use Prim.Native.Nat.{ℕ, ◌+◌, ◌-◌, ◌≤◌, ◌<◌}
 use native.Mathlib.Omega.{arith}
 use lib.ListN.{length, take, drop, length-append, length-drop, drop_of_length-le}
 use lib.Seq.{drop-cons, drop-drop, take-append-le, take-append_seam}
+use Rattle.std.specs.Prelude.{Option as Optional, Some, None}
 use Rattle.buffer.specs.Bytes.{Bytes, same}
 use Rattle.kleene.specs.declared.Value.TheVariants.{NotKnown}
 use Rattle.antigen.specs.Name.{is_name, before}
 use Rattle.card.specs.Card.{Line, ending, line_text, up_to_equals, begins, line_with, line_of, told, value_in}
 use Rattle.card.specs.Scan.{place_of}
-use Rattle.card.specs.declared.Place.{Place}
-use Rattle.card.specs.declared.Place.TheVariants as place
+use Rattle.card.specs.declared.Line.{Line as Places}
 use Rattle.card.proofs.Lines.{nothing_read, line-front, ending-some, value_none, value-some, lawful_from, lawful-none, lawful-some}
 
 -- ---- the line at a place
+
+abbrev places : ℕ → ℕ → Bool → Optional Places
+places k n p = Some (record { equals = k; end = n; present = p })
 
 module _ (s : Bytes) (at equals : ℕ) (e : equals ≡ at + length (up_to_equals (drop at s))) where
   behind : drop equals s ≡ drop (length (up_to_equals (drop at s))) (drop at s)
   behind = ap (λ (k : ℕ). drop k s) e ∙ sym (drop-drop (length (up_to_equals (drop at s))) at s)
 
   module _ (t : Bool) (f : t ≡ begins (drop equals s) (ending true)) where
-    pub place-present : t ≡ true → place.Line equals (equals + 9) true ≡ place_of at (line_of (drop at s))
+    pub place-present : t ≡ true → places equals (equals + 9) true ≡ place_of at (line_of (drop at s))
     unfolding line_with
     place-present q =
         let n = up_to_equals (drop at s) in
         let k : equals + 9 ≡ at + length (n ++ ending true) = omega (arith, length-append n (ending true)) in
-        rw (← behind, sym f ∙ q) (λ i. place.Line (e i) (k i) true)
+        rw (← behind, sym f ∙ q) (λ i. places (e i) (k i) true)
 
     module _ (q : t ≡ false) (u : Bool) (g : u ≡ begins (drop equals s) (ending false)) where
-      pub place-absent : u ≡ true → place.Line equals (equals + 8) false ≡ place_of at (line_of (drop at s))
+      pub place-absent : u ≡ true → places equals (equals + 8) false ≡ place_of at (line_of (drop at s))
       unfolding line_with
       place-absent r =
           let n = up_to_equals (drop at s) in
           let k : equals + 8 ≡ at + length (n ++ ending false) = omega (arith, length-append n (ending false)) in
-          rw (← behind, sym f ∙ q, sym g ∙ r) (λ i. place.Line (e i) (k i) false)
+          rw (← behind, sym f ∙ q, sym g ∙ r) (λ i. places (e i) (k i) false)
 
-      pub place-nothing : u ≡ false → place.Nothing ≡ place_of at (line_of (drop at s))
+      pub place-nothing : u ≡ false → None ≡ place_of at (line_of (drop at s))
       unfolding line_with
       place-nothing r = rw (← behind, sym f ∙ q, sym g ∙ r)
 
@@ -53,15 +56,15 @@ pub record LineAt (s : Bytes) (at equals end : ℕ) (present : Bool) (l : Line) 
   pub rest : drop end s ≡ drop (length (line_text l)) (drop at s)
   pub says : present ≡ l.present
 
-module _ (s : Bytes) (at : ℕ) (h : at ≤ length s) (r : Place) (e : r ≡ place_of at (line_of (drop at s))) where
-  pub placed : (equals end : ℕ) (present : Bool) → r ≡ place.Line equals end present → (l : Line) × LineAt s at equals end present l
-  placed equals end present q = go (line_of (drop at s)) refl (sym q ∙ e)
+module _ (s : Bytes) (at : ℕ) (h : at ≤ length s) (r : Optional Places) (e : r ≡ place_of at (line_of (drop at s))) where
+  pub placed : (p : Places) → r ≡ Some p → (l : Line) × LineAt s at p.equals p.end p.present l
+  placed p q = go (line_of (drop at s)) refl (sym q ∙ e)
     where
-      made : (l : Line) → line_of (drop at s) ≡ some l → equals ≡ at + length l.name → end ≡ at + length (line_text l) → present ≡ l.present → LineAt s at equals end present l
-      made l o a b p =
+      made : (l : Line) → line_of (drop at s) ≡ some l → p.equals ≡ at + length l.name → p.end ≡ at + length (line_text l) → p.present ≡ l.present → LineAt s at p.equals p.end p.present l
+      made l o a b w =
           let x = line_text l in
           let f : drop at s ≡ x ++ drop (length x) (drop at s) = line-front (drop at s) l o in
-          let k : equals - at ≡ length l.name = omega arith in
+          let k : p.equals - at ≡ length l.name = omega arith in
           let lx : length x ≡ length l.name + length (ending l.present) = length-append l.name (ending l.present) in
           let whole : length (drop at s) ≡ length x + length (drop (length x) (drop at s)) = ap length f ∙ length-append x (drop (length x) (drop at s)) in
           record {
@@ -73,17 +76,17 @@ module _ (s : Bytes) (at : ℕ) (h : at ≤ length s) (r : Place) (e : r ≡ pla
             ends = omega (arith, ending-some l.present);
             fits = omega (arith, length-drop at s);
             rest = ap (λ (j : ℕ). drop j s) b ∙ sym (drop-drop (length x) at s);
-            says = p;
+            says = w;
           }
 
-      go : (o : Option Line) → line_of (drop at s) ≡ o → place.Line equals end present ≡ place_of at o → (l : Line) × LineAt s at equals end present l
+      go : (o : Option Line) → line_of (drop at s) ≡ o → Some p ≡ place_of at o → (l : Line) × LineAt s at p.equals p.end p.present l
       go none o q = let z : ◌≡◌ {A = ℕ} 0 1 = cc in absurd (omega arith)
       go (some l) o q = (l, made l o (cc) (cc) (cc))
 
-  pub placed-none : r ≡ place.Nothing → line_of (drop at s) ≡ none
+  pub placed-none : r ≡ None → line_of (drop at s) ≡ none
   placed-none q = go (line_of (drop at s)) (sym q ∙ e)
     where
-      go : (o : Option Line) → place.Nothing ≡ place_of at o → o ≡ none
+      go : (o : Option Line) → None ≡ place_of at o → o ≡ none
       go none q = refl
       go (some l) q = let z : ◌≡◌ {A = ℕ} 0 1 = cc in absurd (omega arith)
 

@@ -7,15 +7,12 @@ ghost use Rattle.card.specs.Scan.{place_of};
 
 use kleene::Value;
 
-// A line by its places: where its name ends, where the line ends, and whether it says present; or that there is none.
+// A line by its places: where its name ends, where the line ends, and whether it says present.
 #[derive(Clone, Copy)]
-pub enum Place {
-    Line {
-        equals: usize,
-        end: usize,
-        present: bool,
-    },
-    Nothing,
+pub struct Line {
+    equals: usize,
+    end: usize,
+    present: bool,
 }
 
 // Where the first byte of a value from a place on stands, or the end of the bytes.
@@ -23,14 +20,12 @@ pub fn byte_from(s: &[u8], at: usize, byte: u8) -> usize
     requires { at ≤ length s.now }
     ensures { (result ≡ at + length (up_to byte (drop at s.now))) × (result ≤ length s.now) }
 {
-    let mut i = at;
-    while i < s.len() {
+    for i in at..s.len() {
         if s[i] == byte {
             return i;
         }
-        i += 1;
     }
-    i
+    s.len()
 }
 
 // Whether p stands at a place of s.
@@ -45,37 +40,34 @@ fn begins_at(s: &[u8], at: usize, p: &[u8]) -> bool
     buffer::equal(&s[at..end], p)
 }
 
-// The line that starts at a place.
-fn line_at(s: &[u8], at: usize) -> Place
+// The line that starts at a place, if one does.
+fn line_at(s: &[u8], at: usize) -> Option<Line>
     requires { at ≤ length s.now }
     ensures { result ≡ place_of at (line_of (drop at s.now)) }
 {
     let equals = byte_from(s, at, b'=');
     if begins_at(s, equals, b"=present\n") {
-        return Place::Line {
+        return Some(Line {
             equals,
             end: equals + 9,
             present: true,
-        };
+        });
     }
     if begins_at(s, equals, b"=absent\n") {
-        return Place::Line {
+        return Some(Line {
             equals,
             end: equals + 8,
             present: false,
-        };
+        });
     }
-    Place::Nothing
+    None
 }
 
 // Yes for present, no for absent.
 fn told(present: bool) -> Value
     ensures { result ≡ told present }
 {
-    if present {
-        return Value::Yes;
-    }
-    Value::No
+    if present { Value::Yes } else { Value::No }
 }
 
 // What a card says of a name: any bytes and any name.
@@ -84,19 +76,13 @@ pub fn value_in(card: &[u8], name: &[u8]) -> Value
 {
     let mut at: usize = 0;
     while at < card.len() {
-        let place = line_at(card, at);
-        let Place::Line {
-            equals,
-            end,
-            present,
-        } = place
-        else {
+        let Some(line) = line_at(card, at) else {
             return Value::NotKnown;
         };
-        if buffer::equal(&card[at..equals], name) {
-            return told(present);
+        if buffer::equal(&card[at..line.equals], name) {
+            return told(line.present);
         }
-        at = end;
+        at = line.end;
     }
     Value::NotKnown
 }
@@ -109,24 +95,18 @@ pub fn is_card(s: &[u8]) -> bool
     let mut to: usize = 0;
     let mut at: usize = 0;
     while at < s.len() {
-        let place = line_at(s, at);
-        let Place::Line {
-            equals,
-            end,
-            present: _,
-        } = place
-        else {
+        let Some(line) = line_at(s, at) else {
             return false;
         };
-        if !antigen::is_name(&s[at..equals]) {
+        if !antigen::is_name(&s[at..line.equals]) {
             return false;
         }
-        if !antigen::is_before(&s[from..to], &s[at..equals]) {
+        if !antigen::is_before(&s[from..to], &s[at..line.equals]) {
             return false;
         }
         from = at;
-        to = equals;
-        at = end;
+        to = line.equals;
+        at = line.end;
     }
     true
 }

@@ -3,10 +3,10 @@
 
 ghost use Rattle.std.specs.Prelude.{◌≡◌};
 ghost use Rattle.search.specs.Search.{search_of};
-ghost use Rattle.results.specs.Search.{value_number, told_number, answer_sector, search_result, is_card, card_number};
+ghost use Rattle.card_calls.specs.Search.{value_number, told_number, answer_sector, search_result, is_card, card_number};
 
-use evaluate::Answer;
 use kleene::Value;
+use refusal::Refusal;
 
 // A value as a number.
 fn value_number(value: Value) -> u64
@@ -20,22 +20,22 @@ fn value_number(value: Value) -> u64
 }
 
 // The value that is told, 0 where it is refused.
-fn told_number(answer: Answer) -> u64
+fn told_number(answer: Result<Value, Refusal>) -> u64
     ensures { result ≡ told_number answer }
 {
     match answer {
-        Answer::Told(value) => value_number(value),
-        Answer::Refused(_) => 0,
+        Ok(value) => value_number(value),
+        Err(_) => 0,
     }
 }
 
 // The sector that a refusal tells of, 0 where none does.
-fn answer_sector(answer: Answer) -> usize
+fn answer_sector(answer: Result<Value, Refusal>) -> usize
     ensures { result ≡ answer_sector answer }
 {
     match answer {
-        Answer::Told(_) => 0,
-        Answer::Refused(why) => refusal::told_sector(why),
+        Ok(_) => 0,
+        Err(why) => refusal::told_sector(why),
     }
 }
 

@@ -3,6 +3,7 @@ use mathlib.Core.Path.{◌≡◌, ap, ◌∙◌}
 use mathlib.Core.Bool.{true, false}
 use mathlib.Core.Logic.{◌≢◌}
 use native.Mathlib.Omega.{arith}
+use Rattle.std.specs.Prelude.{Err}
 use Rattle.buffer.specs.Bytes.{Bytes}
 use Rattle.buffer.proofs.Bytes.{same_false}
 use Rattle.refusal.specs.declared.Refusal.{Refusal}
@@ -27,7 +28,6 @@ use Rattle.file_laws.specs.Path.{Lacks}
 use Rattle.file_laws.proofs.Missing.{leaf_lacks}
 use Rattle.trees.specs.Again.{waiting_of}
 use Rattle.trees.proofs.Again.{held_one, absence-one}
-use Rattle.evaluate.specs.declared.Answer.TheVariants.{Refused}
 use Rattle.search_laws.proofs.Unreadable.{missing-is_its_number, missing-has_no_value}
 use Rattle.card_events.specs.Damaged.{NoCopyNotHeld, DamagedCardIsTwelve, DamagedLeafIsTwelve, MissingCardIsEleven, NoCopyNoValue}
 
@@ -63,7 +63,7 @@ module _ (h : Past) where
 pub damaged_card-is_twelve : DamagedCardIsTwelve
 damaged_card-is_twelve h page entry query o k a g r s l f c m =
     missing-is_its_number (log_then h).log (waiting_of (log_then h)) page entry query o a g r s l f m
-    ∙ ap (λ (x : Refusal). Refused x) (uncovered_twelve h (changed_uncovered (ledger_then h) k c))
+    ∙ ap (λ (x : Refusal). Err x) (uncovered_twelve h (changed_uncovered (ledger_then h) k c))
 
 pub damaged_leaf-is_twelve : DamagedLeafIsTwelve
 damaged_leaf-is_twelve h page entry query k a g r s l d z c n =
@@ -72,7 +72,7 @@ damaged_leaf-is_twelve h page entry query k a g r s l d z c n =
 pub missing-card-is_eleven : MissingCardIsEleven
 missing-card-is_eleven h page entry query a g r s l d z c n =
     missing-is_its_number (log_then h).log (waiting_of (log_then h)) page entry query 0 a g r s l (λ p b. absurd (omega arith)) (lacks h entry d z n)
-    ∙ ap (λ (x : Refusal). Refused x) (covered_eleven h c)
+    ∙ ap (λ (x : Refusal). Err x) (covered_eleven h c)
 
 pub no_copy_no_value : NoCopyNoValue
 no_copy_no_value h page entry query v l d z n = missing-has_no_value (log_then h).log (waiting_of (log_then h)) page entry query 0 v l (lacks h entry d z n)

@@ -1,5 +1,5 @@
 -- "a card of which a block is damaged or missing is refused by its number and never yes, no or not known": of blocks, at each moment of whatever happened.
-use Rattle.std.specs.Prelude.{◌≡◌, true, false, ◌≢◌, ℕ, ◌≤◌, ◌<◌, length}
+use Rattle.std.specs.Prelude.{◌≡◌, true, false, ◌≢◌, ℕ, ◌≤◌, ◌<◌, length, Ok, Err}
 use Rattle.std.proofs.Math.Option.{none}
 use Rattle.buffer.specs.Bytes.{Bytes}
 use Rattle.refusal.specs.declared.Refusal.TheVariants.{NotHeld}
@@ -17,7 +17,6 @@ use Rattle.file.specs.File.{page_allowed, entry_readable, located}
 use Rattle.file_laws.specs.Path.{Answers, Lacks}
 use Rattle.trees.specs.Again.{waiting_of}
 use Rattle.kleene.specs.declared.Value.{Value}
-use Rattle.evaluate.specs.declared.Answer.TheVariants.{Told, Refused}
 use Rattle.search.specs.Search.{longest_card, search_of}
 
 -- a block of which no wholly unchanged copy is there, and which isn't the empty block, is missing
@@ -31,7 +30,7 @@ DamagedCardIsTwelve = (h : Past) (page entry query : Bytes) (o k : ℕ)
     let w = waiting_of (log_then h) in
     lent_allowed (length log) (length w) ≡ true → page_allowed page ≡ true → entry_readable entry ≡ true → (entry_of entry).size ≤ longest_card → o < (entry_of entry).size
     → ((p : ℕ) → p < o → Answers (located log w page entry p)) → has k (ledger_then h).changed ≡ true
-    → Lacks (tape log w) (entry_of entry) o (entry_of entry).depth (score_of entry) → search_of log w page entry query ≡ Refused (not_known_then h)
+    → Lacks (tape log w) (entry_of entry) o (entry_of entry).depth (score_of entry) → search_of log w page entry query ≡ Err (not_known_then h)
 
 -- so is a card of one leaf of which no wholly unchanged copy is there
 abbrev pub DamagedLeafIsTwelve : Type 0
@@ -40,7 +39,7 @@ DamagedLeafIsTwelve = (h : Past) (page entry query : Bytes) (k : ℕ)
     let w = waiting_of (log_then h) in
     lent_allowed (length log) (length w) ≡ true → page_allowed page ≡ true → entry_readable entry ≡ true → (entry_of entry).size ≤ longest_card → 0 < (entry_of entry).size
     → (entry_of entry).depth ≡ 0 → score_of entry ≢ zero_score → has k (ledger_then h).changed ≡ true
-    → ((r : Row) → Unchanged h (type_at (entry_of entry) 0) (score_of entry) r → ⊥) → search_of log w page entry query ≡ Refused (not_known_then h)
+    → ((r : Row) → Unchanged h (type_at (entry_of entry) 0) (score_of entry) r → ⊥) → search_of log w page entry query ≡ Err (not_known_then h)
 
 -- and where no sector is uncovered it is 11
 abbrev pub MissingCardIsEleven : Type 0
@@ -49,9 +48,9 @@ MissingCardIsEleven = (h : Past) (page entry query : Bytes)
     let w = waiting_of (log_then h) in
     lent_allowed (length log) (length w) ≡ true → page_allowed page ≡ true → entry_readable entry ≡ true → (entry_of entry).size ≤ longest_card → 0 < (entry_of entry).size
     → (entry_of entry).depth ≡ 0 → score_of entry ≢ zero_score → any_uncovered (intact archive (ledger_then h)) (end archive (ledger_then h)) ≡ false
-    → ((r : Row) → Unchanged h (type_at (entry_of entry) 0) (score_of entry) r → ⊥) → search_of log w page entry query ≡ Refused NotHeld
+    → ((r : Row) → Unchanged h (type_at (entry_of entry) 0) (score_of entry) r → ⊥) → search_of log w page entry query ≡ Err NotHeld
 
 -- in neither case is it yes, no or not known, whatever page and query are lent
 abbrev pub NoCopyNoValue : Type 0
 NoCopyNoValue = (h : Past) (page entry query : Bytes) (v : Value) → 0 < (entry_of entry).size → (entry_of entry).depth ≡ 0 → score_of entry ≢ zero_score
-    → ((r : Row) → Unchanged h (type_at (entry_of entry) 0) (score_of entry) r → ⊥) → search_of (log_then h).log (waiting_of (log_then h)) page entry query ≢ Told v
+    → ((r : Row) → Unchanged h (type_at (entry_of entry) 0) (score_of entry) r → ⊥) → search_of (log_then h).log (waiting_of (log_then h)) page entry query ≢ Ok v

@@ -5,7 +5,7 @@
 ghost use Rattle.std.specs.Prelude.{◌≡◌};
 ghost use Rattle.difference.specs.Difference.{difference_of};
 ghost use Rattle.comparison.specs.Differences.{differences_of};
-ghost use Rattle.results.specs.Changes.{difference_packed, counts, compared_result};
+ghost use Rattle.change_calls.specs.Changes.{difference_packed, counts, compared_result};
 
 use difference::Difference;
 use walk_calls::ABOVE_VISITS;
@@ -15,12 +15,14 @@ use walk_calls::ABOVE_VISITS;
 pub fn difference(first: &[u8], second: &[u8]) -> u64
     ensures { result ≡ difference_packed (difference_of first.now second.now) }
 {
-    let found = difference::locate(first, second);
-    match found {
-        Difference::First { at } => 256 * (1 + 4 * (at as u64)),
-        Difference::Second { at } => 256 * (2 + 4 * (at as u64)),
-        Difference::Nowhere => 0,
-        Difference::Refused(why) => refusal::number(why) as u64,
+    let located = difference::locate(first, second);
+    match located {
+        Ok(found) => match found {
+            Difference::First { at } => 256 * (1 + 4 * (at as u64)),
+            Difference::Second { at } => 256 * (2 + 4 * (at as u64)),
+            Difference::Nowhere => 0,
+        },
+        Err(why) => refusal::number(why) as u64,
     }
 }
 

@@ -31,16 +31,16 @@ pub fn differences<'a>(
     ensures { result ≡ differences_of log.now waiting.now x.now y.now allowance }
 {
     if !lookup::are_allowed(log.len(), waiting.len()) {
-        return open_pair::refused(Refusal::LogLength);
+        return compare_below::refused(Refusal::LogLength);
     }
     if MOST_ALLOWANCE < allowance {
-        return open_pair::refused(Refusal::Allowance);
+        return compare_below::refused(Refusal::Allowance);
     }
     if !is_directory(x) {
-        return open_pair::refused(Refusal::Entry);
+        return compare_below::refused(Refusal::Entry);
     }
     if !is_directory(y) {
-        return open_pair::refused(Refusal::Entry);
+        return compare_below::refused(Refusal::Entry);
     }
     let end = lookup::border(log, waiting);
     compare_below::compare_entries(log, end, waiting, 0, x, y, allowance as usize)

@@ -13,10 +13,10 @@ use block::Block;
 use comparison::Compared;
 use entry::Entry;
 use open_pair::Pair;
+pub use open_pair::refused;
 use refusal::Refusal;
 use sector_number::SectorNumber;
 use verdict::Verdict;
-use visit::End;
 
 // How many positions a block of a size has at a level.
 fn positions_of(level: usize, size: usize) -> usize
@@ -34,12 +34,7 @@ fn positions_of_both(level: usize, a: usize, b: usize) -> usize
     requires { (a ≤ longest) × (b ≤ longest) }
     ensures { result ≡ max (positions level a) (positions level b) }
 {
-    let m = positions_of(level, a);
-    let n = positions_of(level, b);
-    if m <= n {
-        return n;
-    }
-    m
+    positions_of(level, a).max(positions_of(level, b))
 }
 
 // Compares two entries in directories at a nest.
@@ -61,12 +56,12 @@ pub fn compare_entries<'a>(
         Verdict::Skip => Compared {
             count: 0,
             units: 0,
-            end: End::Done,
+            end: Ok(()),
         },
         Verdict::IllFormed => Compared {
             count: 0,
             units: 0,
-            end: End::Refused(Refusal::Entry),
+            end: Err(Refusal::Entry),
         },
         Verdict::Open => {
             let e = entry::entry_at(x, 0);
@@ -85,7 +80,7 @@ pub fn compare_entries<'a>(
         Verdict::Differ => Compared {
             count: 1,
             units: 0,
-            end: End::Done,
+            end: Ok(()),
         },
     }
 }
@@ -138,25 +133,23 @@ fn compare_below<'a>(
     let most = positions_of_both(level, b.size, c.size);
     let mut count: usize = 0;
     let mut units: usize = 0;
-    let mut i: usize = 0;
-    while i < most {
+    for i in 0..most {
         let r = compare_position(log, end, waiting, e, level, nest, b, c, i, left - units);
         let ended = r.end;
         count += r.count;
         units += r.units;
-        let End::Done = ended else {
+        let Ok(()) = ended else {
             return Compared {
                 count: count,
                 units: units,
                 end: ended,
             };
         };
-        i += 1;
     }
     Compared {
         count: count,
         units: units,
-        end: End::Done,
+        end: Ok(()),
     }
 }
 

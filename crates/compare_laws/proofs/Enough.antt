@@ -11,18 +11,18 @@ use Rattle.refusal.specs.declared.Refusal.TheVariants.{Nest, Spent}
 use Rattle.entry.specs.declared.Entry.{Entry}
 use Rattle.entry.specs.Entry.{entry_of, score_of}
 use Rattle.tree.specs.Tree.{pointer}
-use Rattle.visit.specs.declared.End.{End}
-use Rattle.visit.specs.declared.End.TheVariants.{Done, Refused}
 use Rattle.verdict.specs.Verdict.{verdict}
 use Rattle.pair.specs.Opened.{opened}
 use Rattle.comparison.specs.declared.Compared.{Compared}
 use Rattle.comparison.specs.Compared.{none, refused, one_unit, and_then, in_order}
 use Rattle.comparison.specs.Compare.{Blocks, by_verdict, listed, position_by, positions, spending, below_by, pair_by, compare_blocks}
 use Rattle.compare_laws.specs.Enough.{Enough}
+use Rattle.std.specs.Prelude.{Ok, Err, Result, ⊤}
+use Rattle.refusal.specs.declared.Refusal.{Refusal}
 
-and-then-same : (e : End) (m n : ℕ) (k k' : ℕ → ℕ → Compared) → ((m n : ℕ) → k m n ≡ k' m n) → and_then e m n k ≡ and_then e m n k'
-and-then-same Done m n k k' h = h m n
-and-then-same (Refused w) m n k k' h = refl
+and-then-same : (e : Result ⊤ Refusal) (m n : ℕ) (k k' : ℕ → ℕ → Compared) → ((m n : ℕ) → k m n ≡ k' m n) → and_then e m n k ≡ and_then e m n k'
+and-then-same (Ok tt) m n k k' h = h m n
+and-then-same (Err w) m n k k' h = refl
 
 -- two ways to compare a position that agree within the allowance give the same of any positions
 order_same : (at at' : ℕ → ℕ → Compared) (left : ℕ) → ((i a : ℕ) → a ≤ left → at i a ≡ at' i a) → (k i m n : ℕ) → in_order at left k i m n ≡ in_order at' left k i m n

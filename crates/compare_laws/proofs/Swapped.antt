@@ -14,7 +14,6 @@ use Rattle.sector_log.specs.Parts.{tape}
 use Rattle.entry.specs.declared.Entry.{Entry}
 use Rattle.entry.specs.Entry.{entry_of, score_of}
 use Rattle.tree.specs.Tree.{type_at, count_at, pointer}
-use Rattle.visit.specs.declared.End.TheVariants.{Done}
 use Rattle.walk.specs.Walk.{most_allowance}
 use Rattle.walk_laws.proofs.Found.{not_done}
 use Rattle.verdict.specs.declared.Verdict.{Verdict}
@@ -31,10 +30,11 @@ use Rattle.compare_laws.specs.Swapped.{SwappedAlike}
 use Rattle.compare_laws.specs.Again.{ComparedAgain}
 use Rattle.compare_laws.proofs.Done.{Read, read_done, and-then-done}
 use Rattle.bedrock.proofs.Choices.{and_comm}
+use Rattle.std.specs.Prelude.{Ok}
 
 -- c, if it ends with number 0, is c' too
 abbrev Same : Compared → Compared → Type 0
-Same c c' = c.end ≡ Done → c' ≡ c
+Same c c' = c.end ≡ Ok tt → c' ≡ c
 
 refused-same : (w : Refusal) (c : Compared) → Same (refused w) c
 refused-same w c e = not_done w e

@@ -21,7 +21,6 @@ use Rattle.entry.specs.declared.Entry.{Entry}
 use Rattle.entry.specs.Entry.{entry_of, score_of}
 use Rattle.tree.specs.Tree.{type_at, pointer}
 use Rattle.tree.proofs.Pointers.{pointer-past}
-use Rattle.visit.specs.declared.End.TheVariants.{Done}
 use Rattle.walk.specs.Walk.{most_allowance}
 use Rattle.walk_laws.proofs.Found.{not_done}
 use Rattle.verdict.specs.declared.Verdict.{Verdict}
@@ -36,6 +35,7 @@ use Rattle.comparison.specs.Compare.{Blocks, by_verdict, entries_by, listed, pos
 use Rattle.comparison.specs.Differences.{directory_allowed, differences_in}
 use Rattle.compare_laws.specs.Unchanged.{Unchanged, UnchangedBlocks, same-entry, both-inactive, same-below, same-score, leaves, pointers, NoneCountedUnchanged, UnchangedNoneCounted}
 use Rattle.compare_laws.proofs.Done.{read_done, spending-done, each_none, none-counted}
+use Rattle.std.specs.Prelude.{Ok}
 
 -- ---- past the end of both
 
@@ -78,7 +78,7 @@ record BothRead (B : Blocks) (log : Bytes) (e : Entry) (level nest : ℕ) (s t :
   second-read : ReadAs log e level t second
   compared_as : c ≡ one_unit (below_by B e level nest first.bytes second.bytes (left - 1))
 
-both_read : (B : Blocks) (log : Bytes) (e : Entry) (level nest : ℕ) (s t : Bytes) (left : ℕ) → same s t ≡ false → (pair_by B log e level nest s t left).end ≡ Done
+both_read : (B : Blocks) (log : Bytes) (e : Entry) (level nest : ℕ) (s t : Bytes) (left : ℕ) → same s t ≡ false → (pair_by B log e level nest s t left).end ≡ Ok tt
     → BothRead B log e level nest s t left (pair_by B log e level nest s t left)
 both_read B log e level nest s t left q d =
     let w : Bytes → Bytes → Compared = λ b c. below_by B e level nest b c (left - 1) in
@@ -100,13 +100,13 @@ both_read B log e level nest s t left q d =
 
 -- B tells, with less than what is left, that blocks are unchanged
 abbrev Tells : Blocks → Bytes → ℕ → Type 0
-Tells B log left = (e : Entry) (l n : ℕ) (s t : Bytes) (a : ℕ) → a < left → (B e l n s t a).end ≡ Done → (B e l n s t a).count ≡ 0 → UnchangedBlocks log e l s t
+Tells B log left = (e : Entry) (l n : ℕ) (s t : Bytes) (a : ℕ) → a < left → (B e l n s t a).end ≡ Ok tt → (B e l n s t a).count ≡ 0 → UnchangedBlocks log e l s t
 
 entries-unchanged : (B : Blocks) (log : Bytes) (left : ℕ) → Tells B log left → (nest : ℕ) (x y : Bytes) (a : ℕ) → a < left
-    → (entries_by B nest x y a).end ≡ Done → (entries_by B nest x y a).count ≡ 0 → Unchanged log x y
+    → (entries_by B nest x y a).end ≡ Ok tt → (entries_by B nest x y a).count ≡ 0 → Unchanged log x y
 entries-unchanged B log left f nest x y a l d z = go (verdict x y) refl d z
   where
-    go : (v : Verdict) → verdict x y ≡ v → (by_verdict v (B (entry_of x) (entry_of x).depth (nest + 1) (score_of x) (score_of y) a)).end ≡ Done
+    go : (v : Verdict) → verdict x y ≡ v → (by_verdict v (B (entry_of x) (entry_of x).depth (nest + 1) (score_of x) (score_of y) a)).end ≡ Ok tt
         → (by_verdict v (B (entry_of x) (entry_of x).depth (nest + 1) (score_of x) (score_of y) a)).count ≡ 0 → Unchanged log x y
     go Skip q d z = skipped (skip_says x y q)
       where
@@ -118,7 +118,7 @@ entries-unchanged B log left f nest x y a l d z = go (verdict x y) refl d z
     go Differ q d z = absurd (omega arith)
 
 module _ (B : Blocks) (log : Bytes) (e : Entry) (nest : ℕ) (s t : Bytes) (left : ℕ) (f : Tells B log left) where
-  leaves-unchanged : same s t ≡ false → (pair_by B log e 0 nest s t left).end ≡ Done → (pair_by B log e 0 nest s t left).count ≡ 0 → UnchangedBlocks log e 0 s t
+  leaves-unchanged : same s t ≡ false → (pair_by B log e 0 nest s t left).end ≡ Ok tt → (pair_by B log e 0 nest s t left).count ≡ 0 → UnchangedBlocks log e 0 s t
   leaves-unchanged q d z =
       let R = both_read B log e 0 nest s t left q d in
       let b = R.first.bytes in
@@ -131,7 +131,7 @@ module _ (B : Blocks) (log : Bytes) (e : Entry) (nest : ℕ) (s t : Bytes) (left
       n 0 0 0 (ap (λ (x : Compared). x.end) (sym R.compared_as) ∙ d) (ap (λ (x : Compared). x.count) (sym R.compared_as) ∙ z) p (omega arith) (omega arith))
       (λ p l. same-entry (listed-past b c p l)))
 
-  scores-unchanged : (d : ℕ) → same s t ≡ false → (pair_by B log e (suc d) nest s t left).end ≡ Done → (pair_by B log e (suc d) nest s t left).count ≡ 0
+  scores-unchanged : (d : ℕ) → same s t ≡ false → (pair_by B log e (suc d) nest s t left).end ≡ Ok tt → (pair_by B log e (suc d) nest s t left).count ≡ 0
       → UnchangedBlocks log e (suc d) s t
   scores-unchanged d q x z =
       let R = both_read B log e (suc d) nest s t left q x in
@@ -147,16 +147,16 @@ module _ (B : Blocks) (log : Bytes) (e : Entry) (nest : ℕ) (s t : Bytes) (left
       n 0 0 0 (ap (λ (x : Compared). x.end) (sym R.compared_as) ∙ x) (ap (λ (x : Compared). x.count) (sym R.compared_as) ∙ z) p (omega arith) (omega arith))
       (λ p l. same-score (pointers-past d b c p (not-ragged (suc d) (length b) above R.first_read.has-whole-scores) (not-ragged (suc d) (length c) above R.second-read.has-whole-scores) l)))
 
-  pair_unchanged : (level : ℕ) → (pair_by B log e level nest s t left).end ≡ Done → (pair_by B log e level nest s t left).count ≡ 0 → UnchangedBlocks log e level s t
+  pair_unchanged : (level : ℕ) → (pair_by B log e level nest s t left).end ≡ Ok tt → (pair_by B log e level nest s t left).count ≡ 0 → UnchangedBlocks log e level s t
   pair_unchanged level d z = go (same s t) refl level d z
     where
-      go : (b : Bool) → same s t ≡ b → (level : ℕ) → (pair_by B log e level nest s t left).end ≡ Done → (pair_by B log e level nest s t left).count ≡ 0 → UnchangedBlocks log e level s t
+      go : (b : Bool) → same s t ≡ b → (level : ℕ) → (pair_by B log e level nest s t left).end ≡ Ok tt → (pair_by B log e level nest s t left).count ≡ 0 → UnchangedBlocks log e level s t
       go true q level d z = same-score (same_true s t q)
       go false q zero d z = leaves-unchanged q d z
       go false q (suc l) d z = scores-unchanged l q d z
 
 blocks-unchanged : (f : ℕ) (log : Bytes) (e : Entry) (level nest : ℕ) (s t : Bytes) (left : ℕ) → left < f
-    → (compare_blocks f log e level nest s t left).end ≡ Done → (compare_blocks f log e level nest s t left).count ≡ 0 → UnchangedBlocks log e level s t
+    → (compare_blocks f log e level nest s t left).end ≡ Ok tt → (compare_blocks f log e level nest s t left).count ≡ 0 → UnchangedBlocks log e level s t
 unfolding compare_blocks
 blocks-unchanged zero log e level nest s t left h d z = absurd (omega arith)
 blocks-unchanged (suc f) log e level nest s t left h d z =
@@ -166,10 +166,10 @@ blocks-unchanged (suc f) log e level nest s t left h d z =
 
 -- B counts nothing of blocks that are unchanged
 abbrev CountsNone : Blocks → Bytes → Type 0
-CountsNone B log = (e : Entry) (l n : ℕ) (s t : Bytes) (a : ℕ) → UnchangedBlocks log e l s t → (B e l n s t a).end ≡ Done → (B e l n s t a).count ≡ 0
+CountsNone B log = (e : Entry) (l n : ℕ) (s t : Bytes) (a : ℕ) → UnchangedBlocks log e l s t → (B e l n s t a).end ≡ Ok tt → (B e l n s t a).count ≡ 0
 
 module _ (B : Blocks) (log : Bytes) (f : CountsNone B log) where
-  entries_none : (nest : ℕ) (x y : Bytes) (a : ℕ) → Unchanged log x y → (entries_by B nest x y a).end ≡ Done → (entries_by B nest x y a).count ≡ 0
+  entries_none : (nest : ℕ) (x y : Bytes) (a : ℕ) → Unchanged log x y → (entries_by B nest x y a).end ≡ Ok tt → (entries_by B nest x y a).count ≡ 0
   entries_none nest x y a (same-entry e) d =
       let v : verdict x y ≡ Skip = ap (λ (z : Bytes). verdict x z) (sym e) ∙ equal_skip x in
       ap (λ (v : Verdict). (by_verdict v (B (entry_of x) (entry_of x).depth (nest + 1) (score_of x) (score_of y) a)).count) v
@@ -181,7 +181,7 @@ module _ (B : Blocks) (log : Bytes) (f : CountsNone B log) where
       ∙ f (entry_of x) (entry_of x).depth (nest + 1) (score_of x) (score_of y) a u (ap (λ (v : Verdict). (by_verdict v c).end) (sym q) ∙ d)
 
   below_none : (e : Entry) (level nest : ℕ) (s t : Bytes) (r q : Row) (left : ℕ) → held log (type_at e level) s ≡ some r → held log (type_at e level) t ≡ some q
-      → same s t ≡ false → UnchangedBlocks log e level s t → (below_by B e level nest r.bytes q.bytes left).end ≡ Done
+      → same s t ≡ false → UnchangedBlocks log e level s t → (below_by B e level nest r.bytes q.bytes left).end ≡ Ok tt
       → (below_by B e level nest r.bytes q.bytes left).count ≡ 0
   below_none e level nest s t r q left hr hq n (same-score p) d = absurd (true≢false (sym (ap (λ (z : Bytes). same s z) (sym p) ∙ same_refl s) ∙ n))
   below_none e zero nest s t r q left hr hq n (leaves r' q' hr' hq' g) d =
@@ -200,7 +200,7 @@ module _ (B : Blocks) (log : Bytes) (f : CountsNone B log) where
       (ap (λ (c : Compared). c.end) (sym k) ∙ z))
       _ 0 0 0 d
 
-  pair_none : (e : Entry) (level nest : ℕ) (s t : Bytes) (left : ℕ) → UnchangedBlocks log e level s t → (pair_by B log e level nest s t left).end ≡ Done
+  pair_none : (e : Entry) (level nest : ℕ) (s t : Bytes) (left : ℕ) → UnchangedBlocks log e level s t → (pair_by B log e level nest s t left).end ≡ Ok tt
       → (pair_by B log e level nest s t left).count ≡ 0
   pair_none e level nest s t left u d = go (same s t) refl
     where
@@ -220,14 +220,14 @@ blocks-none (suc f) log e level nest s t left u d =
 
 -- ---- after the tests
 
-tests_passed : (lent a b : Bool) (c : Compared) → (cond lent (cond a (refused Allowance) (cond b c (refused EntryRefused))) (refused LogLength)).end ≡ Done
+tests_passed : (lent a b : Bool) (c : Compared) → (cond lent (cond a (refused Allowance) (cond b c (refused EntryRefused))) (refused LogLength)).end ≡ Ok tt
     → cond lent (cond a (refused Allowance) (cond b c (refused EntryRefused))) (refused LogLength) ≡ c
 tests_passed true true b c d = not_done _ d
 tests_passed true false true c d = refl
 tests_passed true false false c d = not_done _ d
 tests_passed false a b c d = not_done _ d
 
-passed : (lent : Bool) (log x y : Bytes) (n : ℕ) → (differences_in lent log x y n).end ≡ Done → differences_in lent log x y n ≡ compare_entries (n + 1) log 0 x y n
+passed : (lent : Bool) (log x y : Bytes) (n : ℕ) → (differences_in lent log x y n).end ≡ Ok tt → differences_in lent log x y n ≡ compare_entries (n + 1) log 0 x y n
 unfolding differences_in
 passed lent log x y n d = tests_passed lent (ltb most_allowance n) (directory_allowed x && directory_allowed y) (compare_entries (n + 1) log 0 x y n) d
 

@@ -1,5 +1,5 @@
 -- What it means that no difference was counted: by look-up alone, without any count of calls or units.
-use Rattle.std.specs.Prelude.{◌≡◌, false, ℕ, zero, suc}
+use Rattle.std.specs.Prelude.{◌≡◌, false, ℕ, zero, suc, Ok}
 use Rattle.std.proofs.Math.Option.{some}
 use Rattle.buffer.specs.Bytes.{Bytes}
 use Rattle.block.specs.Block.{Row}
@@ -8,7 +8,6 @@ use Rattle.sector_log.specs.Parts.{tape}
 use Rattle.entry.specs.declared.Entry.{Entry}
 use Rattle.entry.specs.Entry.{entry_of, score_of}
 use Rattle.tree.specs.Tree.{type_at, pointer}
-use Rattle.visit.specs.declared.End.TheVariants.{Done}
 use Rattle.verdict.specs.declared.Verdict.TheVariants.{Open}
 use Rattle.verdict.specs.Verdict.{verdict}
 use Rattle.comparison.specs.Compare.{listed}
@@ -33,9 +32,9 @@ mutual
 
 -- a comparison that ends with number 0 counts nothing exactly if the two trees are unchanged
 abbrev pub NoneCountedUnchanged : Type 0
-NoneCountedUnchanged = (log waiting x y : Bytes) (allowance : ℕ) → (differences_of log waiting x y allowance).end ≡ Done
+NoneCountedUnchanged = (log waiting x y : Bytes) (allowance : ℕ) → (differences_of log waiting x y allowance).end ≡ Ok tt
     → (differences_of log waiting x y allowance).count ≡ 0 → Unchanged (tape log waiting) x y
 
 abbrev pub UnchangedNoneCounted : Type 0
-UnchangedNoneCounted = (log waiting x y : Bytes) (allowance : ℕ) → (differences_of log waiting x y allowance).end ≡ Done
+UnchangedNoneCounted = (log waiting x y : Bytes) (allowance : ℕ) → (differences_of log waiting x y allowance).end ≡ Ok tt
     → Unchanged (tape log waiting) x y → (differences_of log waiting x y allowance).count ≡ 0

@@ -15,8 +15,6 @@ use Rattle.sector_log.specs.LookUp.{held}
 use Rattle.entry.specs.declared.Entry.{Entry}
 use Rattle.entry.specs.Entry.{entry_of, well_formed, score_of}
 use Rattle.tree.specs.Tree.{type_at, count_at, pointer}
-use Rattle.visit.specs.declared.End.{End}
-use Rattle.visit.specs.declared.End.TheVariants.{Done, Refused}
 use Rattle.verdict.specs.declared.Verdict.{Verdict}
 use Rattle.verdict.specs.declared.Verdict.TheVariants.{Skip, IllFormed, Open, Differ}
 use Rattle.verdict.specs.Verdict.{verdict}
@@ -25,6 +23,7 @@ use Rattle.verdict.proofs.Verdicts.{open_says}
 use Rattle.comparison.specs.declared.Compared.{Compared}
 use Rattle.comparison.specs.Compared.{refused, and_then, in_order}
 use Rattle.comparison.specs.Compare.{Blocks, by_verdict, entries_by, listed, position_by, positions, spending, below_by, pair_by, compare_blocks, compare_entries, compare_position, most_leaf}
+use Rattle.std.specs.Prelude.{Ok, Err, Result, ⊤}
 
 -- no more units than `left`, and `more` differences besides 1,433 for each unit
 abbrev pub Within : ℕ → ℕ → Compared → Type 0
@@ -32,9 +31,9 @@ Within left more c = (c.units ≤ left) × (c.count ≤ 1433 * c.units + more)
 
 -- ---- positions in order
 
-and-then-within : (left more : ℕ) (e : End) (m n : ℕ) (k : ℕ → ℕ → Compared) → n ≤ left → m ≤ 1433 * n + more → Within left more (k m n) → Within left more (and_then e m n k)
-and-then-within left more Done m n k a b h = h
-and-then-within left more (Refused w) m n k a b h = (a, b)
+and-then-within : (left more : ℕ) (e : Result ⊤ Refusal) (m n : ℕ) (k : ℕ → ℕ → Compared) → n ≤ left → m ≤ 1433 * n + more → Within left more (k m n) → Within left more (and_then e m n k)
+and-then-within left more (Ok tt) m n k a b h = h
+and-then-within left more (Err w) m n k a b h = (a, b)
 
 order-within : (at : ℕ → ℕ → Compared) (left x : ℕ) → ((i a : ℕ) → Within a x (at i a)) → (k i m n j : ℕ) → n ≤ left → m ≤ 1433 * n + j
     → Within left (j + x * k) (in_order at left k i m n)

@@ -1,12 +1,11 @@
 -- Two directory trees compared, of "What changed between two days".
-use Rattle.std.specs.Prelude.{cond, ℕ, zero, suc, ◌+◌, ◌-◌, ◌*◌, ◌/◌, max, eqb, ltb, length, drop}
+use Rattle.std.specs.Prelude.{cond, ℕ, zero, suc, ◌+◌, ◌-◌, ◌*◌, ◌/◌, max, eqb, ltb, length, drop, Ok}
 use Rattle.buffer.specs.Bytes.{Bytes, same}
 use Rattle.refusal.specs.declared.Refusal.TheVariants.{Entry as EntryRefused, Nest, Spent}
 use Rattle.sector.specs.Sector.{filled}
 use Rattle.entry.specs.declared.Entry.{Entry}
 use Rattle.entry.specs.Entry.{entry_of, score_of}
 use Rattle.tree.specs.Tree.{pointer}
-use Rattle.visit.specs.declared.End.TheVariants.{Done}
 use Rattle.descent.specs.Descent.{entries_of}
 use Rattle.verdict.specs.declared.Verdict.{Verdict}
 use Rattle.verdict.specs.declared.Verdict.TheVariants.{Skip, IllFormed, Open, Differ}
@@ -24,7 +23,7 @@ abbrev pub by_verdict : Verdict → Compared → Compared
 by_verdict Skip c = none
 by_verdict IllFormed c = refused EntryRefused
 by_verdict Open c = c
-by_verdict Differ c = compared 1 0 Done
+by_verdict Differ c = compared 1 0 (Ok tt)
 
 -- two entries in directories at a nest: the blocks of opened ones are one deeper, "the two given entries' blocks at nest 1"
 abbrev pub entries_by : Blocks → ℕ → Bytes → Bytes → ℕ → Compared

@@ -1,12 +1,12 @@
 // Two directory trees compared, as a definition. Nothing here runs.
 #![tactic(auto)]
 
-use visit::End;
+use refusal::Refusal;
 
 // What a comparison answers: the differences counted, the units spent, and how it ended.
 #[derive(Clone, Copy)]
 pub struct Compared {
     pub count: usize,
     pub units: usize,
-    pub end: End,
+    pub end: Result<(), Refusal>,
 }

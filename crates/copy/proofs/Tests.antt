@@ -7,9 +7,9 @@ use Rattle.buffer.specs.Bytes.{Bytes}
 use Rattle.refusal.specs.declared.Refusal.TheVariants.{LogLength, Allowance, Date}
 use Rattle.sector.specs.Sector.{is_date}
 use Rattle.sector_log.specs.LookUp.{log_allowed, lent_allowed}
-use Rattle.visit.specs.declared.End.TheVariants.{Refused as Stopped}
 use Rattle.walk.specs.Walk.{most_allowance}
 use Rattle.copying.specs.Copy.{Copied, stopped, copy_root, copy_in, copy_allowed}
+use Rattle.std.specs.Prelude.{Err}
 
 pub parts-refused : (m w k : ℕ) → lent_allowed m w ≡ false → false ≡ copy_allowed m w k
 unfolding copy_allowed
@@ -20,16 +20,16 @@ unfolding copy_allowed
 parts-allowed m w k r e h = rw e h
 
 module _ (lent : Bool) (log date score : Bytes) (allowance : ℕ) (s₀ : Bytes) (a : Bool) (e : a ≡ lent) where
-  pub log-not-allowed : a ≡ false → stopped 0 (Stopped LogLength) s₀ ≡ copy_in lent log date score allowance s₀
+  pub log-not-allowed : a ≡ false → stopped 0 (Err LogLength) s₀ ≡ copy_in lent log date score allowance s₀
   unfolding copy_in
   log-not-allowed q = rw (sym e ∙ q)
 
   module _ (q : a ≡ true) (d : Bool) (ed : d ≡ is_date date) where
-    pub not-a-date : d ≡ false → stopped 0 (Stopped Date) s₀ ≡ copy_in lent log date score allowance s₀
+    pub not-a-date : d ≡ false → stopped 0 (Err Date) s₀ ≡ copy_in lent log date score allowance s₀
     unfolding copy_in
     not-a-date z = rw (sym e ∙ q, sym ed ∙ z)
 
-    pub allowance_too_large : d ≡ true → most_allowance < allowance → stopped 0 (Stopped Allowance) s₀ ≡ copy_in lent log date score allowance s₀
+    pub allowance_too_large : d ≡ true → most_allowance < allowance → stopped 0 (Err Allowance) s₀ ≡ copy_in lent log date score allowance s₀
     unfolding copy_in
     allowance_too_large z h = rw (sym e ∙ q, sym ed ∙ z, lt-ltb most_allowance allowance h)
 

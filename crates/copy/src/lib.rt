@@ -6,7 +6,7 @@ ghost use Rattle.std.specs.Prelude.{◌≡◌};
 ghost use Rattle.copying.specs.Copy.{copied, copy_allowed, copy_of};
 
 use refusal::Refusal;
-use visit::{End, Walked};
+use visit::Walked;
 use walk::MOST_ALLOWANCE;
 
 // Test 3 of a copy, by the lengths of all that is lent as sectors.
@@ -33,19 +33,19 @@ pub fn copy<'a>(
     if !are_allowed(log.len(), waiting.len(), second.len()) {
         return Walked {
             visits: 0,
-            end: End::Refused(Refusal::LogLength),
+            end: Err(Refusal::LogLength),
         };
     }
     if !sector::is_date(date) {
         return Walked {
             visits: 0,
-            end: End::Refused(Refusal::Date),
+            end: Err(Refusal::Date),
         };
     }
     if MOST_ALLOWANCE < allowance {
         return Walked {
             visits: 0,
-            end: End::Refused(Refusal::Allowance),
+            end: Err(Refusal::Allowance),
         };
     }
     let end = lookup::border(log, waiting);

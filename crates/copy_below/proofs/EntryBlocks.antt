@@ -7,13 +7,9 @@ use Rattle.refusal.specs.declared.Refusal.{Refusal}
 use Rattle.block.specs.declared.Block.{Block}
 use Rattle.block.specs.Log.{bytes_of}
 use Rattle.reader.proofs.Pieces.{length-bytes}
-use Rattle.sector_log.specs.declared.Look.{Look}
-use Rattle.sector_log.specs.declared.Look.TheVariants.{Found, Refused}
 use Rattle.entry.specs.declared.Entry.{Entry}
 use Rattle.visit.specs.declared.Walked.{Walked}
 use Rattle.visit.specs.declared.Met.{Met}
-use Rattle.visit.specs.declared.End.{End}
-use Rattle.visit.specs.declared.End.TheVariants.{Refused as Stopped}
 use Rattle.tree.specs.Tree.{piece, pointer, type_at, count_at}
 use Rattle.tree.proofs.Pointers.{pointer-piece}
 use Rattle.visit.specs.Met.{met_of, end_of, answer_of}
@@ -26,20 +22,21 @@ use Rattle.descent.proofs.EntryBlocks.{by_part, block-known}
 use Rattle.copying.specs.Copy.{Copied, copied, stopped, kept, copy_visit, copy_in_order, copy_directory, copy_entry}
 use Rattle.copying.specs.Parts.{copy_scores, copy_below}
 use Rattle.copy_below.proofs.InOrder.{copy_pieces}
+use Rattle.std.specs.Prelude.{Ok, Err, Result, ⊤}
 
 -- ---- a visit
 
 module _ (log date : Bytes) (nest left kind count : ℕ) (score : Bytes) (m : Met) (e : m ≡ met_of log nest left kind count score) (below : Bytes → Bytes → Copied)
     (s : Bytes) where
-  pub refused_visit : (why : Refusal) → m.look ≡ Refused why → (r : Walked) → r ≡ answer_of m → copied r s ≡ copy_visit log date nest left kind count score below s
+  pub refused_visit : (why : Refusal) → m.look ≡ Err why → (r : Walked) → r ≡ answer_of m → copied r s ≡ copy_visit log date nest left kind count score below s
   unfolding copy_visit
   refused_visit why d r er =
-      ap (λ (w : Walked). copied w s) (er ∙ ap (λ (l : Look). record { visits = m.spent; end = end_of l }) d)
-      ∙ sym (any_refused log nest left kind count score m e (λ n y. stopped n (Stopped y) s) (λ r. kept date kind r.bytes (below r.bytes s)) why d)
+      ap (λ (w : Walked). copied w s) (er ∙ ap (λ (l : Result Block Refusal). record { visits = m.spent; end = end_of l }) d)
+      ∙ sym (any_refused log nest left kind count score m e (λ n y. stopped n (Err y) s) (λ r. kept date kind r.bytes (below r.bytes s)) why d)
 
-  pub found_visit : (p : Block) → m.look ≡ Found p → kept date kind (bytes_of log p) (below (bytes_of log p) s) ≡ copy_visit log date nest left kind count score below s
+  pub found_visit : (p : Block) → m.look ≡ Ok p → kept date kind (bytes_of log p) (below (bytes_of log p) s) ≡ copy_visit log date nest left kind count score below s
   unfolding copy_visit
-  found_visit p d = sym (any_found log nest left kind count score m e (λ n y. stopped n (Stopped y) s) (λ b. kept date kind b (below b s)) p d)
+  found_visit p d = sym (any_found log nest left kind count score m e (λ n y. stopped n (Err y) s) (λ b. kept date kind b (below b s)) p d)
 
 -- ---- a block of an entry
 
@@ -63,14 +60,14 @@ module _ (log date : Bytes) (e : Entry) (level nest : ℕ) (score : Bytes) (left
   visit_is-entry c k (suc f) h = k f (omega arith)
 
   module _ (m : Met) (em : m ≡ met_of log nest left (type_at e level) (count_at e level) score) where
-    pub refused_ends : (why : Refusal) → m.look ≡ Refused why → (r : Walked) → r ≡ answer_of m → Entered log date e level nest score left s₀ r s₀
+    pub refused_ends : (why : Refusal) → m.look ≡ Err why → (r : Walked) → r ≡ answer_of m → Entered log date e level nest score left s₀ r s₀
     refused_ends why d r er = (
       rw er (spent-within log nest left (type_at e level) (count_at e level) score m em),
       visit_is-entry (copied r s₀)
           (λ g h. refused_visit log date nest left (type_at e level) (count_at e level) score m em (λ b s. copy_below g log date e level nest (left - 1) b s) s₀ why d r er),
     )
 
-    module _ (b : Block) (d : m.look ≡ Found b) where
+    module _ (b : Block) (d : m.look ≡ Ok b) where
       pub kept-behind : (w : Walked) (s₁ : Bytes) → Below log date e level nest (left - 1) (bytes_of log b) s₀ w s₁
           → (kind : ℕ) → kind ≡ type_at e level → (r : Walked) (s : Bytes) → r.visits ≡ w.visits + 1
           → copied r s ≡ kept date kind (bytes_of log b) (copied w s₁) → Entered log date e level nest score left s₀ r s
@@ -91,7 +88,7 @@ module _ (log date : Bytes) (e : Entry) (level nest left : ℕ) (b : Block) (sho
   part_below q f = by_part e level log b short q (λ x. stopped 0 x s₀) _ _
 
   module _ {d : Part} (q : d ≡ below_of e level b.size) where
-    pub below-ended : (x : End) → d ≡ Ends x → Below log date e level nest left (bytes_of log b) s₀ (record { visits = 0; end = x }) s₀
+    pub below-ended : (x : Result ⊤ Refusal) → d ≡ Ends x → Below log date e level nest left (bytes_of log b) s₀ (record { visits = 0; end = x }) s₀
     below-ended x h = (omega arith, λ f l. sym (part_below (sym h ∙ q) f))
 
     pub below-directory : d ≡ Entries → (r : Walked) (s : Bytes)

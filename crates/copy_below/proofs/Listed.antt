@@ -10,7 +10,6 @@ use Rattle.reader.proofs.Pieces.{length-bytes}
 use Rattle.entry.specs.declared.Entry.{Entry}
 use Rattle.entry.specs.Entry.{score_of}
 use Rattle.visit.specs.declared.Walked.{Walked}
-use Rattle.visit.specs.declared.End.{End}
 use Rattle.descent.specs.declared.Judged.TheVariants.{Ends, Visited}
 use Rattle.descent.specs.Descent.{nest_of, entries_of}
 use Rattle.descent.specs.Parts.{entry_in, judged_of}
@@ -19,6 +18,8 @@ use Rattle.descent.proofs.Listed.{wholes, EntryRead, bytes_are_piece, entry-of-p
 use Rattle.copying.specs.Copy.{Copied, copied, stopped, copy_in_order, judged_copy, copy_directory, copy_entry}
 use Rattle.copying.specs.Parts.{copy_listed}
 use Rattle.copy_below.proofs.InOrder.{copy_pieces}
+use Rattle.std.specs.Prelude.{Result, ⊤}
+use Rattle.refusal.specs.declared.Refusal.{Refusal}
 
 -- the entries of a block at its place in the log, one after the other, are its directory
 pub entries_are_directory : (log date : Bytes) (nest : ℕ) (b : Block) → b.label < 499 → (left : ℕ) (s₀ : Bytes) (v : Walked) (s : Bytes)
@@ -34,7 +35,7 @@ entries_are_directory log date nest b short left s₀ v s k = (k.0, go)
         ∙ ap (λ (n : ℕ). copy_in_order (copy_listed f log date nest) 40 (wholes (bytes_of log b)) left (entries_of n) 0 0 s₀) (sym (length-bytes log b short))
 
 module _ {b : Bytes} {i : ℕ} {x : Bytes} {e : Entry} (R : EntryRead b i x e) where
-  pub ends_unvisited : (y : End) → Ends y ≡ judged_of e → (f : ℕ) (log date : Bytes) (nest left : ℕ) (s : Bytes)
+  pub ends_unvisited : (y : Result ⊤ Refusal) → Ends y ≡ judged_of e → (f : ℕ) (log date : Bytes) (nest left : ℕ) (s : Bytes)
       → stopped 0 y s ≡ copy_listed f log date nest (entry_in b i) left s
   unfolding judged_copy
   ends_unvisited y q f log date nest left s = by_entry R q (λ z. stopped 0 z s) _

@@ -14,9 +14,9 @@ ghost use Rattle.copying.specs.Parts.{copy_listed, copy_scores, copy_below};
 use block::Block;
 use descent::{Below, Judged};
 use entry::Entry;
-use sector_log::Look;
+pub use keep::keep;
 use sector_number::SectorNumber;
-use visit::{End, Walked};
+use visit::Walked;
 
 // Copies what the entries of a directory block name, one after the other.
 #[cycle(copy_below_copy_directory_copy_entry_copy_listed_copy_scores)]
@@ -38,22 +38,20 @@ pub fn copy_directory<'a>(
 {
     let count = (b.size + entry::ROUND_UP) / entry::ENTRY;
     let mut visits: usize = 0;
-    let mut i: usize = 0;
-    while i < count {
+    for i in 0..count {
         let w = copy_listed(log, end, waiting, second, date, b, i, nest, left - visits);
         let ended = w.end;
         visits += w.visits;
-        let End::Done = ended else {
+        let Ok(()) = ended else {
             return Walked {
                 visits: visits,
                 end: ended,
             };
         };
-        i += 1;
     }
     Walked {
         visits: visits,
-        end: End::Done,
+        end: Ok(()),
     }
 }
 
@@ -121,7 +119,7 @@ fn copy_entry<'a>(
 {
     let m = visit::visit_level(log, end, waiting, e, score, level, nest, left);
     let look = m.look;
-    let Look::Found(b) = look else {
+    let Ok(b) = look else {
         return visit::answer(m);
     };
     let below = copy_below(log, end, waiting, second, date, e, b, level, nest, left - 1);
@@ -184,8 +182,7 @@ fn copy_scores<'a>(
 {
     let count = b.size / 20;
     let mut visits: usize = 0;
-    let mut i: usize = 0;
-    while i < count {
+    for i in 0..count {
         let s = tree::score_at(log, end, waiting, b, i);
         let w = copy_entry(
             log,
@@ -201,16 +198,15 @@ fn copy_scores<'a>(
         );
         let ended = w.end;
         visits += w.visits;
-        let End::Done = ended else {
+        let Ok(()) = ended else {
             return Walked {
                 visits: visits,
                 end: ended,
             };
         };
-        i += 1;
     }
     Walked {
         visits: visits,
-        end: End::Done,
+        end: Ok(()),
     }
 }

@@ -3,7 +3,7 @@
 
 ghost use Rattle.std.specs.Prelude.{◌≡◌};
 ghost use Rattle.copying.specs.Copy.{copy_of};
-ghost use Rattle.results.specs.Copies.{transfer, copy_result};
+ghost use Rattle.copy_calls.specs.Copies.{transfer, copy_result};
 
 use walk_calls::ABOVE_VISITS;
 

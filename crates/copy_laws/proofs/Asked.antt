@@ -15,7 +15,7 @@ use Rattle.sector_log.specs.LookUp.{held}
 use Rattle.sector_log.specs.Parts.{Lent, alone, room_for, append_row}
 use Rattle.sector_log.specs.Store.{AfterStore, store, appended, compared, parts_for}
 use Rattle.sector_log.specs.declared.Stored.{Stored as StoredAs}
-use Rattle.sector_log.specs.declared.Stored.TheVariants.{New, Duplicate, Refused as NotStored}
+use Rattle.sector_log.specs.declared.Stored.TheVariants.{New, Duplicate}
 use Rattle.visit.specs.declared.Walked.{Walked}
 use Rattle.visit.specs.Visit as walks
 use Rattle.ledger.specs.History.{answer}
@@ -25,6 +25,8 @@ use Rattle.copying.specs.Copy.{Copied, store_end, then_by}
 use Rattle.copying.specs.PostOrder.{type_of, Visit, stored, store_visits}
 use Rattle.copying.proofs.Stored.{Stored, new, there, refused}
 use Rattle.copy_laws.specs.Requests.{typed}
+use Rattle.std.specs.Prelude.{Ok, Err, Result}
+use Rattle.refusal.specs.declared.Refusal.{Refusal}
 
 -- ---- a store in a log alone leaves a log alone, as long as it was
 
@@ -47,11 +49,11 @@ as_long s date t b a (refused R e) = ap length e
 -- ---- the visits of a copy
 
 -- a store goes on, or is refused, in the words of a copy as in those of a writing call
-stores_alike : (d : StoredAs) (n : ℕ) (L : Lent) (rest : AfterAll) (k : Bytes → Copied) → L ≡ alone L.log → rest.lent ≡ alone (k L.log).second
+stores_alike : (d : Result StoredAs Refusal) (n : ℕ) (L : Lent) (rest : AfterAll) (k : Bytes → Copied) → L ≡ alone L.log → rest.lent ≡ alone (k L.log).second
     → (onward (end_of d) L rest).lent ≡ alone (then_by (store_end d) n L.log (λ m x. k x)).second
-stores_alike (New at) n L rest k e q = q
-stores_alike (Duplicate at) n L rest k e q = q
-stores_alike (NotStored y) n L rest k e q = e
+stores_alike (Ok (New at)) n L rest k e q = q
+stores_alike (Ok (Duplicate at)) n L rest k e q = q
+stores_alike (Err y) n L rest k e q = e
 
 pub stores_are_visits : (date : Bytes) (vs : List Visit) (w : Walked) (s : Bytes) → (store_all (alone s) date (map typed vs)).lent ≡ alone (store_visits date vs w s).second
 unfolding store_all store_visits
@@ -71,12 +73,12 @@ unfolding Numbered
 one_more ns n w c (inl p) = inl (p.0, ap (λ (x : List ℕ). 0 ∷ x) p.1)
 one_more ns n w c (inr p) = inr (suc p.0, ap (λ (x : List ℕ). 0 ∷ x) p.1)
 
-numbers-alike : (d : StoredAs) (n m : ℕ) (s : Bytes) (ns : List ℕ) (k : Bytes → Copied) (w : Walked) → Numbered ns m w (k s).answer
+numbers-alike : (d : Result StoredAs Refusal) (n m : ℕ) (s : Bytes) (ns : List ℕ) (k : Bytes → Copied) (w : Walked) → Numbered ns m w (k s).answer
     → Numbered (end_number (end_of d) ∷ going (end_of d) ns) (suc m) w (then_by (store_end d) n s (λ j x. k x)).answer
 unfolding Numbered
-numbers-alike (New at) n m s ns k w N = one_more ns m w (k s).answer N
-numbers-alike (Duplicate at) n m s ns k w N = one_more ns m w (k s).answer N
-numbers-alike (NotStored y) n m s ns k w N = inr (0, refl)
+numbers-alike (Ok (New at)) n m s ns k w N = one_more ns m w (k s).answer N
+numbers-alike (Ok (Duplicate at)) n m s ns k w N = one_more ns m w (k s).answer N
+numbers-alike (Err y) n m s ns k w N = inr (0, refl)
 
 pub numbered : (date : Bytes) (vs : List Visit) (w : Walked) (s : Bytes)
     → Numbered (numbers (alone s) date (map typed vs)) (length (map typed vs)) w (store_visits date vs w s).answer

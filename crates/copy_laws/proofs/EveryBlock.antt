@@ -18,8 +18,6 @@ use Rattle.sector_log.specs.LookUp.{held, absence}
 use Rattle.entry.specs.declared.Entry.{Entry}
 use Rattle.entry.specs.Entry.{entry_of, entry_allowed, score_of}
 use Rattle.tree.specs.Tree.{piece, type_at, count_at}
-use Rattle.visit.specs.declared.End.{End}
-use Rattle.visit.specs.declared.End.TheVariants.{Done, Refused}
 use Rattle.visit.specs.Visit.{walked}
 use Rattle.descent.specs.Descent.{padded_to, nest_of, entries_of}
 use Rattle.descent.specs.Parts.{entry_in}
@@ -33,6 +31,8 @@ use Rattle.copying.specs.PostOrder.{Role, of_entry, type_of, Visit, PostOrder, p
 use Rattle.copying.proofs.OneVisit.{last_by_lem}
 use Rattle.copying.proofs.Visited.{goes_done}
 use Rattle.copy_laws.specs.EveryBlock.{WalkVisitsEveryBlock}
+use Rattle.std.specs.Prelude.{Ok, Err, Result, ⊤}
+use Rattle.refusal.specs.declared.Refusal.{Refusal}
 
 -- ---- visits among others
 
@@ -59,23 +59,23 @@ under_back : (vs ws : List Visit) → Under ws (vs ++ ws)
 under_back vs ws role s b (v, m, e, f, g) = (v, Memᴰ.append_right vs m, e, f, g)
 
 -- one list behind another that is done
-goes_both : (e : End) (vs : List Visit) (m : ℕ) (k : ℕ → PostOrder) → (go_on e vs m k).answer.end ≡ Done
-    → ((k m).answer.end ≡ Done) × Under vs (go_on e vs m k).visits × Under (k m).visits (go_on e vs m k).visits
-goes_both Done vs m k d = (d, under-front vs (k m).visits, under_back vs (k m).visits)
-goes_both (Refused why) vs m k d = not_done why d
+goes_both : (e : Result ⊤ Refusal) (vs : List Visit) (m : ℕ) (k : ℕ → PostOrder) → (go_on e vs m k).answer.end ≡ Ok tt
+    → ((k m).answer.end ≡ Ok tt) × Under vs (go_on e vs m k).visits × Under (k m).visits (go_on e vs m k).visits
+goes_both (Ok tt) vs m k d = (d, under-front vs (k m).visits, under_back vs (k m).visits)
+goes_both (Err why) vs m k d = not_done why d
 
 -- ---- pieces in order
 
 module _ (go : Bytes → ℕ → PostOrder) (w : ℕ) (b : Bytes) (left : ℕ) where
   -- a piece was done, with no more than what was left, and its visits are among these
   abbrev Went : ℕ → List Visit → Type 0
-  Went p vs = (a : ℕ) × (a ≤ left) × ((go (piece w p b) a).answer.end ≡ Done) × Under (go (piece w p b) a).visits vs
+  Went p vs = (a : ℕ) × (a ≤ left) × ((go (piece w p b) a).answer.end ≡ Ok tt) × Under (go (piece w p b) a).visits vs
 
   went_up : (p : ℕ) (vs ws : List Visit) → Under vs ws → Went p vs → Went p ws
   went_up p vs ws u (a, h, d, f) = (a, h, d, λ r s x y. u r s x (f r s x y))
 
   -- the first of them, or one behind it
-  first_or_next : (i k n p : ℕ) (all : List Visit) → (go (piece w i b) (left - n)).answer.end ≡ Done → Under (map (later n) (go (piece w i b) (left - n)).visits) all
+  first_or_next : (i k n p : ℕ) (all : List Visit) → (go (piece w i b) (left - n)).answer.end ≡ Ok tt → Under (map (later n) (go (piece w i b) (left - n)).visits) all
       → (suc i ≤ p → p < suc i + k → Went p all) → i ≤ p → p < i + suc k → Went p all
   first_or_next i k n p all e u r h l = by (eqb p i) refl
     where
@@ -85,7 +85,7 @@ module _ (go : Bytes → ℕ → PostOrder) (w : ℕ) (b : Bytes) (left : ℕ) w
           (left - n, omega arith, e, λ role s x f. u role s x (under-later n (go (piece w i b) (left - n)).visits role s x f))
       by false z = let y = eqb-false p i z in r (omega arith) (omega arith)
 
-  order_went : (k i n : ℕ) → (each_in_order go w b left k i n).answer.end ≡ Done → (p : ℕ) → i ≤ p → p < i + k → Went p (each_in_order go w b left k i n).visits
+  order_went : (k i n : ℕ) → (each_in_order go w b left k i n).answer.end ≡ Ok tt → (p : ℕ) → i ≤ p → p < i + k → Went p (each_in_order go w b left k i n).visits
   unfolding each_in_order
   order_went zero i n d p h l = absurd (omega arith)
   order_went (suc k) i n d p h l =
@@ -105,23 +105,23 @@ record Stood (log : Bytes) (left : ℕ) (role : Role) (score : Bytes) (B : Bytes
   row : Row
   some_left : 0 < left
   row-held : held log (type_of role) score ≡ some row
-  done : (B row.bytes).answer.end ≡ Done
+  done : (B row.bytes).answer.end ≡ Ok tt
   itself : Sees role score row.bytes vs
   under : Under (B row.bytes).visits vs
 
-stood : (log : Bytes) (nest left : ℕ) (role : Role) (count : ℕ) (score : Bytes) (B : Bytes → PostOrder) → (visit_last log nest left role count score B).answer.end ≡ Done
+stood : (log : Bytes) (nest left : ℕ) (role : Role) (count : ℕ) (score : Bytes) (B : Bytes → PostOrder) → (visit_last log nest left role count score B).answer.end ≡ Ok tt
     → Stood log left role score B (visit_last log nest left role count score B).visits
 unfolding visit_last
 stood log nest left role count score B d =
-    last_by_lem role count score (ltb 16 nest) (eqb left 0) (held log (type_of role) score) (absence log) B (λ p. p.answer.end ≡ Done → Stood log left role score B p.visits)
+    last_by_lem role count score (ltb 16 nest) (eqb left 0) (held log (type_of role) score) (absence log) B (λ p. p.answer.end ≡ Ok tt → Stood log left role score B p.visits)
     (λ n y d. not_done y d)
     (λ r F d. itself-there r (eqb-false left 0 F.not-spent) F.passes.row-held (B r.bytes).answer.end (map (later 1) (B r.bytes).visits) _ refl (under-later 1 (B
     r.bytes).visits) d) d
   where
-    itself-there : (r : Row) → (left ≡ 0 → ⊥) → held log (type_of role) score ≡ some r → (e : End) (vs : List Visit) (n : ℕ) → (B r.bytes).answer.end ≡ e
-        → let k : ℕ → PostOrder = λ m. post_order (record { role = role; score = score; bytes = r.bytes; spent = m } ∷ []) (walked m Done) in
-        Under (B r.bytes).visits vs → (go_on e vs n k).answer.end ≡ Done → Stood log left role score B (go_on e vs n k).visits
-    itself-there r p q Done vs n e u d =
+    itself-there : (r : Row) → (left ≡ 0 → ⊥) → held log (type_of role) score ≡ some r → (e : Result ⊤ Refusal) (vs : List Visit) (n : ℕ) → (B r.bytes).answer.end ≡ e
+        → let k : ℕ → PostOrder = λ m. post_order (record { role = role; score = score; bytes = r.bytes; spent = m } ∷ []) (walked m (Ok tt)) in
+        Under (B r.bytes).visits vs → (go_on e vs n k).answer.end ≡ Ok tt → Stood log left role score B (go_on e vs n k).visits
+    itself-there r p q (Ok tt) vs n e u d =
         let v : Visit = record { role = role; score = score; bytes = r.bytes; spent = n } in
         record {
           row = r;
@@ -131,7 +131,7 @@ stood log nest left role count score B d =
           itself = (v, Memᴰ.append_right vs (Memᴰ.head refl), refl, refl, refl);
           under = λ y s b f. under-front vs (v ∷ []) y s b (u y s b f);
         }
-    itself-there r p q (Refused w) vs n e u d = not_done w d
+    itself-there r p q (Err w) vs n e u d = not_done w d
 
 -- ---- the scores that a walk comes to
 
@@ -142,12 +142,12 @@ module _ (log : Bytes) (e : Entry) (nest : ℕ) where
 
   -- the visit of a score at a level was done, with calls enough and no more left than this, and all of it is among these visits
   abbrev Ended : ℕ → ℕ → Bytes → List Visit → Type 0
-  Ended left k s vs = (c a : ℕ) × (a + a + 1 ≤ c) × (a ≤ left) × ((entry_last c log e k nest s a).answer.end ≡ Done) × Under (entry_last c log e k nest s a).visits vs
+  Ended left k s vs = (c a : ℕ) × (a + a + 1 ≤ c) × (a ≤ left) × ((entry_last c log e k nest s a).answer.end ≡ Ok tt) × Under (entry_last c log e k nest s a).visits vs
 
   abbrev below_it : ℕ → ℕ → ℕ → Bytes → PostOrder
   below_it f k a b = cond (eqb k 0)
-      (cond e.directory (directory_last f log nest b (a - 1)) (post_order [] (walked 0 Done)))
-      (cond (eqb (length b % 20) 0) (each_in_order (λ x n. entry_last f log e (k - 1) nest x n) 20 b (a - 1) (length b / 20) 0 0) (post_order [] (walked 0 (Refused Pointers))))
+      (cond e.directory (directory_last f log nest b (a - 1)) (post_order [] (walked 0 (Ok tt))))
+      (cond (eqb (length b % 20) 0) (each_in_order (λ x n. entry_last f log e (k - 1) nest x n) 20 b (a - 1) (length b / 20) 0 0) (post_order [] (walked 0 (Err Pointers))))
 
   here-seen : (left k : ℕ) (s : Bytes) (vs : List Visit) → Ended left k s vs → SeesAt k s vs
   unfolding entry_last
@@ -158,8 +158,8 @@ module _ (log : Bytes) (e : Entry) (nest : ℕ) where
 
   -- below a pointer block whose scores were visited in order
   each_ended : (f k left a : ℕ) (b : Bytes) (vs : List Visit) → a + a + 1 ≤ f → a ≤ left → (t : Bool)
-      → let p = cond t (each_in_order (λ x n. entry_last f log e (suc k - 1) nest x n) 20 b a (length b / 20) 0 0) (post_order [] (walked 0 (Refused Pointers))) in
-      p.answer.end ≡ Done → Under p.visits vs → (i : ℕ) → i < length b / 20 → Ended left k (piece 20 i b) vs
+      → let p = cond t (each_in_order (λ x n. entry_last f log e (suc k - 1) nest x n) 20 b a (length b / 20) 0 0) (post_order [] (walked 0 (Err Pointers))) in
+      p.answer.end ≡ Ok tt → Under p.visits vs → (i : ℕ) → i < length b / 20 → Ended left k (piece 20 i b) vs
   each_ended f k left a b vs enough le false d u i h = not_done _ d
   each_ended f k left a b vs enough le true d u i h =
       let go : Bytes → ℕ → PostOrder = λ x n. entry_last f log e (suc k - 1) nest x n in
@@ -187,7 +187,7 @@ module _ (log : Bytes) (e : Entry) (nest : ℕ) where
       let S = stood log nest a (of_entry e (suc k)) (count_at e (suc k)) s (below_it f (suc k) a) d in
       let b = S.row.bytes in
       let is : S.row ≡ r = some_same S.row r (sym S.row-held ∙ ap (λ (t : ℕ). held log t s) (type_above e k) ∙ h) in
-      let q = cond (eqb (length b % 20) 0) (each_in_order (λ x n. entry_last f log e (suc k - 1) nest x n) 20 b (a - 1) (length b / 20) 0 0) (post_order [] (walked 0 (Refused Pointers))) in
+      let q = cond (eqb (length b % 20) 0) (each_in_order (λ x n. entry_last f log e (suc k - 1) nest x n) 20 b (a - 1) (length b / 20) 0 0) (post_order [] (walked 0 (Err Pointers))) in
       let taken : below_it f (suc k) a b ≡ q = else_taken (eqb (suc k) 0) _ _ (ne_eqb (suc k) 0 (λ z. omega arith)) in
       let all = each_ended f k left (a - 1) b vs (omega (arith, S.some_left)) (omega arith) (eqb (length b % 20) 0)
       (ap (λ (p : PostOrder). p.answer.end) (sym taken) ∙ S.done)
@@ -204,14 +204,14 @@ come_to-ended log e nest top left vs E _ _ (below {k = k} {s = s} r up h i lt) =
 
 listed-ended : (log x : Bytes) (f nest a left : ℕ) (vs : List Visit) → a + a + 1 ≤ f → a ≤ left → (t u : Bool) → t ≡ true → u ≡ true → let e = entry_of x in
     let p = entry_last f log e e.depth (nest_of e nest) (score_of x) a in
-    let q = cond t (cond u p (post_order [] (walked 0 (Refused IllFormed)))) (post_order [] (walked 0 Done)) in q.answer.end ≡ Done → Under q.visits vs
+    let q = cond t (cond u p (post_order [] (walked 0 (Err IllFormed)))) (post_order [] (walked 0 (Ok tt))) in q.answer.end ≡ Ok tt → Under q.visits vs
     → Ended log e (nest_of e nest) left e.depth (score_of x) vs
 listed-ended log x f nest a left vs enough le true true y z d u = (f, a, enough, le, d, u)
 listed-ended log x f nest a left vs enough le true false y z d u = let c : ◌≡◌ {A = ℕ} 0 1 = cc in absurd (omega arith)
 listed-ended log x f nest a left vs enough le false t y z d u = let c : ◌≡◌ {A = ℕ} 0 1 = cc in absurd (omega arith)
 
 directory-ended : (log b : Bytes) (i calls nest left : ℕ) → i < entries_of (length b) → left + left + 2 ≤ calls → let x = entry_in b i in let e = entry_of x in
-    e.active ≡ true → entry_allowed x ≡ true → let p = directory_last calls log nest b left in p.answer.end ≡ Done
+    e.active ≡ true → entry_allowed x ≡ true → let p = directory_last calls log nest b left in p.answer.end ≡ Ok tt
     → Ended log e (nest_of e nest) left e.depth (score_of x) p.visits
 unfolding directory_last judged_last
 directory-ended log b i zero nest left h enough act may d = absurd (omega arith)

@@ -21,7 +21,6 @@ use Rattle.sector_log.proofs.Alike.{held-alike}
 use Rattle.sector_log.proofs.Allowed.{allowed-whole}
 use Rattle.visit.specs.declared.Walked.{Walked}
 use Rattle.refusal.specs.declared.Refusal.TheVariants.{Spent}
-use Rattle.visit.specs.declared.End.TheVariants.{Done, Refused}
 use Rattle.visit.specs.Visit.{walked}
 use Rattle.demands.specs.Instance.{grown}
 use Rattle.demands.proofs.LogLaws.{length-grown, at-grown, used-grown}
@@ -36,6 +35,7 @@ use Rattle.copying.proofs.Promised.{Tested, failed, passed, tested, fits, stops,
 use Rattle.copying.proofs.Allowance.{more_allowance}
 use Rattle.copy_laws.specs.Resumed.{CopyResumes, CopyInRounds}
 use Rattle.copy_laws.proofs.Asked.{as_long}
+use Rattle.std.specs.Prelude.{Ok, Err}
 
 abbrev Whole : Bytes → Type 0
 Whole s = eqb (length s % 512) 0 ≡ true
@@ -65,9 +65,9 @@ module _ (k : ℕ) (s : Bytes) (whole : Whole s) where
 
   -- a store that is done leaves the same there
   abbrev Leaves : AfterStore → Bytes → Type 0
-  Leaves a x = (store_end a.receipt.stored ≡ Done) × (a.lent.log ≡ x)
+  Leaves a x = (store_end a.receipt.stored ≡ Ok tt) × (a.lent.log ≡ x)
 
-  stored-grown : (date : Bytes) (t : ℕ) (b : Bytes) (a : AfterStore) → Stored s date t b a → store_end a.receipt.stored ≡ Done
+  stored-grown : (date : Bytes) (t : ℕ) (b : Bytes) (a : AfterStore) → Stored s date t b a → store_end a.receipt.stored ≡ Ok tt
       → Leaves (store (alone (grown k s)) date t b) (grown k a.lent.log)
   unfolding store append_row
   stored-grown date t b a (new r v f room kd sc eb d h e _) q =
@@ -105,9 +105,9 @@ module _ (k : ℕ) (first date : Bytes) (d : is_date date ≡ true) where
       let g = holds_along s' (grown k s') (grown_holds k s' whole') before h in
       let go : Copied → Copied = λ x. onward x (λ y. store_visits date rest w y) in
       store-append date before rest 0 w (grown k s')
-      ∙ ap go (all_there date before (walked 0 Done) (grown k s') g
-      ∙ ap (λ (x : Bytes). copied (walked 0 Done) (grown k x)) e
-      ∙ sym (writes-grown W fit whole (walked 0 Done)))
+      ∙ ap go (all_there date before (walked 0 (Ok tt)) (grown k s') g
+      ∙ ap (λ (x : Bytes). copied (walked 0 (Ok tt)) (grown k x)) e
+      ∙ sym (writes-grown W fit whole (walked 0 (Ok tt))))
       ∙ sym (store-append date before rest 0 w (grown k s))
 
 -- a copy with allowance m, and one with allowance n behind it, whose blocks begin with those that the first one wrote
@@ -161,7 +161,7 @@ pub copy_in_rounds : CopyInRounds
 copy_in_rounds log waiting date score second m n k h i l = go (more_allowance log waiting score m n h i)
   where
     go : (post_order_of log waiting score n ≡ post_order_of log waiting score m)
-        ⊎ ((rest : List Visit) × ((post_order_of log waiting score m).answer.end ≡ Refused Spent)
+        ⊎ ((rest : List Visit) × ((post_order_of log waiting score m).answer.end ≡ Err Spent)
         × ((post_order_of log waiting score n).visits ≡ (post_order_of log waiting score m).visits ++ rest))
         → copy_of log waiting date score (grown k (copy_of log waiting date score second m).second) n ≡ copy_of log waiting date score (grown k second) n
     go (inl e) = resumes log waiting date score second m n k l [] (ap (λ (x : PostOrder). x.visits) e ∙ sym (append-nil (post_order_of log waiting score m).visits))

@@ -12,11 +12,9 @@ use Rattle.sector.specs.Sector.{filled}
 use Rattle.block.specs.declared.Block.{Block}
 use Rattle.block.specs.Log.{bytes_of}
 use Rattle.reader.proofs.Pieces.{length-bytes}
-use Rattle.sector_log.specs.declared.Look.TheVariants.{Found, Refused}
 use Rattle.entry.specs.Root.{root_well_formed}
 use Rattle.visit.specs.declared.Walked.{Walked}
 use Rattle.visit.specs.declared.Met.{Met}
-use Rattle.visit.specs.declared.End.TheVariants.{Refused as Stopped}
 use Rattle.visit.specs.Met.{met_of, answer_of}
 use Rattle.visit.proofs.Visits.{found-known, spent-within}
 use Rattle.descent.specs.Descent.{padded_to}
@@ -24,18 +22,19 @@ use Rattle.descent.proofs.Padded.{root-padded}
 use Rattle.copying.specs.Copy.{Copied, copied, stopped, kept, copy_directory, copy_top, copy_root}
 use Rattle.copying.specs.Parts.{copy_below_root}
 use Rattle.copy_below.proofs.EntryBlocks.{refused_visit, found_visit}
+use Rattle.std.specs.Prelude.{Ok, Err}
 
 -- ---- the directory block of a root
 
 module _ (log date score : Bytes) (left : ℕ) (s₀ : Bytes) (m : Met) (em : m ≡ met_of log 1 left 2 longest score) where
-  pub top-refused : (why : Refusal) → m.look ≡ Refused why → (r : Walked) → r ≡ answer_of m → (r.visits ≤ left) × (copied r s₀ ≡ copy_top log date score left s₀)
+  pub top-refused : (why : Refusal) → m.look ≡ Err why → (r : Walked) → r ≡ answer_of m → (r.visits ≤ left) × (copied r s₀ ≡ copy_top log date score left s₀)
   unfolding copy_top
   top-refused why d r er = (
     rw er (spent-within log 1 left 2 longest score m em),
     refused_visit log date 1 left 2 longest score m em (λ b s. copy_directory (left + left + 2) log date 1 b (left - 1) s) s₀ why d r er,
   )
 
-  pub top_kept : (b : Block) → m.look ≡ Found b → (w : Walked) (s₁ : Bytes)
+  pub top_kept : (b : Block) → m.look ≡ Ok b → (w : Walked) (s₁ : Bytes)
       → (w.visits ≤ left - 1) × ((f : ℕ) → (left - 1) + (left - 1) + 2 ≤ f → copied w s₁ ≡ copy_directory f log date 1 (bytes_of log b) (left - 1) s₀)
       → (r : Walked) (s : Bytes) → r.visits ≡ w.visits + 1 → copied r s ≡ kept date 2 (bytes_of log b) (copied w s₁)
       → (r.visits ≤ left) × (copied r s ≡ copy_top log date score left s₀)
@@ -50,7 +49,7 @@ module _ (log date score : Bytes) (left : ℕ) (s₀ : Bytes) (m : Met) (em : m 
 -- ---- what is below a root
 
 module _ (log date : Bytes) (left : ℕ) (x s₀ : Bytes) (f : Bool) (ef : f ≡ root_well_formed x) where
-  pub ill-formed-root : f ≡ false → stopped 0 (Stopped IllFormed) s₀ ≡ copy_below_root log date left x s₀
+  pub ill-formed-root : f ≡ false → stopped 0 (Err IllFormed) s₀ ≡ copy_below_root log date left x s₀
   ill-formed-root z = rw (sym ef ∙ z)
 
   pub well_formed-root : f ≡ true → (c : Copied) → c ≡ copy_top log date (take 20 (drop 258 x)) left s₀ → c ≡ copy_below_root log date left x s₀
@@ -59,11 +58,11 @@ module _ (log date : Bytes) (left : ℕ) (x s₀ : Bytes) (f : Bool) (ef : f ≡
 -- ---- the root
 
 module _ (log date score : Bytes) (left : ℕ) (s₀ : Bytes) (m : Met) (em : m ≡ met_of log 0 left 1 300 score) where
-  pub root-refused : (why : Refusal) → m.look ≡ Refused why → (r : Walked) → r ≡ answer_of m → copied r s₀ ≡ copy_root log date score left s₀
+  pub root-refused : (why : Refusal) → m.look ≡ Err why → (r : Walked) → r ≡ answer_of m → copied r s₀ ≡ copy_root log date score left s₀
   unfolding copy_root
   root-refused why d r er = refused_visit log date 0 left 1 300 score m em (λ b s. copy_below_root log date (left - 1) (padded_to 300 b) s) s₀ why d r er
 
-  pub root_kept : (b : Block) → m.look ≡ Found b → (x : Bytes) → x ≡ filled 300 (drop 0 (bytes_of log b)) → (w : Walked) (s₁ : Bytes)
+  pub root_kept : (b : Block) → m.look ≡ Ok b → (x : Bytes) → x ≡ filled 300 (drop 0 (bytes_of log b)) → (w : Walked) (s₁ : Bytes)
       → copied w s₁ ≡ copy_below_root log date (left - 1) x s₀ → (r : Walked) (s : Bytes) → copied r s ≡ kept date 1 (bytes_of log b) (copied w s₁)
       → copied r s ≡ copy_root log date score left s₀
   unfolding copy_root

@@ -10,9 +10,8 @@ ghost use Rattle.copying.specs.Parts.{copy_below_root};
 use entry::{ROOT_SCORE, ROOT_SCORE_END};
 use kind::LONGEST;
 use refusal::Refusal;
-use sector_log::Look;
 use sector_number::SectorNumber;
-use visit::{End, Walked};
+use visit::Walked;
 
 // Copies a root's directory block, behind what is below it.
 fn copy_top<'a>(
@@ -30,11 +29,11 @@ fn copy_top<'a>(
 {
     let m = visit::visit(log, end, waiting, 1, left, 2, LONGEST, score);
     let look = m.look;
-    let Look::Found(b) = look else {
+    let Ok(b) = look else {
         return visit::answer(m);
     };
     let below = copy_below::copy_directory(log, end, waiting, second, date, b, 1, left - 1);
-    keep::keep(log, end, waiting, second, date, 2, b, below)
+    copy_below::keep(log, end, waiting, second, date, 2, b, below)
 }
 
 // Copies what a root leads to, by its bytes: its directory block. The score of the root before it isn't followed.
@@ -55,7 +54,7 @@ fn below_root<'a>(
     if !entry::is_root(root) {
         return Walked {
             visits: 0,
-            end: End::Refused(Refusal::Entry),
+            end: Err(Refusal::Entry),
         };
     }
     copy_top(
@@ -84,10 +83,10 @@ pub fn copy_root<'a>(
 {
     let m = visit::visit(log, end, waiting, 0, left, 1, 300, score);
     let look = m.look;
-    let Look::Found(b) = look else {
+    let Ok(b) = look else {
         return visit::answer(m);
     };
     let root = visit::root_bytes(log, end, waiting, b);
     let below = below_root(log, end, waiting, second, date, &root, left - 1);
-    keep::keep(log, end, waiting, second, date, 1, b, below)
+    copy_below::keep(log, end, waiting, second, date, 1, b, below)
 }

@@ -20,19 +20,19 @@ use Rattle.entry.specs.declared.Entry.{Entry}
 use Rattle.entry.specs.Entry.{entry_of, entry_allowed, score_of}
 use Rattle.entry.specs.Root.{root_well_formed, root_score}
 use Rattle.tree.specs.Tree.{piece, count_at}
-use Rattle.visit.specs.declared.End.{End}
-use Rattle.visit.specs.declared.End.TheVariants.{Done, Refused}
 use Rattle.visit.specs.Visit.{walked}
 use Rattle.descent.specs.Descent.{padded_to, nest_of, entries_of}
 use Rattle.walk.specs.Walk.{most_allowance}
 use Rattle.copying.specs.PostOrder.{Role, root, top, of_entry, type_of, Visit, PostOrder, post_order, later, go_on, followed_by, behind}
 use Rattle.copying.specs.PostOrder.{visit_last, each_in_order, judged_last, directory_last, entry_last, top_last, root_last, post_order_in}
 use Rattle.copying.specs.Promises.{MoreAllowance}
+use Rattle.std.specs.Prelude.{Ok, Err, Result, ⊤}
+use Rattle.refusal.specs.declared.Refusal.{Refusal}
 
 -- q is p, or p ran out and q goes on
 data Begins (p q : PostOrder) : Type 0 where
   same : q ≡ p → Begins p q
-  cut : (rest : List Visit) → p.answer.end ≡ Refused Spent → q.visits ≡ p.visits ++ rest → Begins p q
+  cut : (rest : List Visit) → p.answer.end ≡ Err Spent → q.visits ≡ p.visits ++ rest → Begins p q
 
 -- ---- one behind the other
 
@@ -41,14 +41,14 @@ map-append f [] ys = refl
 map-append f (x ∷ xs) ys = ap (λ (l : List Visit). f x ∷ l) (map-append f xs ys)
 
 -- what goes on has the same front
-goes_front : (e : End) (vs : List Visit) (m : ℕ) (k : ℕ → PostOrder) → (more : List Visit) × ((go_on e vs m k).visits ≡ vs ++ more)
-goes_front Done vs m k = ((k m).visits, refl)
-goes_front (Refused why) vs m k = ([], sym (append-nil vs))
+goes_front : (e : Result ⊤ Refusal) (vs : List Visit) (m : ℕ) (k : ℕ → PostOrder) → (more : List Visit) × ((go_on e vs m k).visits ≡ vs ++ more)
+goes_front (Ok tt) vs m k = ((k m).visits, refl)
+goes_front (Err why) vs m k = ([], sym (append-nil vs))
 
-goes_begin : (e : End) (vs : List Visit) (m : ℕ) (k k' : ℕ → PostOrder) → Begins (k m) (k' m) → Begins (go_on e vs m k) (go_on e vs m k')
-goes_begin Done vs m k k' (same q) = same (ap (λ (p : PostOrder). post_order (vs ++ p.visits) p.answer) q)
-goes_begin Done vs m k k' (cut rest q r) = cut rest q (ap (λ (l : List Visit). vs ++ l) r ∙ sym (append_assoc vs (k m).visits rest))
-goes_begin (Refused why) vs m k k' b = same refl
+goes_begin : (e : Result ⊤ Refusal) (vs : List Visit) (m : ℕ) (k k' : ℕ → PostOrder) → Begins (k m) (k' m) → Begins (go_on e vs m k) (go_on e vs m k')
+goes_begin (Ok tt) vs m k k' (same q) = same (ap (λ (p : PostOrder). post_order (vs ++ p.visits) p.answer) q)
+goes_begin (Ok tt) vs m k k' (cut rest q r) = cut rest q (ap (λ (l : List Visit). vs ++ l) r ∙ sym (append_assoc vs (k m).visits rest))
+goes_begin (Err why) vs m k k' b = same refl
 
 followed_begins : (p p' : PostOrder) (n : ℕ) (k k' : ℕ → PostOrder) → Begins p p' → ((m : ℕ) → Begins (k m) (k' m)) → Begins (followed_by p n k) (followed_by p' n k')
 followed_begins p p' n k k' (same q) f =
@@ -60,7 +60,7 @@ followed_begins p p' n k k' (cut rest q r) f =
     let front : map (later n) p'.visits ≡ vs ++ map (later n) rest = ap (map (later n)) r ∙ map-append (later n) p.visits rest in
     let all : (followed_by p' n k').visits ≡ vs ++ (map (later n) rest ++ g.0) =
     g.1 ∙ ap (λ (l : List Visit). l ++ g.0) front ∙ append_assoc vs (map (later n) rest) g.0 in
-    let is : followed_by p n k ≡ post_order vs (walked m (Refused Spent)) = ap (λ (e : End). go_on e vs m k) q in
+    let is : followed_by p n k ≡ post_order vs (walked m (Err Spent)) = ap (λ (e : Result ⊤ Refusal). go_on e vs m k) q in
     subst (λ (x : PostOrder). Begins x (followed_by p' n k')) (sym is) (cut (map (later n) rest ++ g.0) refl all)
 
 cond-begins : (b : Bool) (p q p' q' : PostOrder) → Begins p p' → Begins q q' → Begins (cond b p q) (cond b p' q')
@@ -89,20 +89,20 @@ module _ (log : Bytes) where
   visit_begins nest left left' role count score B B' l f = cond-begins (ltb 16 nest) _ _ _ _ (same refl) (by_left (eqb left 0) refl)
     where
       found : 0 < left → (o : Option Row)
-          → Begins (on o (post_order [] (walked 1 (Refused (absence log))))
-          (λ r. cond (ltb count (length r.bytes)) (post_order [] (walked 1 (Refused OverCount))) (behind role score r.bytes (B r.bytes))))
-          (on o (post_order [] (walked 1 (Refused (absence log))))
-          (λ r. cond (ltb count (length r.bytes)) (post_order [] (walked 1 (Refused OverCount))) (behind role score r.bytes (B' r.bytes))))
+          → Begins (on o (post_order [] (walked 1 (Err (absence log))))
+          (λ r. cond (ltb count (length r.bytes)) (post_order [] (walked 1 (Err OverCount))) (behind role score r.bytes (B r.bytes))))
+          (on o (post_order [] (walked 1 (Err (absence log))))
+          (λ r. cond (ltb count (length r.bytes)) (post_order [] (walked 1 (Err OverCount))) (behind role score r.bytes (B' r.bytes))))
       found p none = same refl
       found p (some r) =
           cond-begins (ltb count (length r.bytes)) _ _ _ _ (same refl)
           (followed_begins (B r.bytes) (B' r.bytes) 1 _ _ (f p r.bytes) (λ m. same refl))
 
       by_left : (t : Bool) → eqb left 0 ≡ t
-          → Begins (cond t (post_order [] (walked 0 (Refused Spent))) (on (held log (type_of role) score) (post_order [] (walked 1 (Refused (absence log))))
-          (λ r. cond (ltb count (length r.bytes)) (post_order [] (walked 1 (Refused OverCount))) (behind role score r.bytes (B r.bytes)))))
-          (cond (eqb left' 0) (post_order [] (walked 0 (Refused Spent))) (on (held log (type_of role) score) (post_order [] (walked 1 (Refused (absence log))))
-          (λ r. cond (ltb count (length r.bytes)) (post_order [] (walked 1 (Refused OverCount))) (behind role score r.bytes (B' r.bytes)))))
+          → Begins (cond t (post_order [] (walked 0 (Err Spent))) (on (held log (type_of role) score) (post_order [] (walked 1 (Err (absence log))))
+          (λ r. cond (ltb count (length r.bytes)) (post_order [] (walked 1 (Err OverCount))) (behind role score r.bytes (B r.bytes)))))
+          (cond (eqb left' 0) (post_order [] (walked 0 (Err Spent))) (on (held log (type_of role) score) (post_order [] (walked 1 (Err (absence log))))
+          (λ r. cond (ltb count (length r.bytes)) (post_order [] (walked 1 (Err OverCount))) (behind role score r.bytes (B' r.bytes)))))
       by_left true q = cut _ refl refl
       by_left false q =
           let z = eqb-false left 0 q in
@@ -159,6 +159,6 @@ module _ (log : Bytes) where
 pub more_allowance : MoreAllowance
 more_allowance log waiting score m n l h = go (tests-begin (tape log waiting) (lent_allowed (length log) (length waiting)) score m n l h)
   where
-    go : {p q : PostOrder} → Begins p q → (q ≡ p) ⊎ ((rest : List Visit) × (p.answer.end ≡ Refused Spent) × (q.visits ≡ p.visits ++ rest))
+    go : {p q : PostOrder} → Begins p q → (q ≡ p) ⊎ ((rest : List Visit) × (p.answer.end ≡ Err Spent) × (q.visits ≡ p.visits ++ rest))
     go (same e) = inl e
     go (cut rest e r) = inr (rest, e, r)

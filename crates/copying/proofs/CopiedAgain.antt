@@ -8,7 +8,6 @@ use Rattle.buffer.specs.Bytes.{Bytes}
 use Rattle.sector.specs.Sector.{is_date}
 use Rattle.sector_log.specs.Parts.{tape}
 use Rattle.visit.specs.declared.Walked.{Walked}
-use Rattle.visit.specs.declared.End.TheVariants.{Done}
 use Rattle.visit.specs.Visit.{walked}
 use Rattle.copying.specs.Copy.{Copied, copied, copy_allowed, copy_of}
 use Rattle.copying.specs.PostOrder.{Visit, PostOrder, post_order_of, store_visits}
@@ -17,6 +16,7 @@ use Rattle.copying.specs.Promises.{CopyAgain, CopyAgainAddsNothing}
 use Rattle.copying.proofs.Writes.{writes-held, all_there, refused_again}
 use Rattle.copying.proofs.InPostOrder.{onward, store-append, copy_is_stores}
 use Rattle.copying.proofs.Promised.{Tested, failed, passed, tested, fits, stops, still-lent, Whole, whole}
+use Rattle.std.specs.Prelude.{Ok}
 
 module _ (log waiting date score second : Bytes) (n : ℕ) where
   abbrev result : Copied
@@ -35,7 +35,7 @@ module _ (log waiting date score second : Bytes) (n : ℕ) where
       let h = subst (λ (x : Bytes). HoldsAll x before) (sym e) (writes-held (tape log waiting) date d W (fits log waiting date score second n l)) in
       ap (λ (vs : List Visit). store_visits date vs order.answer result.second) q
       ∙ store-append date before (v ∷ after) 0 order.answer result.second
-      ∙ ap (λ (c : Copied). onward c (λ x. store_visits date (v ∷ after) order.answer x)) (all_there date before (walked 0 Done) result.second h)
+      ∙ ap (λ (c : Copied). onward c (λ x. store_visits date (v ∷ after) order.answer x)) (all_there date before (walked 0 (Ok tt)) result.second h)
       ∙ refused_again date v after order.answer result.second result.answer.end R
       ∙ ap (λ (m : ℕ). copied (walked m result.answer.end) result.second) (sym s)
 

@@ -20,8 +20,6 @@ use Rattle.entry.specs.declared.Entry.{Entry}
 use Rattle.entry.specs.Entry.{entry_of, entry_allowed, score_of}
 use Rattle.entry.specs.Root.{root_well_formed, root_score}
 use Rattle.tree.specs.Tree.{piece, count_at}
-use Rattle.visit.specs.declared.End.{End}
-use Rattle.visit.specs.declared.End.TheVariants.{Done, Refused}
 use Rattle.visit.specs.declared.Walked.{Walked}
 use Rattle.visit.specs.Visit.{walked}
 use Rattle.descent.specs.Descent.{padded_to, nest_of, entries_of}
@@ -32,6 +30,8 @@ use Rattle.copying.specs.Copy.{copy_root, copy_in, copy_allowed}
 use Rattle.copying.specs.PostOrder.{Role, root, top, of_entry, type_of, Visit, PostOrder, post_order, later, go_on, followed_by, behind, visit_last, each_in_order, judged_last}
 use Rattle.copying.specs.PostOrder.{directory_last, entry_last, top_last, root_last, post_order_in, stored, store_visits}
 use Rattle.copying.specs.Promises.{CopyIsStores}
+use Rattle.std.specs.Prelude.{Ok, Err, Result, ⊤}
+use Rattle.refusal.specs.declared.Refusal.{Refusal}
 
 -- ---- storing a list
 
@@ -43,38 +43,38 @@ onward c h = then_by c.answer.end c.answer.visits c.second (λ n s. h s)
 abbrev delayed : ℕ → Copied → Copied
 delayed n c = copied (walked (n + c.answer.visits) c.answer.end) c.second
 
-then_through : (e : End) (n : ℕ) (s : Bytes) (k : Bytes → Copied) (w : Walked) → ((x : Bytes) → (k x).answer.end ≡ Done → (k x).answer ≡ w)
-    → (then_by e n s (λ m x. k x)).answer.end ≡ Done → (then_by e n s (λ m x. k x)).answer ≡ w
-then_through Done n s k w f d = f s d
-then_through (Refused why) n s k w f d = not_done why d
+then_through : (e : Result ⊤ Refusal) (n : ℕ) (s : Bytes) (k : Bytes → Copied) (w : Walked) → ((x : Bytes) → (k x).answer.end ≡ Ok tt → (k x).answer ≡ w)
+    → (then_by e n s (λ m x. k x)).answer.end ≡ Ok tt → (then_by e n s (λ m x. k x)).answer ≡ w
+then_through (Ok tt) n s k w f d = f s d
+then_through (Err why) n s k w f d = not_done why d
 
-then_append : (e : End) (n : ℕ) (s : Bytes) (f g h : Bytes → Copied) → ((x : Bytes) → f x ≡ onward (g x) h)
+then_append : (e : Result ⊤ Refusal) (n : ℕ) (s : Bytes) (f g h : Bytes → Copied) → ((x : Bytes) → f x ≡ onward (g x) h)
     → then_by e n s (λ m x. f x) ≡ onward (then_by e n s (λ m x. g x)) h
-then_append Done n s f g h q = q s
-then_append (Refused why) n s f g h q = refl
+then_append (Ok tt) n s f g h q = q s
+then_append (Err why) n s f g h q = refl
 
-then-later : (n : ℕ) (e : End) (m : ℕ) (s : Bytes) (f g : Bytes → Copied) → ((x : Bytes) → f x ≡ delayed n (g x))
+then-later : (n : ℕ) (e : Result ⊤ Refusal) (m : ℕ) (s : Bytes) (f g : Bytes → Copied) → ((x : Bytes) → f x ≡ delayed n (g x))
     → then_by e (n + m) s (λ k x. f x) ≡ delayed n (then_by e m s (λ k x. g x))
-then-later n Done m s f g q = q s
-then-later n (Refused why) m s f g q = refl
+then-later n (Ok tt) m s f g q = q s
+then-later n (Err why) m s f g q = refl
 
 module _ (date : Bytes) where
   abbrev pub run : PostOrder → Bytes → Copied
   run p s = store_visits date p.visits p.answer s
 
   -- storing that is done went through the list
-  pub all-stored : (vs : List Visit) (w : Walked) (s : Bytes) → (store_visits date vs w s).answer.end ≡ Done → (store_visits date vs w s).answer ≡ w
+  pub all-stored : (vs : List Visit) (w : Walked) (s : Bytes) → (store_visits date vs w s).answer.end ≡ Ok tt → (store_visits date vs w s).answer ≡ w
   unfolding store_visits
   all-stored [] w s d = refl
   all-stored (v ∷ vs) w s d = then_through (store_end (stored date v s).receipt.stored) _ _ (λ x. store_visits date vs w x) w (λ x e. all-stored vs w x e) d
 
   pub store-append : (xs ys : List Visit) (m : ℕ) (w : Walked) (s : Bytes)
-      → store_visits date (xs ++ ys) w s ≡ onward (store_visits date xs (walked m Done) s) (λ x. store_visits date ys w x)
+      → store_visits date (xs ++ ys) w s ≡ onward (store_visits date xs (walked m (Ok tt)) s) (λ x. store_visits date ys w x)
   unfolding store_visits
   store-append [] ys m w s = refl
   store-append (v ∷ xs) ys m w s =
       then_append (store_end (stored date v s).receipt.stored) v.spent (stored date v s).lent.log (λ x. store_visits date (xs ++ ys) w x)
-      (λ x. store_visits date xs (walked m Done) x) (λ x. store_visits date ys w x) (λ x. store-append xs ys m w x)
+      (λ x. store_visits date xs (walked m (Ok tt)) x) (λ x. store_visits date ys w x) (λ x. store-append xs ys m w x)
 
   store-later : (n : ℕ) (vs : List Visit) (w : Walked) (s : Bytes)
       → store_visits date (map (later n) vs) (walked (n + w.visits) w.end) s ≡ delayed n (store_visits date vs w s)
@@ -85,27 +85,27 @@ module _ (date : Bytes) where
 
   -- ---- one list behind another
 
-  same-onward : (c : Copied) (n v : ℕ) (k : ℕ → Bytes → Copied) (h : Bytes → Copied) → (c.answer.end ≡ Done → c.answer.visits ≡ v)
-      → ((x : Bytes) → k (n + v) x ≡ h x) → (e : End) → c.answer.end ≡ e → then_by e (n + c.answer.visits) c.second k ≡ then_by e (n + c.answer.visits) c.second (λ m x. h x)
-  same-onward c n v k h f g Done q = ap (λ (m : ℕ). k (n + m) c.second) (f q) ∙ g c.second
-  same-onward c n v k h f g (Refused why) q = refl
+  same-onward : (c : Copied) (n v : ℕ) (k : ℕ → Bytes → Copied) (h : Bytes → Copied) → (c.answer.end ≡ Ok tt → c.answer.visits ≡ v)
+      → ((x : Bytes) → k (n + v) x ≡ h x) → (e : Result ⊤ Refusal) → c.answer.end ≡ e → then_by e (n + c.answer.visits) c.second k ≡ then_by e (n + c.answer.visits) c.second (λ m x. h x)
+  same-onward c n v k h f g (Ok tt) q = ap (λ (m : ℕ). k (n + m) c.second) (f q) ∙ g c.second
+  same-onward c n v k h f g (Err why) q = refl
 
-  refused-stays : (c : Copied) (n : ℕ) (k : ℕ → Bytes → Copied) → (e : End) → c.answer.end ≡ e → (e ≡ Done → ⊥)
+  refused-stays : (c : Copied) (n : ℕ) (k : ℕ → Bytes → Copied) → (e : Result ⊤ Refusal) → c.answer.end ≡ e → (e ≡ Ok tt → ⊥)
       → then_by e (n + c.answer.visits) c.second k ≡ delayed n c
-  refused-stays c n k Done q f = absurd (f refl)
-  refused-stays c n k (Refused why) q f = ap (λ (e : End). stopped (n + c.answer.visits) e c.second) (sym q)
+  refused-stays c n k (Ok tt) q f = absurd (f refl)
+  refused-stays c n k (Err why) q f = ap (λ (e : Result ⊤ Refusal). stopped (n + c.answer.visits) e c.second) (sym q)
 
   followed_by_lem : (vs : List Visit) (v n : ℕ) (k : ℕ → Bytes → Copied) (K : ℕ → PostOrder) (s : Bytes) → ((m : ℕ) (x : Bytes) → k m x ≡ run (K m) x)
-      → (e : End) → and_then (store_visits date vs (walked v e) s) n k ≡ run (go_on e (map (later n) vs) (n + v) K) s
-  followed_by_lem vs v n k K s f Done =
-      let c = store_visits date vs (walked v Done) s in
-      same-onward c n v k (λ x. run (K (n + v)) x) (λ d. ap (λ (w : Walked). w.visits) (all-stored vs (walked v Done) s d)) (λ x. f (n + v) x) c.answer.end refl
-      ∙ ap (λ (c' : Copied). onward c' (λ x. run (K (n + v)) x)) (sym (store-later n vs (walked v Done) s))
+      → (e : Result ⊤ Refusal) → and_then (store_visits date vs (walked v e) s) n k ≡ run (go_on e (map (later n) vs) (n + v) K) s
+  followed_by_lem vs v n k K s f (Ok tt) =
+      let c = store_visits date vs (walked v (Ok tt)) s in
+      same-onward c n v k (λ x. run (K (n + v)) x) (λ d. ap (λ (w : Walked). w.visits) (all-stored vs (walked v (Ok tt)) s d)) (λ x. f (n + v) x) c.answer.end refl
+      ∙ ap (λ (c' : Copied). onward c' (λ x. run (K (n + v)) x)) (sym (store-later n vs (walked v (Ok tt)) s))
       ∙ sym (store-append (map (later n) vs) (K (n + v)).visits (n + v) (K (n + v)).answer s)
-  followed_by_lem vs v n k K s f (Refused why) =
-      let c = store_visits date vs (walked v (Refused why)) s in
-      refused-stays c n k c.answer.end refl (λ d. not_done why (sym (ap (λ (w : Walked). w.end) (all-stored vs (walked v (Refused why)) s d)) ∙ d))
-      ∙ sym (store-later n vs (walked v (Refused why)) s)
+  followed_by_lem vs v n k K s f (Err why) =
+      let c = store_visits date vs (walked v (Err why)) s in
+      refused-stays c n k c.answer.end refl (λ d. not_done why (sym (ap (λ (w : Walked). w.end) (all-stored vs (walked v (Err why)) s d)) ∙ d))
+      ∙ sym (store-later n vs (walked v (Err why)) s)
 
   pub stores_followed : (p : PostOrder) (n : ℕ) (k : ℕ → Bytes → Copied) (K : ℕ → PostOrder) (s : Bytes) → ((m : ℕ) (x : Bytes) → k m x ≡ run (K m) x)
       → and_then (run p s) n k ≡ run (followed_by p n K) s
@@ -113,20 +113,20 @@ module _ (date : Bytes) where
 
   -- ---- a block behind what is below it
 
-  kept_goes_on : (t : ℕ) (b : Bytes) (c : Copied) (e : End) → kept_after e date t b (c.answer.visits + 1) c.second
-      ≡ then_by e (1 + c.answer.visits) c.second (λ n x. kept_after Done date t b n x)
-  kept_goes_on t b c Done = let q : c.answer.visits + 1 ≡ 1 + c.answer.visits = omega arith in ap (λ (n : ℕ). kept_after Done date t b n c.second) q
-  kept_goes_on t b c (Refused why) = let q : c.answer.visits + 1 ≡ 1 + c.answer.visits = omega arith in ap (λ (n : ℕ). stopped n (Refused why) c.second) q
+  kept_goes_on : (t : ℕ) (b : Bytes) (c : Copied) (e : Result ⊤ Refusal) → kept_after e date t b (c.answer.visits + 1) c.second
+      ≡ then_by e (1 + c.answer.visits) c.second (λ n x. kept_after (Ok tt) date t b n x)
+  kept_goes_on t b c (Ok tt) = let q : c.answer.visits + 1 ≡ 1 + c.answer.visits = omega arith in ap (λ (n : ℕ). kept_after (Ok tt) date t b n c.second) q
+  kept_goes_on t b c (Err why) = let q : c.answer.visits + 1 ≡ 1 + c.answer.visits = omega arith in ap (λ (n : ℕ). stopped n (Err why) c.second) q
 
-  one-stored : (n : ℕ) (s : Bytes) (e : End) → copied (walked n e) s ≡ then_by e n s (λ m x. copied (walked n Done) x)
-  one-stored n s Done = refl
-  one-stored n s (Refused why) = refl
+  one-stored : (n : ℕ) (s : Bytes) (e : Result ⊤ Refusal) → copied (walked n e) s ≡ then_by e n s (λ m x. copied (walked n (Ok tt)) x)
+  one-stored n s (Ok tt) = refl
+  one-stored n s (Err why) = refl
 
   stores_behind : (role : Role) (score b : Bytes) (p : PostOrder) (s : Bytes) → kept date (type_of role) b (run p s) ≡ run (behind role score b p) s
   unfolding kept store_visits
   stores_behind role score b p s =
       kept_goes_on (type_of role) b (run p s) (run p s).answer.end
-      ∙ stores_followed p 1 (λ n x. kept_after Done date (type_of role) b n x) _ s
+      ∙ stores_followed p 1 (λ n x. kept_after (Ok tt) date (type_of role) b n x) _ s
       (λ n x. let a = stored date (record { role = role; score = score; bytes = b; spent = n }) x in one-stored n a.lent.log (store_end a.receipt.stored))
 
   -- ---- the parts of a copy
@@ -142,7 +142,7 @@ module _ (date : Bytes) where
   order_stores : (go : Bytes → ℕ → Bytes → Copied) (G : Bytes → ℕ → PostOrder) (w : ℕ) (b : Bytes) (left : ℕ) → ((x : Bytes) (a : ℕ) (s : Bytes) → go x a s ≡ run (G x a) s)
       → (k i n : ℕ) (s : Bytes) → copy_in_order go w b left k i n s ≡ run (each_in_order G w b left k i n) s
   unfolding copy_in_order each_in_order
-  order_stores go G w b left f zero i n s = none-stored (walked n Done) s
+  order_stores go G w b left f zero i n s = none-stored (walked n (Ok tt)) s
   order_stores go G w b left f (suc k) i n s =
       ap (λ (c : Copied). and_then c n (λ m x. copy_in_order go w b left k (suc i) m x)) (f (piece w i b) (left - n) s)
       ∙ stores_followed (G (piece w i b) (left - n)) n (λ m x. copy_in_order go w b left k (suc i) m x) (λ m. each_in_order G w b left k (suc i) m) s
@@ -162,10 +162,10 @@ module _ (date : Bytes) where
         cond_stores (ltb 16 nest) _ _ _ _ s (none-stored _ s) (cond_stores (eqb left 0) _ _ _ _ s (none-stored _ s) (by_held (held first (type_of role) score)))
       where
         by_held : (o : Option Row)
-            → on o (stopped 1 (Refused (absence first)) s)
-            (λ r. cond (ltb count (length r.bytes)) (stopped 1 (Refused OverCount) s) (kept date (type_of role) r.bytes (below r.bytes s)))
-            ≡ run (on o (post_order [] (walked 1 (Refused (absence first))))
-            (λ r. cond (ltb count (length r.bytes)) (post_order [] (walked 1 (Refused OverCount))) (behind role score r.bytes (B r.bytes)))) s
+            → on o (stopped 1 (Err (absence first)) s)
+            (λ r. cond (ltb count (length r.bytes)) (stopped 1 (Err OverCount) s) (kept date (type_of role) r.bytes (below r.bytes s)))
+            ≡ run (on o (post_order [] (walked 1 (Err (absence first))))
+            (λ r. cond (ltb count (length r.bytes)) (post_order [] (walked 1 (Err OverCount))) (behind role score r.bytes (B r.bytes)))) s
         by_held none = none-stored _ s
         by_held (some r) =
             cond_stores (ltb count (length r.bytes)) _ _ _ _ s (none-stored _ s)

@@ -21,7 +21,6 @@ use Rattle.sector_log.specs.Parts.{tape}
 use Rattle.sector_log.proofs.Parts.{held-alone, lent-alone}
 use Rattle.sector_log.proofs.Allowed.{allowed-sectors}
 use Rattle.visit.specs.declared.Walked.{Walked}
-use Rattle.visit.specs.declared.End.TheVariants.{Done, Refused}
 use Rattle.visit.specs.Visit.{walked}
 use Rattle.walk.specs.Walk.{walk_of, most_allowance}
 use Rattle.walk_laws.proofs.Found.{not_done, walk-found}
@@ -38,17 +37,18 @@ use Rattle.copying.proofs.Made.{all-taken, taken-before, unspent}
 use Rattle.copying.proofs.OneVisit.{of-first}
 use Rattle.copying.proofs.Visited.{OfFirst}
 use Rattle.copying.proofs.WalkInPostOrder.{tests_post_order, post_order-is-walk}
+use Rattle.std.specs.Prelude.{Ok, Err}
 
 -- ---- the tests
 
 pub data Tested (lent : Bool) (first date score : Bytes) (n : ℕ) (s : Bytes) (c : Copied) : Type 0 where
-  failed : (why : Refusal) → told_sector why ≡ 0 → OfFirst (Refused why) → c ≡ stopped 0 (Refused why) s → Tested lent first date score n s c
+  failed : (why : Refusal) → told_sector why ≡ 0 → OfFirst (Err why) → c ≡ stopped 0 (Err why) s → Tested lent first date score n s c
   passed : lent ≡ true → is_date date ≡ true → ltb most_allowance n ≡ false → c ≡ copy_root first date score n s → Tested lent first date score n s c
 
 module _ (first date score : Bytes) (n : ℕ) (s : Bytes) where
   by_tests_lem : (lent d a : Bool) → is_date date ≡ d → ltb most_allowance n ≡ a
       → Tested lent first date score n s
-      (cond lent (cond d (cond a (stopped 0 (Refused Allowance) s) (copy_root first date score n s)) (stopped 0 (Refused Date) s)) (stopped 0 (Refused LogLength) s))
+      (cond lent (cond d (cond a (stopped 0 (Err Allowance) s) (copy_root first date score n s)) (stopped 0 (Err Date) s)) (stopped 0 (Err LogLength) s))
   by_tests_lem false d a p q = failed LogLength refl (of-first LogLength refl refl) refl
   by_tests_lem true false a p q = failed Date refl (of-first Date refl refl) refl
   by_tests_lem true true true p q = failed Allowance refl (of-first Allowance refl refl) refl
@@ -128,7 +128,7 @@ module _ (log waiting date score second : Bytes) (n : ℕ) where
       (begun l d before (v ∷ after) q (λ z. absurd (o (subst (λ (w : Walked). OfSecond w.end) z (refuses_second R)))) W e)
 
   -- a call that a test refuses
-  unwritten : (why : Refusal) → outcome ≡ stopped 0 (Refused why) second → Wrote []
+  unwritten : (why : Refusal) → outcome ≡ stopped 0 (Err why) second → Wrote []
   unfolding wrote_all
   unwritten why e = record {
     rest = reached.visits;
@@ -168,25 +168,25 @@ module _ (log waiting date score second : Bytes) (n : ℕ) where
 
   -- it passed the tests, and all blocks of the walk are in the second log
   unfoldable pub Whole : ℕ → Type 0
-  Whole v = (lent ≡ true) × (reached.answer ≡ walked v Done) × HoldsAll outcome.second reached.visits
+  Whole v = (lent ≡ true) × (reached.answer ≡ walked v (Ok tt)) × HoldsAll outcome.second reached.visits
 
-  pub whole : (v : ℕ) → outcome.answer ≡ walked v Done → Whole v
+  pub whole : (v : ℕ) → outcome.answer ≡ walked v (Ok tt) → Whole v
   unfolding Whole
   whole v q = go (tested (tape log waiting) date score n second lent)
     where
       by : (l : lent ≡ true) → is_date date ≡ true → StopsAt (tape log waiting) date reached second outcome
-          → (lent ≡ true) × (reached.answer ≡ walked v Done) × HoldsAll outcome.second reached.visits
+          → (lent ≡ true) × (reached.answer ≡ walked v (Ok tt)) × HoldsAll outcome.second reached.visits
       by l d (ended W e a) = (l, sym a ∙ q, subst (λ (s : Bytes). HoldsAll s reached.visits) (sym e) (writes-held (tape log waiting) date d W (fits l)))
       by l d (refused _ _ _ _ _ _ _ _ R _ _) = not-of-second (refuses_second R) (ap (λ (w : Walked). w.end) q)
 
-      go : Tested lent (tape log waiting) date score n second outcome → (lent ≡ true) × (reached.answer ≡ walked v Done) × HoldsAll outcome.second reached.visits
+      go : Tested lent (tape log waiting) date score n second outcome → (lent ≡ true) × (reached.answer ≡ walked v (Ok tt)) × HoldsAll outcome.second reached.visits
       go (failed why _ _ e) = not_done why (ap (λ (c : Copied). c.answer.end) (sym e) ∙ ap (λ (w : Walked). w.end) q)
       go (passed l d a e) = by l d (stops l d)
 
   pub still-lent : lent ≡ true → copy_allowed (length log) (length waiting) (length outcome.second) ≡ true
   still-lent l = ap (copy_allowed (length log) (length waiting)) grown.stays.as_long ∙ l
 
-  same-walk : (v : ℕ) → outcome.answer ≡ walked v Done → post_order_of outcome.second [] score n ≡ reached
+  same-walk : (v : ℕ) → outcome.answer ≡ walked v (Ok tt) → post_order_of outcome.second [] score n ≡ reached
   unfolding Whole
   same-walk v q =
       let W = whole v q in
@@ -237,7 +237,7 @@ ends_whole log waiting date score second n v q =
     let s = (copy_of log waiting date score second n).second in
     let W = whole log waiting date score second n v q in
     let p = same-walk log waiting date score second n v q in
-    let w : walk_of s [] score n ≡ walked v Done = sym (post_order-is-walk s [] score n) ∙ ap (λ (x : PostOrder). x.answer) p ∙ W.1 in
+    let w : walk_of s [] score n ≡ walked v (Ok tt) = sym (post_order-is-walk s [] score n) ∙ ap (λ (x : PostOrder). x.answer) p ∙ W.1 in
     (p, W.2, w, root_holds (tape s []) s (λ t x r h. sym (held-alone s t x) ∙ h) (walk-found s [] score n v w))
 
 pub copy_is-walk : CopyIsWalk

@@ -13,9 +13,9 @@ use Rattle.entry.specs.declared.Entry.{Entry}
 use Rattle.entry.specs.Entry.{entry_of, score_of}
 use Rattle.entry.specs.Root.{root_well_formed, root_score}
 use Rattle.tree.specs.Tree.{type_at, count_at}
-use Rattle.visit.specs.declared.End.TheVariants.{Done, Refused}
 use Rattle.descent.specs.Descent.{padded_to, nest_of, entries_of}
 use Rattle.copying.specs.Copy.{Copied, stopped, copy_visit, copy_in_order, judged_copy, copy_directory, copy_entry, copy_top, copy_root}
+use Rattle.std.specs.Prelude.{Ok, Err}
 
 module _ (a b : Bytes) (f : Alike a b) (date : Bytes) where
   visit_alike : (nest left kind count : ℕ) (score : Bytes) (g h : Bytes → Bytes → Copied) → ((x s : Bytes) → g x s ≡ h x s) → (second : Bytes)
@@ -35,9 +35,9 @@ module _ (a b : Bytes) (f : Alike a b) (date : Bytes) where
     entry-alike (suc n) e level nest score left second =
         visit_alike nest left (type_at e level) (count_at e level) score _ _
         (λ x s i. cond (eqb level 0)
-        (cond e.directory (directory-alike n nest x (left - 1) s i) (stopped 0 Done s))
+        (cond e.directory (directory-alike n nest x (left - 1) s i) (stopped 0 (Ok tt) s))
         (cond (eqb (length x % 20) 0) (copy_in_order (λ y c s'. entry-alike n e (level - 1) nest y c s' i) 20 x (left - 1) (length x / 20) 0 0 s)
-        (stopped 0 (Refused Pointers) s)))
+        (stopped 0 (Err Pointers) s)))
         second
 
     directory-alike : (n nest : ℕ) (x : Bytes) (left : ℕ) (second : Bytes) → copy_directory n a date nest x left second ≡ copy_directory n b date nest x left second
@@ -54,4 +54,4 @@ module _ (a b : Bytes) (f : Alike a b) (date : Bytes) where
   unfolding copy_root
   root_alike score left second =
       visit_alike 0 left 1 300 score _ _
-      (λ x s i. cond (root_well_formed (padded_to 300 x)) (top-alike (root_score (padded_to 300 x)) (left - 1) s i) (stopped 0 (Refused IllFormed) s)) second
+      (λ x s i. cond (root_well_formed (padded_to 300 x)) (top-alike (root_score (padded_to 300 x)) (left - 1) s i) (stopped 0 (Err IllFormed) s)) second

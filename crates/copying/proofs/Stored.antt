@@ -9,7 +9,7 @@ use lib.ListN.{length}
 use Rattle.bedrock.specs.Choice.{on}
 use Rattle.buffer.specs.Bytes.{Bytes, same}
 use Rattle.buffer.proofs.Bytes.{same_refl, same_true}
-use Rattle.word.specs.Number.{small}
+use Rattle.digits.specs.Number.{small}
 use Rattle.sha1_digest.specs.Sha1.{sha1_of}
 use Rattle.refusal.specs.declared.Refusal.TheVariants.{NoRoom, Clash}
 use Rattle.kind.specs.Kind.{lawful, longest}
@@ -21,19 +21,19 @@ use Rattle.block.proofs.Facts.{facts_valid}
 use Rattle.sector_log.specs.LookUp.{held}
 use Rattle.sector_log.specs.Parts.{alone, room_for, append_row}
 use Rattle.sector_log.specs.Store.{AfterStore, after_store, receipt, new_row, parts_for, appended, compared, store}
-use Rattle.sector_log.specs.declared.Stored.TheVariants.{New, Duplicate, Refused as NotStored}
+use Rattle.sector_log.specs.declared.Stored.TheVariants.{New, Duplicate}
 use Rattle.sector_log.proofs.Allowed.{some_bytes}
-use Rattle.visit.specs.declared.End.TheVariants.{Done}
 use Rattle.copying.specs.Copy.{store_end}
 use Rattle.copying.specs.Promises.{Refuses, no_room, clash}
+use Rattle.std.specs.Prelude.{Ok, Err}
 
 -- ---- a store
 
 -- what a store of type t and bytes b leaves of a log s
 pub data Stored (s date : Bytes) (t : ℕ) (b : Bytes) (a : AfterStore) : Type 0 where
   new : (r : Row) → valid r ≡ true → r.first ≡ used s → r.first + parts r ≤ sectors (length s) → r.kind ≡ t → r.score ≡ sha1_of b → r.bytes ≡ b → r.date ≡ date
-      → held s t (sha1_of b) ≡ none → a.lent.log ≡ written s r → store_end a.receipt.stored ≡ Done → Stored s date t b a
-  there : (x : Row) → held s t (sha1_of b) ≡ some x → x.bytes ≡ b → a.lent.log ≡ s → store_end a.receipt.stored ≡ Done → Stored s date t b a
+      → held s t (sha1_of b) ≡ none → a.lent.log ≡ written s r → store_end a.receipt.stored ≡ Ok tt → Stored s date t b a
+  there : (x : Row) → held s t (sha1_of b) ≡ some x → x.bytes ≡ b → a.lent.log ≡ s → store_end a.receipt.stored ≡ Ok tt → Stored s date t b a
   refused : Refuses s date t b (store_end a.receipt.stored) → a.lent.log ≡ s → Stored s date t b a
 
 -- a log whose sectors eight digits name
@@ -46,8 +46,8 @@ room-alone s k e = leb-true (used s + k) (sectors (length s)) e
 
 module _ (s date : Bytes) (t : ℕ) (b : Bytes) (fit : Fits s) (d : is_date date ≡ true) (l : lawful t ≡ true) (m : length b ≤ longest) (o : small b ≡ true) where
   by_room : held s t (sha1_of b) ≡ none → (q : Bool) → room_for (alone s) (parts_for date b) ≡ q
-      → Stored s date t b (cond q (after_store (receipt (sha1_of b) (New (record { 0 = used s }))) (append_row (alone s) (new_row (alone s) date t b)))
-      (after_store (receipt (sha1_of b) (NotStored NoRoom)) (alone s)))
+      → Stored s date t b (cond q (after_store (receipt (sha1_of b) (Ok (New (record { 0 = used s })))) (append_row (alone s) (new_row (alone s) date t b)))
+      (after_store (receipt (sha1_of b) (Err NoRoom)) (alone s)))
   unfolding append_row
   by_room h true q =
       let r : Row = new_row (alone s) date t b in
@@ -65,8 +65,8 @@ module _ (s date : Bytes) (t : ℕ) (b : Bytes) (fit : Fits s) (d : is_date date
   by_room h false q = refused (no_room h q) refl
 
   by_bytes : (x : Row) → held s t (sha1_of b) ≡ some x → (q : Bool) → same x.bytes b ≡ q
-      → Stored s date t b (cond q (after_store (receipt (sha1_of b) (Duplicate (record { 0 = x.first }))) (alone s))
-      (after_store (receipt (sha1_of b) (NotStored Clash)) (alone s)))
+      → Stored s date t b (cond q (after_store (receipt (sha1_of b) (Ok (Duplicate (record { 0 = x.first })))) (alone s))
+      (after_store (receipt (sha1_of b) (Err Clash)) (alone s)))
   by_bytes x h true q = there x h (same_true x.bytes b q) refl refl
   by_bytes x h false q = refused (clash x h (λ e. true≢false (sym (rw e (same_refl b)) ∙ q))) refl
 

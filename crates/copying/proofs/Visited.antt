@@ -6,14 +6,14 @@ use native.Mathlib.Omega.{arith}
 use lib.ListN.{length, length-append}
 use Rattle.buffer.specs.Bytes.{Bytes}
 use mathlib.Core.Logic.{inl, inr}
-use Rattle.visit.specs.declared.End.{End}
-use Rattle.visit.specs.declared.End.TheVariants.{Done, Refused}
 use Rattle.visit.specs.declared.Walked.{Walked}
 use Rattle.visit.specs.Visit.{walked, more}
 use Rattle.descent.specs.Descent.{and_then}
 use Rattle.walk_laws.proofs.Found.{not_done}
 use Rattle.copying.specs.PostOrder.{Role, Visit, PostOrder, post_order, later, go_on, followed_by, behind}
 use Rattle.copying.specs.Promises.{HeldIn, HoldsAll, Linked, OfSecond}
+use Rattle.std.specs.Prelude.{Ok, Err, Result, ⊤}
+use Rattle.refusal.specs.declared.Refusal.{Refusal}
 
 -- ---- held in a log
 
@@ -34,9 +34,9 @@ module _ (L : Bytes) where
   holds_earlier n [] h = tt
   holds_earlier n (x ∷ xs) h = (h.0, holds_earlier n xs h.1)
 
-  pub holds_on : (e : End) (vs : List Visit) (m : ℕ) (k : ℕ → PostOrder) → HoldsAll L vs → HoldsAll L (k m).visits → HoldsAll L (go_on e vs m k).visits
-  holds_on Done vs m k f g = holds_join vs (k m).visits f g
-  holds_on (Refused why) vs m k f g = f
+  pub holds_on : (e : Result ⊤ Refusal) (vs : List Visit) (m : ℕ) (k : ℕ → PostOrder) → HoldsAll L vs → HoldsAll L (k m).visits → HoldsAll L (go_on e vs m k).visits
+  holds_on (Ok tt) vs m k f g = holds_join vs (k m).visits f g
+  holds_on (Err why) vs m k f g = f
 
 -- ---- within a count of visits
 
@@ -56,24 +56,24 @@ pub within-later : (n m : ℕ) (xs : List Visit) → SpentWithin m xs → SpentW
 within-later n m [] h = tt
 within-later n m (x ∷ xs) h = (omega (arith, h.0), within-later n m xs h.1)
 
-pub within_on : (e : End) (vs : List Visit) (m : ℕ) (k : ℕ → PostOrder) → SpentWithin m vs → m ≤ (k m).answer.visits → SpentWithin (k m).answer.visits (k m).visits
+pub within_on : (e : Result ⊤ Refusal) (vs : List Visit) (m : ℕ) (k : ℕ → PostOrder) → SpentWithin m vs → m ≤ (k m).answer.visits → SpentWithin (k m).answer.visits (k m).visits
     → SpentWithin (go_on e vs m k).answer.visits (go_on e vs m k).visits
-within_on Done vs m k f l g = within_join (k m).answer.visits vs (k m).visits (within_more m (k m).answer.visits l vs f) g
-within_on (Refused why) vs m k f l g = f
+within_on (Ok tt) vs m k f l g = within_join (k m).answer.visits vs (k m).visits (within_more m (k m).answer.visits l vs f) g
+within_on (Err why) vs m k f l g = f
 
 -- ---- refusals of the first log
 
 -- no 14 and no 15
-abbrev pub OfFirst : End → Type 0
+abbrev pub OfFirst : Result ⊤ Refusal → Type 0
 OfFirst e = OfSecond e → ⊥
 
-pub done_first : OfFirst Done
+pub done_first : OfFirst (Ok tt)
 done_first (inl q) = not_done _ (sym q)
 done_first (inr q) = not_done _ (sym q)
 
-pub first_on : (e : End) (vs : List Visit) (m : ℕ) (k : ℕ → PostOrder) → OfFirst e → OfFirst (k m).answer.end → OfFirst (go_on e vs m k).answer.end
-first_on Done vs m k f g = g
-first_on (Refused why) vs m k f g = f
+pub first_on : (e : Result ⊤ Refusal) (vs : List Visit) (m : ℕ) (k : ℕ → PostOrder) → OfFirst e → OfFirst (k m).answer.end → OfFirst (go_on e vs m k).answer.end
+first_on (Ok tt) vs m k f g = g
+first_on (Err why) vs m k f g = f
 
 -- ---- one visit each
 
@@ -83,27 +83,27 @@ length-later n (x ∷ xs) = ap suc (length-later n xs)
 
 -- a list that is done, behind n visits: as many blocks as were visited
 abbrev pub Counted : ℕ → PostOrder → Type 0
-Counted n p = p.answer.end ≡ Done → length p.visits + n ≡ p.answer.visits
+Counted n p = p.answer.end ≡ Ok tt → length p.visits + n ≡ p.answer.visits
 
 pub counted_followed : (p : PostOrder) (n : ℕ) (k : ℕ → PostOrder) → Counted 0 p → ((m : ℕ) → Counted m (k m)) → Counted n (followed_by p n k)
 counted_followed p n k f g = go p.answer.end refl
   where
-    go : (e : End) → p.answer.end ≡ e → Counted n (go_on e (map (later n) p.visits) (n + p.answer.visits) k)
-    go Done q d =
+    go : (e : Result ⊤ Refusal) → p.answer.end ≡ e → Counted n (go_on e (map (later n) p.visits) (n + p.answer.visits) k)
+    go (Ok tt) q d =
         let m = n + p.answer.visits in
         let xs = map (later n) p.visits in
         omega (arith, f q, g m d, length-later n p.visits, length-append xs (k m).visits)
-    go (Refused why) q d = not_done why d
+    go (Err why) q d = not_done why d
 
 pub counted-behind : (role : Role) (score b : Bytes) (p : PostOrder) → Counted 0 p → Counted 0 (behind role score b p)
 counted-behind role score b p f = go p.answer.end refl
   where
-    go : (e : End) → p.answer.end ≡ e
-        → Counted 0 (go_on e (map (later 1) p.visits) (1 + p.answer.visits) (λ n. post_order (record { role = role; score = score; bytes = b; spent = n } ∷ []) (walked n Done)))
-    go Done q d =
+    go : (e : Result ⊤ Refusal) → p.answer.end ≡ e
+        → Counted 0 (go_on e (map (later 1) p.visits) (1 + p.answer.visits) (λ n. post_order (record { role = role; score = score; bytes = b; spent = n } ∷ []) (walked n (Ok tt))))
+    go (Ok tt) q d =
         let ys : List Visit = record { role = role; score = score; bytes = b; spent = 1 + p.answer.visits } ∷ [] in
         omega (arith, f q, length-later 1 p.visits, length-append (map (later 1) p.visits) ys)
-    go (Refused why) q d = not_done why d
+    go (Err why) q d = not_done why d
 
 -- ---- each behind what it links to
 
@@ -131,28 +131,28 @@ links_later Q n (x ∷ xs) h = (h.0, links_later (λ L. Q L × HeldIn L x) n xs 
 abbrev pub Any : Bytes → Type 0
 Any L = Unit {0}
 
-pub links_on : (e : End) (vs : List Visit) (m : ℕ) (k : ℕ → PostOrder) → LinksFirst Any vs → LinksFirst Any (k m).visits → LinksFirst Any (go_on e vs m k).visits
-links_on Done vs m k f g = links_join Any vs (k m).visits f (links_known Any (λ L. Any L × HoldsAll L vs) (λ L q. tt) (k m).visits g)
-links_on (Refused why) vs m k f g = f
+pub links_on : (e : Result ⊤ Refusal) (vs : List Visit) (m : ℕ) (k : ℕ → PostOrder) → LinksFirst Any vs → LinksFirst Any (k m).visits → LinksFirst Any (go_on e vs m k).visits
+links_on (Ok tt) vs m k f g = links_join Any vs (k m).visits f (links_known Any (λ L. Any L × HoldsAll L vs) (λ L q. tt) (k m).visits g)
+links_on (Err why) vs m k f g = f
 
 -- ---- over two logs
 
-pub goes_done : (e : End) (vs : List Visit) (m : ℕ) (k : ℕ → PostOrder) → (go_on e vs m k).answer.end ≡ Done → e ≡ Done
-goes_done Done vs m k d = refl
-goes_done (Refused why) vs m k d = not_done why d
+pub goes_done : (e : Result ⊤ Refusal) (vs : List Visit) (m : ℕ) (k : ℕ → PostOrder) → (go_on e vs m k).answer.end ≡ Ok tt → e ≡ Ok tt
+goes_done (Ok tt) vs m k d = refl
+goes_done (Err why) vs m k d = not_done why d
 
-goes_again : (L : Bytes) (e : End) (vs : List Visit) (m : ℕ) (k k' : ℕ → PostOrder) → ((k m).answer.end ≡ Done → HoldsAll L (k m).visits → k' m ≡ k m)
-    → (go_on e vs m k).answer.end ≡ Done → HoldsAll L (go_on e vs m k).visits → go_on e vs m k' ≡ go_on e vs m k
-goes_again L Done vs m k k' f d h = ap (λ (p : PostOrder). post_order (vs ++ p.visits) p.answer) (f d (holds_parts L vs (k m).visits h).1)
-goes_again L (Refused why) vs m k k' f d h = not_done why d
+goes_again : (L : Bytes) (e : Result ⊤ Refusal) (vs : List Visit) (m : ℕ) (k k' : ℕ → PostOrder) → ((k m).answer.end ≡ Ok tt → HoldsAll L (k m).visits → k' m ≡ k m)
+    → (go_on e vs m k).answer.end ≡ Ok tt → HoldsAll L (go_on e vs m k).visits → go_on e vs m k' ≡ go_on e vs m k
+goes_again L (Ok tt) vs m k k' f d h = ap (λ (p : PostOrder). post_order (vs ++ p.visits) p.answer) (f d (holds_parts L vs (k m).visits h).1)
+goes_again L (Err why) vs m k k' f d h = not_done why d
 
-goes_held : (L : Bytes) (e : End) (vs : List Visit) (m : ℕ) (k : ℕ → PostOrder) → HoldsAll L (go_on e vs m k).visits → HoldsAll L vs
-goes_held L Done vs m k h = (holds_parts L vs (k m).visits h).0
-goes_held L (Refused why) vs m k h = h
+goes_held : (L : Bytes) (e : Result ⊤ Refusal) (vs : List Visit) (m : ℕ) (k : ℕ → PostOrder) → HoldsAll L (go_on e vs m k).visits → HoldsAll L vs
+goes_held L (Ok tt) vs m k h = (holds_parts L vs (k m).visits h).0
+goes_held L (Err why) vs m k h = h
 
-pub followed_again : (L : Bytes) (p p' : PostOrder) (n : ℕ) (k k' : ℕ → PostOrder) → (p.answer.end ≡ Done → HoldsAll L p.visits → p' ≡ p)
-    → ((m : ℕ) → (k m).answer.end ≡ Done → HoldsAll L (k m).visits → k' m ≡ k m)
-    → (followed_by p n k).answer.end ≡ Done → HoldsAll L (followed_by p n k).visits → followed_by p' n k' ≡ followed_by p n k
+pub followed_again : (L : Bytes) (p p' : PostOrder) (n : ℕ) (k k' : ℕ → PostOrder) → (p.answer.end ≡ Ok tt → HoldsAll L p.visits → p' ≡ p)
+    → ((m : ℕ) → (k m).answer.end ≡ Ok tt → HoldsAll L (k m).visits → k' m ≡ k m)
+    → (followed_by p n k).answer.end ≡ Ok tt → HoldsAll L (followed_by p n k).visits → followed_by p' n k' ≡ followed_by p n k
 followed_again L p p' n k k' f g d h =
     let vs = map (later n) p.visits in
     let m = n + p.answer.visits in
@@ -161,9 +161,9 @@ followed_again L p p' n k k' f g d h =
 
 -- ---- the walk's answer
 
-goes_answer : (e : End) (vs : List Visit) (n : ℕ) (k : ℕ → PostOrder) (K : ℕ → Walked) → ((m : ℕ) → (k m).answer ≡ K m) → (go_on e vs n k).answer ≡ and_then e n K
-goes_answer Done vs n k K f = f n
-goes_answer (Refused why) vs n k K f = refl
+goes_answer : (e : Result ⊤ Refusal) (vs : List Visit) (n : ℕ) (k : ℕ → PostOrder) (K : ℕ → Walked) → ((m : ℕ) → (k m).answer ≡ K m) → (go_on e vs n k).answer ≡ and_then e n K
+goes_answer (Ok tt) vs n k K f = f n
+goes_answer (Err why) vs n k K f = refl
 
 pub followed_answer : (p : PostOrder) (w : Walked) (n : ℕ) (k : ℕ → PostOrder) (K : ℕ → Walked) → p.answer ≡ w → ((m : ℕ) → (k m).answer ≡ K m)
     → (followed_by p n k).answer ≡ and_then w.end (n + w.visits) K
@@ -172,7 +172,7 @@ followed_answer p w n k K q f = goes_answer p.answer.end _ _ k K f ∙ ap (λ (x
 pub behind-answer : (role : Role) (score b : Bytes) (p : PostOrder) (w : Walked) → p.answer ≡ w → (behind role score b p).answer ≡ more w
 behind-answer role score b p w q = go p.answer.end ∙ ap more q
   where
-    go : (e : End) → (go_on e (map (later 1) p.visits) (1 + p.answer.visits) (λ n. post_order (record { role = role; score = score; bytes = b; spent = n } ∷ []) (walked n Done))).answer
+    go : (e : Result ⊤ Refusal) → (go_on e (map (later 1) p.visits) (1 + p.answer.visits) (λ n. post_order (record { role = role; score = score; bytes = b; spent = n } ∷ []) (walked n (Ok tt)))).answer
         ≡ walked (p.answer.visits + 1) e
-    go Done = let z : 1 + p.answer.visits ≡ p.answer.visits + 1 = omega arith in ap (λ (n : ℕ). walked n Done) z
-    go (Refused why) = let z : 1 + p.answer.visits ≡ p.answer.visits + 1 = omega arith in ap (λ (n : ℕ). walked n (Refused why)) z
+    go (Ok tt) = let z : 1 + p.answer.visits ≡ p.answer.visits + 1 = omega arith in ap (λ (n : ℕ). walked n (Ok tt)) z
+    go (Err why) = let z : 1 + p.answer.visits ≡ p.answer.visits + 1 = omega arith in ap (λ (n : ℕ). walked n (Err why)) z

@@ -18,8 +18,6 @@ use Rattle.entry.specs.Entry.{entry_of, entry_allowed, score_of}
 use Rattle.entry.specs.Root.{root_well_formed, root_score}
 use Rattle.tree.specs.Tree.{piece, count_at}
 use Rattle.visit.specs.declared.Walked.{Walked}
-use Rattle.visit.specs.declared.End.{End}
-use Rattle.visit.specs.declared.End.TheVariants.{Done, Refused}
 use Rattle.visit.specs.Visit.{walked, visiting}
 use Rattle.descent.specs.Descent.{and_then, padded_to, in_order, nest_of, entries_of, judged, visit_directory, visit_entry}
 use Rattle.walk.specs.Walk.{walk_top, walk_root, walk_in, most_allowance}
@@ -32,20 +30,21 @@ use Rattle.copying.proofs.OneVisit.{of-first, absence-first, walks_by, within_by
 use Rattle.copying.proofs.Visited.{OfFirst, done_first, first_on, holds_later, holds_on, SpentWithin, within-later, within_on, LinksFirst, links_later, links_on, Any}
 use Rattle.copying.proofs.Visited.{followed_again, followed_answer}
 use Rattle.copying.proofs.Visited.{Counted, counted_followed}
+use Rattle.std.specs.Prelude.{Ok, Err, Result, ⊤}
 
 -- over any log P is the walk W in post-order, behind n visits
 pub record PostOrdered (n : ℕ) (P : Bytes → PostOrder) (W : Bytes → Walked) : Type 0 where
   pub walks : (L : Bytes) → (P L).answer ≡ W L
   pub within : (L : Bytes) → SpentWithin (P L).answer.visits (P L).visits
   pub shown : (L : Bytes) → HoldsAll L (P L).visits
-  pub again : (L L' : Bytes) → (P L).answer.end ≡ Done → HoldsAll L' (P L).visits → P L' ≡ P L
+  pub again : (L L' : Bytes) → (P L).answer.end ≡ Ok tt → HoldsAll L' (P L).visits → P L' ≡ P L
   pub links : (L : Bytes) → LinksFirst Any (P L).visits
   pub counted : (L : Bytes) → Counted n (P L)
   pub first : (L : Bytes) → OfFirst (P L).answer.end
 
 -- ---- no visit, a choice, one behind the other
 
-stops_there : (n k : ℕ) (why : Refusal) → OfFirst (Refused why) → PostOrdered n (λ L. post_order [] (walked k (Refused why))) (λ L. walked k (Refused why))
+stops_there : (n k : ℕ) (why : Refusal) → OfFirst (Err why) → PostOrdered n (λ L. post_order [] (walked k (Err why))) (λ L. walked k (Err why))
 stops_there n k why f = record {
   walks = λ L. refl;
   within = λ L. tt;
@@ -56,7 +55,7 @@ stops_there n k why f = record {
   first = λ L. f;
 }
 
-no_more : (n : ℕ) → PostOrdered n (λ L. post_order [] (walked n Done)) (λ L. walked n Done)
+no_more : (n : ℕ) → PostOrdered n (λ L. post_order [] (walked n (Ok tt))) (λ L. walked n (Ok tt))
 no_more n = record { walks = λ L. refl; within = λ L. tt; shown = λ L. tt; again = λ L L' d h. refl; links = λ L. tt; counted = λ L d. omega arith; first = λ L. done_first }
 
 cond_post_order : {n : ℕ} (b : Bool) (P Q : Bytes → PostOrder) (W X : Bytes → Walked) → PostOrdered n P W → PostOrdered n Q X → PostOrdered n (λ L. cond b (P L) (Q L)) (λ L. cond b (W L) (X L))
@@ -80,9 +79,9 @@ followed_post_order P W n K X f g l = record {
 }
 
 -- what goes on spends no less
-goes_spends : (e : End) (vs : List Visit) (n : ℕ) (k : ℕ → PostOrder) → n ≤ (k n).answer.visits → n ≤ (go_on e vs n k).answer.visits
-goes_spends Done vs n k f = f
-goes_spends (Refused why) vs n k f = omega arith
+goes_spends : (e : Result ⊤ Refusal) (vs : List Visit) (n : ℕ) (k : ℕ → PostOrder) → n ≤ (k n).answer.visits → n ≤ (go_on e vs n k).answer.visits
+goes_spends (Ok tt) vs n k f = f
+goes_spends (Err why) vs n k f = omega arith
 
 order_spends : (go : Bytes → ℕ → PostOrder) (w : ℕ) (b : Bytes) (left k i n : ℕ) → n ≤ (each_in_order go w b left k i n).answer.visits
 unfolding each_in_order
@@ -109,7 +108,7 @@ judged_post_order x P W f =
 -- ---- a visit
 
 module _ (nest left : ℕ) (role : Role) (count : ℕ) (score : Bytes) (B : Bytes → Bytes → PostOrder) (X : Bytes → Bytes → Walked)
-    (f : 0 < left → (b : Bytes) → PostOrdered 0 (B b) (X b)) (linked : 0 < left → (b L : Bytes) → (X b L).end ≡ Done → Linked L role b) where
+    (f : 0 < left → (b : Bytes) → PostOrdered 0 (B b) (X b)) (linked : 0 < left → (b L : Bytes) → (X b L).end ≡ Ok tt → Linked L role b) where
   something_left : eqb left 0 ≡ false → 0 < left
   something_left q = let z = eqb-false left 0 q in omega arith
 
@@ -171,7 +170,7 @@ top_post_order score left =
 root_post_order : (score : Bytes) (left : ℕ) → PostOrdered 0 (λ L. root_last L score left) (λ L. walk_root L score left)
 unfolding root_last walk_root
 root_post_order score left =
-    visit_post_order 0 left root 300 score _ (λ b L. cond (root_well_formed (padded_to 300 b)) (walk_top L (root_score (padded_to 300 b)) (left - 1)) (walked 0 (Refused IllFormed)))
+    visit_post_order 0 left root 300 score _ (λ b L. cond (root_well_formed (padded_to 300 b)) (walk_top L (root_score (padded_to 300 b)) (left - 1)) (walked 0 (Err IllFormed)))
     (λ p b. cond_post_order (root_well_formed (padded_to 300 b)) _ _ _ _ (top_post_order (root_score (padded_to 300 b)) (left - 1)) (stops_there 0 0 IllFormed (of-first IllFormed refl refl)))
     (λ p b L d. below-a-root L b (left - 1) (root_well_formed (padded_to 300 b)) refl d)
 
@@ -191,6 +190,6 @@ directory-is-walk calls log nest b left h = (directory_post_order calls nest b l
 pub each_visit_once : EachVisitOnce
 each_visit_once log waiting score n v e =
     let T = tests_post_order (lent_allowed (length log) (length waiting)) score n in
-    let q : (post_order_of log waiting score n).answer ≡ walked v Done = T.walks (tape log waiting) ∙ e in
+    let q : (post_order_of log waiting score n).answer ≡ walked v (Ok tt) = T.walks (tape log waiting) ∙ e in
     let z = T.counted (tape log waiting) (ap (λ (w : Walked). w.end) q) in
     omega (arith, z, ap (λ (w : Walked). w.visits) q)

@@ -9,7 +9,7 @@ use Prim.Native.Nat.{ℕ, ◌≤◌, ◌^◌}
 use lib.ListN.{length}
 use Rattle.buffer.specs.Bytes.{Bytes, same}
 use Rattle.buffer.proofs.Bytes.{same_refl, same_false}
-use Rattle.word.specs.Number.{small}
+use Rattle.digits.specs.Number.{small}
 use Rattle.sha1_digest.specs.Sha1.{sha1_of}
 use Rattle.kind.specs.Kind.{lawful, longest}
 use Rattle.sector.specs.Sector.{is_date}
@@ -20,8 +20,6 @@ use Rattle.sector_log.specs.Parts.{alone}
 use Rattle.sector_log.specs.Store.{AfterStore, store}
 use Rattle.sector_log.proofs.Named.{held-named}
 use Rattle.sector_log.proofs.Written.{held-appended}
-use Rattle.visit.specs.declared.End.{End}
-use Rattle.visit.specs.declared.End.TheVariants.{Done, Refused}
 use Rattle.visit.specs.declared.Walked.{Walked}
 use Rattle.visit.specs.Visit.{walked}
 use Rattle.walk_laws.proofs.Found.{not_done}
@@ -32,12 +30,14 @@ use Rattle.copying.specs.Promises.{refused as refusedAt}
 use Rattle.copying.proofs.Stored.{Stored, new, there, refused, Fits, stored-alone}
 use Rattle.copying.proofs.Grown.{linked_holds, shown_holds, Grown, grown-same, grown_again, grown-written}
 use Rattle.copying.proofs.Visited.{SpentWithin, LinksFirst}
+use Rattle.std.specs.Prelude.{Ok, Err, Result, ⊤}
+use Rattle.refusal.specs.declared.Refusal.{Refusal}
 
-pub not-of-second {ℓ} : {A : Type ℓ} {e : End} → OfSecond e → e ≡ Done → A
+pub not-of-second {ℓ} : {A : Type ℓ} {e : Result ⊤ Refusal} → OfSecond e → e ≡ Ok tt → A
 not-of-second (inl p) q = not_done _ (sym p ∙ q)
 not-of-second (inr p) q = not_done _ (sym p ∙ q)
 
-pub refuses_second : {s date : Bytes} {t : ℕ} {b : Bytes} {e : End} → Refuses s date t b e → OfSecond e
+pub refuses_second : {s date : Bytes} {t : ℕ} {b : Bytes} {e : Result ⊤ Refusal} → Refuses s date t b e → OfSecond e
 refuses_second (no_room h q) = inl refl
 refuses_second (clash x h f) = inr refl
 
@@ -57,17 +57,17 @@ shown_writable log t score b S =
 -- ---- one store
 
 -- of a block that is there, or that is refused: nothing is written
-abbrev Leaves : AfterStore → End → Bytes → Type 0
+abbrev Leaves : AfterStore → Result ⊤ Refusal → Bytes → Type 0
 Leaves a e s = (store_end a.receipt.stored ≡ e) × (a.lent.log ≡ s)
 
-pub there-stored : (s date : Bytes) (t : ℕ) (score b : Bytes) → Shown s t score b → Leaves (store (alone s) date t b) Done s
+pub there-stored : (s date : Bytes) (t : ℕ) (score b : Bytes) → Shown s t score b → Leaves (store (alone s) date t b) (Ok tt) s
 unfolding store
 there-stored s date t score b S =
     let h : held s t (sha1_of b) ≡ some S.row = ap (held s t) (shown_writable s t score b S).scored ∙ S.row-held in
     let q : same S.row.bytes b ≡ true = rw S.these (same_refl b) in
     rw (h, q) (refl, refl)
 
-pub refused-stored : (s date : Bytes) (t : ℕ) (b : Bytes) (e : End) → Refuses s date t b e → Leaves (store (alone s) date t b) e s
+pub refused-stored : (s date : Bytes) (t : ℕ) (b : Bytes) (e : Result ⊤ Refusal) → Refuses s date t b e → Leaves (store (alone s) date t b) e s
 unfolding store
 refused-stored s date t b _ (no_room h q) = rw (h, q) (refl, refl)
 refused-stored s date t b _ (clash x h f) = rw (h, same_false x.bytes b f) (refl, refl)
@@ -79,7 +79,7 @@ stored-grown vs s date v a (new r w f room k sc eb d h e _) m =
 stored-grown vs s date v a (there x h eb e _) m = subst (Grown vs date s) (sym e) (grown-same vs date s)
 stored-grown vs s date v a (refused _ e) m = subst (Grown vs date s) (sym e) (grown-same vs date s)
 
-stored-shown : (s date : Bytes) (t : ℕ) (score b : Bytes) (a : AfterStore) → Stored s date t b a → sha1_of b ≡ score → store_end a.receipt.stored ≡ Done
+stored-shown : (s date : Bytes) (t : ℕ) (score b : Bytes) (a : AfterStore) → Stored s date t b a → sha1_of b ≡ score → store_end a.receipt.stored ≡ Ok tt
     → Shown a.lent.log t score b
 stored-shown s date t score b a (new r v f room k sc eb d h e _) z q =
     let n : held s r.kind r.score ≡ nothing = ap₂ (held s) k sc ∙ h in
@@ -137,25 +137,25 @@ module _ (first date : Bytes) (d : is_date date ≡ true) where
 
   -- ---- how storing a list ends
 
-  one_more : (v : Visit) (vs : List Visit) (w : Walked) (s : Bytes) (c : Copied) → HeldIn first v → Linked s v.role v.bytes → store_end (stored date v s).receipt.stored ≡ Done
+  one_more : (v : Visit) (vs : List Visit) (w : Walked) (s : Bytes) (c : Copied) → HeldIn first v → Linked s v.role v.bytes → store_end (stored date v s).receipt.stored ≡ Ok tt
       → StopsAt first date (post_order vs w) (wrote date v s) c → StopsAt first date (post_order (v ∷ vs) w) s c
   unfolding wrote_all
   one_more v vs w s c h l q (ended W e a) = ended (next h l q W) e a
   one_more v vs w s c h l q (refusedAt before after x e W b k m R n i) = refusedAt (v ∷ before) after x (ap (λ (y : List Visit). v ∷ y) e) (next h l q W) b k m R n i
 
   stops_here : (v : Visit) (vs : List Visit) (w : Walked) (s s' : Bytes) (k : ℕ → Bytes → Copied) → HeldIn first v → Linked s v.role v.bytes → v.spent ≤ w.visits → s' ≡ s
-      → (e : End) → Refuses s date (type_of v.role) v.bytes e → StopsAt first date (post_order (v ∷ vs) w) s (then_by e v.spent s' k)
+      → (e : Result ⊤ Refusal) → Refuses s date (type_of v.role) v.bytes e → StopsAt first date (post_order (v ∷ vs) w) s (then_by e v.spent s' k)
   unfolding wrote_all
-  stops_here v vs w s s' k h l i z Done R = not-of-second (refuses_second R) refl
-  stops_here v vs w s s' k h l i z (Refused why) R =
+  stops_here v vs w s s' k h l i z (Ok tt) R = not-of-second (refuses_second R) refl
+  stops_here v vs w s s' k h l i z (Err why) R =
       refusedAt [] vs v refl none z h (subst (λ (x : Bytes). Linked x v.role v.bytes) (sym z) l)
-      (subst (λ (x : Bytes). Refuses x date (type_of v.role) v.bytes (Refused why)) (sym z) R) refl i
+      (subst (λ (x : Bytes). Refuses x date (type_of v.role) v.bytes (Err why)) (sym z) R) refl i
 
   goes_through : (v : Visit) (vs : List Visit) (w : Walked) (s : Bytes) → HeldIn first v → Linked s v.role v.bytes
-      → StopsAt first date (post_order vs w) (wrote date v s) (store_visits date vs w (wrote date v s)) → (e : End) → store_end (stored date v s).receipt.stored ≡ e → e ≡ Done
+      → StopsAt first date (post_order vs w) (wrote date v s) (store_visits date vs w (wrote date v s)) → (e : Result ⊤ Refusal) → store_end (stored date v s).receipt.stored ≡ e → e ≡ Ok tt
       → StopsAt first date (post_order (v ∷ vs) w) s (then_by e v.spent (wrote date v s) (λ n x. store_visits date vs w x))
-  goes_through v vs w s h l S Done q z = one_more v vs w s (store_visits date vs w (wrote date v s)) h l q S
-  goes_through v vs w s h l S (Refused why) q z = not_done why z
+  goes_through v vs w s h l S (Ok tt) q z = one_more v vs w s (store_visits date vs w (wrote date v s)) h l q S
+  goes_through v vs w s h l S (Err why) q z = not_done why z
 
   pub stops_at : (vs : List Visit) (w : Walked) (s : Bytes) → Fits s → (Q : Bytes → Type 0) → ((L L' : Bytes) → Holds L L' → Q L → Q L') → Q s → LinksFirst Q vs
       → HoldsAll first vs → SpentWithin w.visits vs → StopsAt first date (post_order vs w) s (store_visits date vs w s)
@@ -170,7 +170,7 @@ module _ (first date : Bytes) (d : is_date date ≡ true) where
       (f s (wrote date v s) G.stays.still-held q, S) l.1 h.1 i.1)
     where
       by : Stored s date (type_of v.role) v.bytes (stored date v s)
-          → (store_end (stored date v s).receipt.stored ≡ Done → StopsAt first date (post_order vs w) (wrote date v s) (store_visits date vs w (wrote date v s)))
+          → (store_end (stored date v s).receipt.stored ≡ Ok tt → StopsAt first date (post_order vs w) (wrote date v s) (store_visits date vs w (wrote date v s)))
           → StopsAt first date (post_order (v ∷ vs) w) s (then_by (store_end (stored date v s).receipt.stored) v.spent (wrote date v s) (λ n x. store_visits date vs w x))
       by (new _ _ _ _ _ _ _ _ _ _ z) g = goes_through v vs w s h.0 (l.0 s q) (g z) (store_end (stored date v s).receipt.stored) refl z
       by (there _ _ _ _ z) g = goes_through v vs w s h.0 (l.0 s q) (g z) (store_end (stored date v s).receipt.stored) refl z
@@ -178,9 +178,9 @@ module _ (first date : Bytes) (d : is_date date ≡ true) where
 
 -- ---- storing again
 
-pub then-done : (e : End) (n : ℕ) (s s' : Bytes) (k : Bytes → Copied) → e ≡ Done → s' ≡ s → then_by e n s' (λ m x. k x) ≡ k s
-then-done Done n s s' k q z = ap k z
-then-done (Refused why) n s s' k q z = not_done why q
+pub then-done : (e : Result ⊤ Refusal) (n : ℕ) (s s' : Bytes) (k : Bytes → Copied) → e ≡ Ok tt → s' ≡ s → then_by e n s' (λ m x. k x) ≡ k s
+then-done (Ok tt) n s s' k q z = ap k z
+then-done (Err why) n s s' k q z = not_done why q
 
 -- blocks that are all there add nothing
 pub all_there : (date : Bytes) (vs : List Visit) (w : Walked) (s : Bytes) → HoldsAll s vs → store_visits date vs w s ≡ copied w s
@@ -191,11 +191,11 @@ all_there date (v ∷ vs) w s h =
     then-done (store_end (stored date v s).receipt.stored) v.spent s (stored date v s).lent.log (λ x. store_visits date vs w x) t.0 t.1
     ∙ all_there date vs w s h.1
 
-then-refused : (e f : End) (n : ℕ) (s s' : Bytes) (k : ℕ → Bytes → Copied) → e ≡ f → OfSecond f → s' ≡ s → then_by e n s' k ≡ copied (walked n f) s
-then-refused Done f n s s' k q o z = not-of-second o (sym q)
-then-refused (Refused why) f n s s' k q o z = ap₂ (λ (x : End) (y : Bytes). copied (walked n x) y) q z
+then-refused : (e f : Result ⊤ Refusal) (n : ℕ) (s s' : Bytes) (k : ℕ → Bytes → Copied) → e ≡ f → OfSecond f → s' ≡ s → then_by e n s' k ≡ copied (walked n f) s
+then-refused (Ok tt) f n s s' k q o z = not-of-second o (sym q)
+then-refused (Err why) f n s s' k q o z = ap₂ (λ (x : Result ⊤ Refusal) (y : Bytes). copied (walked n x) y) q z
 
-pub refused_again : (date : Bytes) (v : Visit) (vs : List Visit) (w : Walked) (s : Bytes) (e : End) → Refuses s date (type_of v.role) v.bytes e
+pub refused_again : (date : Bytes) (v : Visit) (vs : List Visit) (w : Walked) (s : Bytes) (e : Result ⊤ Refusal) → Refuses s date (type_of v.role) v.bytes e
     → store_visits date (v ∷ vs) w s ≡ copied (walked v.spent e) s
 unfolding store_visits
 refused_again date v vs w s e R =

@@ -1,5 +1,5 @@
 -- What a copy promises, for any first log and any second log.
-use Rattle.std.specs.Prelude.{◌≡◌, true, false, cond, ◌≢◌, ◌⊎◌, ℕ, zero, suc, ◌+◌, ◌/◌, ◌%◌, ◌≤◌, ◌<◌, length}
+use Rattle.std.specs.Prelude.{◌≡◌, true, false, cond, ◌≢◌, ◌⊎◌, ℕ, zero, suc, ◌+◌, ◌/◌, ◌%◌, ◌≤◌, ◌<◌, length, Ok, Err, Result, ⊤}
 use mathlib.Core.List.{List, [], ◌∷◌, ◌++◌, Memᴰ}
 use Rattle.std.proofs.Math.Option.{some, none as nothing}
 use Rattle.buffer.specs.Bytes.{Bytes}
@@ -14,8 +14,6 @@ use Rattle.sector_log.specs.Store.{parts_for}
 use Rattle.entry.specs.declared.Entry.{Entry}
 use Rattle.entry.specs.Root.{root_well_formed, root_score}
 use Rattle.tree.specs.Tree.{piece}
-use Rattle.visit.specs.declared.End.{End}
-use Rattle.visit.specs.declared.End.TheVariants.{Done, Refused}
 use Rattle.visit.specs.declared.Walked.{Walked}
 use Rattle.visit.specs.Visit.{walked}
 use Rattle.descent.specs.Descent.{padded_to, visit_directory}
@@ -23,6 +21,7 @@ use Rattle.walk.specs.Walk.{most_allowance, walk_of}
 use Rattle.walk_laws.specs.Found.{Found, FoundEntries, FoundRoot}
 use Rattle.copying.specs.Copy.{Copied, store_end, copy_allowed, copy_of}
 use Rattle.copying.specs.PostOrder.{Role, root, top, of_entry, type_of, Visit, PostOrder, directory_last, post_order_of, stored, store_visits}
+use Rattle.refusal.specs.declared.Refusal.{Refusal}
 
 -- ---- what it stores
 
@@ -37,12 +36,12 @@ DirectoryIsWalk = (calls : ℕ) (log : Bytes) (nest : ℕ) (b : Bytes) (left : �
 
 -- and where the walk ends, it has a block for each visit
 abbrev pub EachVisitOnce : Type 0
-EachVisitOnce = (log waiting score : Bytes) (n v : ℕ) → walk_of log waiting score n ≡ walked v Done → length (post_order_of log waiting score n).visits ≡ v
+EachVisitOnce = (log waiting score : Bytes) (n v : ℕ) → walk_of log waiting score n ≡ walked v (Ok tt) → length (post_order_of log waiting score n).visits ≡ v
 
 -- a larger allowance: the same, or the smaller one ran out (21) and the larger goes on from there
 abbrev pub MoreAllowance : Type 0
 MoreAllowance = (log waiting score : Bytes) (m n : ℕ) → m ≤ n → n ≤ most_allowance → let p = post_order_of log waiting score m in let q = post_order_of log waiting score n in
-    (q ≡ p) ⊎ ((rest : List Visit) × (p.answer.end ≡ Refused Spent) × (q.visits ≡ p.visits ++ rest))
+    (q ≡ p) ⊎ ((rest : List Visit) × (p.answer.end ≡ Err Spent) × (q.visits ≡ p.visits ++ rest))
 
 -- "Children go before parents, the root last": a copy is the blocks of the walk over the first log, stored in post-order up to the first refused one; behind
 -- the last one its answer is the walk's
@@ -92,13 +91,13 @@ wrote_all date (v ∷ vs) s = wrote_all date vs (wrote date v s)
 -- each block is held in the first log; when it is written, all that it links to is in the second; and its write is not refused
 pub data Writes (first date : Bytes) : List Visit → Bytes → Type 0 where
   none : {s : Bytes} → Writes first date [] s
-  next : {v : Visit} {vs : List Visit} {s : Bytes} → HeldIn first v → Linked s v.role v.bytes → store_end (stored date v s).receipt.stored ≡ Done
+  next : {v : Visit} {vs : List Visit} {s : Bytes} → HeldIn first v → Linked s v.role v.bytes → store_end (stored date v s).receipt.stored ≡ Ok tt
       → Writes first date vs (wrote date v s) → Writes first date (v ∷ vs) s
 
 -- the visits of a list up to the first one whose block the second log refuses
-abbrev pub taken_by : End → Visit → List Visit → List Visit
-taken_by Done v vs = v ∷ vs
-taken_by (Refused why) v vs = []
+abbrev pub taken_by : Result ⊤ Refusal → Visit → List Visit → List Visit
+taken_by (Ok tt) v vs = v ∷ vs
+taken_by (Err why) v vs = []
 
 unfoldable pub taken : Bytes → List Visit → Bytes → List Visit
 taken date [] s = []
@@ -125,9 +124,9 @@ CopyIsWrites = (log waiting date score second : Bytes) (n : ℕ)
     → OnlyWrites (tape log waiting) date (post_order_of log waiting score n) (made log waiting date score second n) second (copy_of log waiting date score second n)
 
 -- why a log refuses a block: 14, it holds none of this type and score and has too few sectors left; 15, it holds one of other bytes
-pub data Refuses (s date : Bytes) (t : ℕ) (b : Bytes) : End → Type 0 where
-  no_room : held s t (sha1_of b) ≡ nothing → room_for (alone s) (parts_for date b) ≡ false → Refuses s date t b (Refused NoRoom)
-  clash : (x : Row) → held s t (sha1_of b) ≡ some x → x.bytes ≢ b → Refuses s date t b (Refused Clash)
+pub data Refuses (s date : Bytes) (t : ℕ) (b : Bytes) : Result ⊤ Refusal → Type 0 where
+  no_room : held s t (sha1_of b) ≡ nothing → room_for (alone s) (parts_for date b) ≡ false → Refuses s date t b (Err NoRoom)
+  clash : (x : Row) → held s t (sha1_of b) ≡ some x → x.bytes ≢ b → Refuses s date t b (Err Clash)
 
 -- how a copy ends: with the walk's answer, and all blocks of the walk written; or at the first block that the second log refuses, as it is left behind: those before
 -- it are written, all that it links to is there, and the answer is that refusal with the visits spent by then
@@ -143,8 +142,8 @@ CopyStopsAt = (log waiting date score second : Bytes) (n : ℕ) → copy_allowed
     → StopsAt (tape log waiting) date (post_order_of log waiting score n) second (copy_of log waiting date score second n)
 
 -- refusals that speak of the second log
-abbrev pub OfSecond : End → Type 0
-OfSecond e = (e ≡ Refused NoRoom) ⊎ (e ≡ Refused Clash)
+abbrev pub OfSecond : Result ⊤ Refusal → Type 0
+OfSecond e = (e ≡ Err NoRoom) ⊎ (e ≡ Err Clash)
 
 -- a block that the first log holds and the second one refuses, as a copy left it, with its answer
 abbrev pub RefusedBlock : Bytes → Bytes → Copied → Type 0
@@ -200,10 +199,10 @@ NoDangling = (log waiting date score second : Bytes) (n : ℕ) (new : List Row)
 -- visits, and it ends; so all below the root is found
 abbrev pub EndsWhole : Type 0
 EndsWhole = (log waiting date score second : Bytes) (n v : ℕ) → let c = copy_of log waiting date score second n in
-    c.answer ≡ walked v Done
+    c.answer ≡ walked v (Ok tt)
     → (post_order_of c.second [] score n ≡ post_order_of log waiting score n)
     × HoldsAll c.second (post_order_of log waiting score n).visits
-    × (walk_of c.second [] score n ≡ walked v Done)
+    × (walk_of c.second [] score n ≡ walked v (Ok tt))
     × FoundRoot c.second score
 
 -- the walk's answer; or 14 or 15, after no more visits than the walk's
@@ -225,4 +224,4 @@ CopyAgain = (log waiting date score second : Bytes) (n : ℕ)
 -- where it ended, with any date
 abbrev pub CopyAgainAddsNothing : Type 0
 CopyAgainAddsNothing = (log waiting date date' score second : Bytes) (n v : ℕ) → is_date date' ≡ true → let c = copy_of log waiting date score second n in
-    c.answer ≡ walked v Done → copy_of log waiting date' score c.second n ≡ c
+    c.answer ≡ walked v (Ok tt) → copy_of log waiting date' score c.second n ≡ c

@@ -10,13 +10,7 @@ fn update(c: u32, s: &[u8]) -> u32
     ensures { result ≡ feed c s.now }
 {
     let t = crc32_tables::bytes::table();
-    let mut r = c;
-    let mut i = 0;
-    while i < s.len() {
-        r = crc32_steps::next(&t, r, s[i]);
-        i += 1;
-    }
-    r
+    s.iter().fold(c, |r, b| crc32_steps::next(&t, r, *b))
 }
 
 // The register after the bytes s, from the register c, eight at a time.
@@ -25,10 +19,9 @@ fn eights(high: &[u32; 256], c: u32, s: &[u8]) -> u32
     ensures { result ≡ feed c s.now }
 {
     let mut r = c;
-    let mut i = 0;
-    while i < s.len() {
-        r = crc32_steps::eight(high, r, crc32_steps::number(s, i));
-        i += 8;
+    for k in 0..s.len() / 8 {
+        let v = crc32_steps::number(s, 8 * k);
+        r = crc32_steps::eight(high, r, v);
     }
     r
 }
@@ -38,13 +31,8 @@ fn singles(high: &[u32; 256], c: u32, s: &[u8]) -> u32
     requires { high.now ≡ rows 0 16 }
     ensures { result ≡ feed c s.now }
 {
-    let mut r = c;
-    let mut i = 0;
-    while i < s.len() {
-        r = crc32_steps::next_by_digits(high, r, s[i]);
-        i += 1;
-    }
-    r
+    s.iter()
+        .fold(c, |r, b| crc32_steps::next_by_digits(high, r, *b))
 }
 
 // The register after the bytes s, from the register c: whole eights, and what is left one by one.
@@ -63,12 +51,10 @@ fn sixteens(low: &[u32; 256], high: &[u32; 256], c: u32, s: &[u8]) -> u32
     ensures { result ≡ feed c s.now }
 {
     let mut r = c;
-    let mut i = 0;
-    while i < s.len() {
-        let first = crc32_steps::number(s, i);
-        let last = crc32_steps::number(s, i + 8);
+    for k in 0..s.len() / 16 {
+        let first = crc32_steps::number(s, 16 * k);
+        let last = crc32_steps::number(s, 16 * k + 8);
         r = crc32_steps::sixteen(low, high, r, first, last);
-        i += 16;
     }
     r
 }

@@ -50,9 +50,7 @@ fn divide(t: &[u32; 256], c: u32, x: u64) -> u32
     ensures { (b : ℕ) → t.now ≡ rows b 16 → result ≡ bit_xor c (bits (b + 64) x) }
 {
     let mut r = c;
-    let mut j = 16;
-    while j > 0 {
-        j -= 1;
+    for j in (0..16).rev() {
         r = r ^ t[16 * j + ((x >> (4 * j)) % 16) as usize];
     }
     r

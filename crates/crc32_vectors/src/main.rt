@@ -14,10 +14,8 @@ fn cycle() -> [u8; 8192]
     ensures { 8192 ≡ length result }
 {
     let mut bytes = [0u8; 8192];
-    let mut i = 0;
-    while i < 8192 {
-        bytes[i] = (i % 256) as u8;
-        i += 1;
+    for (i, b) in bytes.iter_mut().enumerate() {
+        *b = (i % 256) as u8;
     }
     bytes
 }

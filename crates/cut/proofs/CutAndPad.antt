@@ -7,13 +7,12 @@ use native.Mathlib.Omega.{arith}
 use borrow.Author.Tests.{eq-eqb}
 use lib.ListN.{length, take, drop, length-append}
 use lib.Seq.{length-take-le, take_at}
+use Rattle.std.specs.Prelude.{Result, Ok, ⊤}
 use Rattle.buffer.specs.Bytes.{Bytes}
 use Rattle.kind.specs.Kind.{lawful}
+use Rattle.refusal.specs.declared.Refusal.{Refusal}
 use Rattle.cut.specs.Cut.{unit_of, repeat, cut_length, whole_units, cut_of}
 use Rattle.cut.specs.Pad.{padded, pad_allowed, after_pad, AfterPad, pad_of}
-use Rattle.cut.specs.declared.Kept.TheVariants.{Length}
-use Rattle.cut.specs.declared.Padded.{Padded}
-use Rattle.cut.specs.declared.Padded.TheVariants.{Done}
 use Rattle.cut.proofs.Units.{length-repeat}
 use Rattle.cut.proofs.Multiples.{times, difference}
 use Rattle.cut.proofs.Turns.{whole_units_lem}
@@ -28,7 +27,7 @@ pub record IsCut (kind : ℕ) (b : Bytes) (n : ℕ) : Type 0 where
   pub units : length b % length (unit_of kind) ≡ 0
   pub size : n ≡ cut_length (unit_of kind) b
 
-pub is_cut : (kind : ℕ) (b : Bytes) (n : ℕ) → cut_of kind b ≡ Length n → IsCut kind b n
+pub is_cut : (kind : ℕ) (b : Bytes) (n : ℕ) → cut_of kind b ≡ Ok n → IsCut kind b n
 is_cut kind b n e = go (lawful kind) (whole_units (unit_of kind) (length b)) refl refl
   where
     go : (t s : Bool) → lawful kind ≡ t → whole_units (unit_of kind) (length b) ≡ s → IsCut kind b n
@@ -43,10 +42,10 @@ pub record IsPadded (kind : ℕ) (d : Bytes) (len target : ℕ) (x : Bytes) : Ty
   pub lengths : Allowed (unit_of kind) (length d) len target
   pub bytes : x ≡ padded (unit_of kind) d len target
 
-pub is-padded : (kind : ℕ) (d : Bytes) (len target : ℕ) (x : Bytes) → pad_of kind d len target ≡ after_pad Done x → IsPadded kind d len target x
+pub is-padded : (kind : ℕ) (d : Bytes) (len target : ℕ) (x : Bytes) → pad_of kind d len target ≡ after_pad (Ok tt) x → IsPadded kind d len target x
 is-padded kind d len target x e = go (lawful kind) (pad_allowed (unit_of kind) (length d) len target) refl refl
   where
-    answer : {a : Padded} {y : Bytes} → after_pad a y ≡ pad_of kind d len target → a ≡ Done
+    answer : {a : Result ⊤ Refusal} {y : Bytes} → after_pad a y ≡ pad_of kind d len target → a ≡ Ok tt
     answer q = ap (λ (r : AfterPad). r.answer) (q ∙ e)
 
     go : (t s : Bool) → lawful kind ≡ t → pad_allowed (unit_of kind) (length d) len target ≡ s → IsPadded kind d len target x
@@ -62,7 +61,7 @@ is-padded kind d len target x e = go (lawful kind) (pad_allowed (unit_of kind) (
 -- ---- the theorems
 
 -- cutting never lengthens
-pub cut_never_longer : (kind : ℕ) (b : Bytes) (n : ℕ) → cut_of kind b ≡ Length n → n ≤ length b
+pub cut_never_longer : (kind : ℕ) (b : Bytes) (n : ℕ) → cut_of kind b ≡ Ok n → n ≤ length b
 cut_never_longer kind b n e = omega (arith, (is_cut kind b n e).size, cut_le (unit_of kind) b)
 
 pub cut_rest_units : CutRestIsUnits
@@ -91,7 +90,7 @@ cut_then_pad kind b n e d l f =
     let a : pad_allowed u (length d) n (length b) ≡ true =
     sym (pad_units u (length d) n (length b) (cut_never_longer kind b n e) l (whole_of u n un)) ∙ whole_of u (length b) c.units in
     sym (pad_done kind d n (length b) c.type_lawful a)
-    ∙ ap (after_pad Done)
+    ∙ ap (after_pad (Ok tt))
     (ap (λ (x : Bytes). x ++ (repeat u ((length b - n) / length u) ++ drop (length b) d)) f
     ∙ sym (append_assoc (take n b) (repeat u ((length b - n) / length u)) (drop (length b) d))
     ∙ ap (λ (x : Bytes). x ++ drop (length b) d) (sym (cut_rest_units kind b n e)))
@@ -114,5 +113,5 @@ pad_then_cut kind d len target x e =
     ap (take target) (q.bytes ∙ sym (append_assoc b (repeat u j) (drop target d))) ∙ take_at (b ++ repeat u j) (drop target d) target size in
     ap (cut_of kind) front
     ∙ sym (cut_done kind (b ++ repeat u j) (cut_length u (b ++ repeat u j)) q.type_lawful (whole_of u (length (b ++ repeat u j)) (ap (λ (m : ℕ). m % w) size ∙ a.to)) refl)
-    ∙ ap Length (cut_appended u b j (unit_positive kind) units)
+    ∙ ap Ok (cut_appended u b j (unit_positive kind) units)
     ∙ cut_done kind b (cut_length u b) q.type_lawful (whole_of u (length b) units) refl

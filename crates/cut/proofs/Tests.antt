@@ -9,6 +9,7 @@ use lib.Dec.{eqb, leb}
 use borrow.Author.Tests.{le-leb, lt-leb, leb-true, eq-eqb}
 use borrow.Rule.Slice.PartMut.{put_mid, Post-is}
 use lib.ListN.{length, take, drop, replicate, length-take, length-drop}
+use Rattle.std.specs.Prelude.{Ok, Err}
 use Rattle.bedrock.proofs.Choices.{and-true}
 use Rattle.buffer.specs.Bytes.{Bytes}
 use Rattle.kind.specs.Kind.{lawful, is_pointer, zero_score}
@@ -16,8 +17,6 @@ use Rattle.kind.proofs.ZeroScore.{length-zero-score}
 use Rattle.refusal.specs.declared.Refusal.TheVariants.{BlockType, Pad}
 use Rattle.cut.specs.Cut.{zero_byte, unit_of, repeat, cut_length, whole_units, cut_of}
 use Rattle.cut.specs.Pad.{padded, pad_allowed, after_pad, pad_of}
-use Rattle.cut.specs.declared.Kept.TheVariants.{Length, Refused}
-use Rattle.cut.specs.declared.Padded.TheVariants.{Done, Refused as Unpadded}
 use Rattle.cut.proofs.Units.{repeat-zeros}
 use Rattle.cut.proofs.Multiples.{difference}
 use Rattle.cut.proofs.Turns.{whole_units_lem}
@@ -51,15 +50,15 @@ whole-bytes kind n e = sym (ap (λ (u : Bytes). eqb (n % length u) 0) (unit_othe
 
 -- ---- cutting
 
-pub cut_unlawful : (kind : ℕ) (b : Bytes) → lawful kind ≡ false → Refused BlockType ≡ cut_of kind b
+pub cut_unlawful : (kind : ℕ) (b : Bytes) → lawful kind ≡ false → Err BlockType ≡ cut_of kind b
 unfolding cut_of
 cut_unlawful kind b e = rw e
 
-pub cut_ragged : (kind : ℕ) (b : Bytes) → lawful kind ≡ true → whole_units (unit_of kind) (length b) ≡ false → Refused Pad ≡ cut_of kind b
+pub cut_ragged : (kind : ℕ) (b : Bytes) → lawful kind ≡ true → whole_units (unit_of kind) (length b) ≡ false → Err Pad ≡ cut_of kind b
 unfolding cut_of
 cut_ragged kind b e f = rw (e, f)
 
-pub cut_done : (kind : ℕ) (b : Bytes) (n : ℕ) → lawful kind ≡ true → whole_units (unit_of kind) (length b) ≡ true → n ≡ cut_length (unit_of kind) b → Length n ≡ cut_of kind b
+pub cut_done : (kind : ℕ) (b : Bytes) (n : ℕ) → lawful kind ≡ true → whole_units (unit_of kind) (length b) ≡ true → n ≡ cut_length (unit_of kind) b → Ok n ≡ cut_of kind b
 unfolding cut_of
 cut_done kind b n e f g = rw (e, f, g)
 
@@ -91,15 +90,15 @@ filled-bytes kind n x e f =
     f ∙ sym (repeat-zeros n) ∙ ap (repeat zero_byte) (sym (div-one n)) ∙ ap (λ (u : Bytes). repeat u (n / length u)) (sym (unit_other kind e))
 
 module _ (kind : ℕ) (d : Bytes) (len target : ℕ) where
-  pub pad_unlawful : lawful kind ≡ false → after_pad (Unpadded BlockType) d ≡ pad_of kind d len target
+  pub pad_unlawful : lawful kind ≡ false → after_pad (Err BlockType) d ≡ pad_of kind d len target
   unfolding pad_of
   pad_unlawful e = rw e
 
-  pub pad_refused : lawful kind ≡ true → pad_allowed (unit_of kind) (length d) len target ≡ false → after_pad (Unpadded Pad) d ≡ pad_of kind d len target
+  pub pad_refused : lawful kind ≡ true → pad_allowed (unit_of kind) (length d) len target ≡ false → after_pad (Err Pad) d ≡ pad_of kind d len target
   unfolding pad_of
   pad_refused e f = rw (e, f)
 
-  pub pad_done : lawful kind ≡ true → pad_allowed (unit_of kind) (length d) len target ≡ true → after_pad Done (padded (unit_of kind) d len target) ≡ pad_of kind d len target
+  pub pad_done : lawful kind ≡ true → pad_allowed (unit_of kind) (length d) len target ≡ true → after_pad (Ok tt) (padded (unit_of kind) d len target) ≡ pad_of kind d len target
   unfolding pad_of
   pad_done e f = rw (e, f)
 

@@ -1,10 +1,9 @@
 -- Zero cutting, stated once over the unit: a zero byte, or for pointer types the zero score.
-use Rattle.std.specs.Prelude.{Bool, cond, not, [], ◌∷◌, ◌++◌, ℕ, zero, suc, ◌*◌, ◌/◌, ◌%◌, eqb, length, take, drop}
+use Rattle.std.specs.Prelude.{Bool, cond, not, Result, Ok, Err, [], ◌∷◌, ◌++◌, ℕ, zero, suc, ◌*◌, ◌/◌, ◌%◌, eqb, length, take, drop}
 use Rattle.buffer.specs.Bytes.{Bytes, same}
 use Rattle.kind.specs.Kind.{lawful, is_pointer, zero_score}
+use Rattle.refusal.specs.declared.Refusal.{Refusal}
 use Rattle.refusal.specs.declared.Refusal.TheVariants.{BlockType, Pad}
-use Rattle.cut.specs.declared.Kept.{Kept}
-use Rattle.cut.specs.declared.Kept.TheVariants.{Length, Refused}
 
 -- "zero bytes; for pointer types .. zero scores": what is cut off and appended
 abbrev pub zero_byte : Bytes
@@ -37,7 +36,7 @@ unfoldable pub whole_units : Bytes → ℕ → Bool
 whole_units u n = eqb (n % length u) 0
 
 -- "Both test 9, then 22"
-unfoldable pub cut_of : ℕ → Bytes → Kept
+unfoldable pub cut_of : ℕ → Bytes → Result ℕ Refusal
 cut_of kind b =
-    cond (not (lawful kind)) (Refused BlockType)
-    (cond (not (whole_units (unit_of kind) (length b))) (Refused Pad) (Length (cut_length (unit_of kind) b)))
+    cond (not (lawful kind)) (Err BlockType)
+    (cond (not (whole_units (unit_of kind) (length b))) (Err Pad) (Ok (cut_length (unit_of kind) b)))

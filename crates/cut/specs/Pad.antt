@@ -1,11 +1,10 @@
 -- Padding a block in the lent buffer whose front it is, over the same unit.
-use Rattle.std.specs.Prelude.{Bool, cond, not, ◌&&◌, ◌++◌, ℕ, ◌-◌, ◌/◌, leb, length, take, drop}
+use Rattle.std.specs.Prelude.{Bool, cond, not, Result, Ok, Err, ◌&&◌, ◌++◌, ℕ, ◌-◌, ◌/◌, leb, length, take, drop, ⊤}
 use Rattle.buffer.specs.Bytes.{Bytes}
 use Rattle.kind.specs.Kind.{lawful}
+use Rattle.refusal.specs.declared.Refusal.{Refusal}
 use Rattle.refusal.specs.declared.Refusal.TheVariants.{BlockType, Pad}
 use Rattle.cut.specs.Cut.{unit_of, repeat, whole_units}
-use Rattle.cut.specs.declared.Padded.{Padded}
-use Rattle.cut.specs.declared.Padded.TheVariants.{Done, Refused}
 
 -- "appends zero bytes or zero scores to a stated length, in the lent buffer whose front is the block; nothing past the target changes"
 unfoldable pub padded : Bytes → Bytes → ℕ → ℕ → Bytes
@@ -17,15 +16,15 @@ pad_allowed u size len target = (leb len target && leb target size) && (whole_un
 
 -- the whole outcome: the answer, and the buffer afterwards
 pub record AfterPad : Type 0 where
-  pub answer : Padded
+  pub answer : Result ⊤ Refusal
   pub buffer : Bytes
 
-abbrev pub after_pad : Padded → Bytes → AfterPad
+abbrev pub after_pad : Result ⊤ Refusal → Bytes → AfterPad
 after_pad a d = record { answer = a; buffer = d }
 
 -- "Both test 9, then 22"; "no lent byte changed" by a refusal
 unfoldable pub pad_of : ℕ → Bytes → ℕ → ℕ → AfterPad
 pad_of kind d len target =
-    cond (not (lawful kind)) (after_pad (Refused BlockType) d)
-    (cond (not (pad_allowed (unit_of kind) (length d) len target)) (after_pad (Refused Pad) d)
-    (after_pad Done (padded (unit_of kind) d len target)))
+    cond (not (lawful kind)) (after_pad (Err BlockType) d)
+    (cond (not (pad_allowed (unit_of kind) (length d) len target)) (after_pad (Err Pad) d)
+    (after_pad (Ok tt) (padded (unit_of kind) d len target)))

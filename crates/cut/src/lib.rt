@@ -8,18 +8,6 @@ ghost use Rattle.cut.specs.Pad.{pad_allowed, after_pad, pad_of};
 
 use refusal::Refusal;
 
-#[derive(Clone, Copy)]
-pub enum Kept {
-    Length(usize),
-    Refused(Refusal),
-}
-
-#[derive(Clone, Copy)]
-pub enum Padded {
-    Done,
-    Refused(Refusal),
-}
-
 // Whether n bytes are whole units of a block type.
 fn is_whole(kind: u8, n: usize) -> bool
     ensures { result ≡ whole_units (unit_of kind) n }
@@ -59,21 +47,21 @@ fn cut_scores(b: &[u8]) -> usize
 }
 
 // The length of a block once it is cut.
-pub fn cut(kind: u8, block: &[u8]) -> Kept
+pub fn cut(kind: u8, block: &[u8]) -> Result<usize, Refusal>
     ensures { result ≡ cut_of kind block.now }
 {
     let lawful = kind::is_lawful(kind);
     let whole_units = is_whole(kind, block.len());
     if !lawful {
-        return Kept::Refused(Refusal::BlockType);
+        return Err(Refusal::BlockType);
     }
     if !whole_units {
-        return Kept::Refused(Refusal::Pad);
+        return Err(Refusal::Pad);
     }
     if kind::is_pointer(kind) {
-        return Kept::Length(cut_scores(block));
+        return Ok(cut_scores(block));
     }
-    Kept::Length(cut_bytes(block))
+    Ok(cut_bytes(block))
 }
 
 // The whole of d, whole scores, becomes zero scores.
@@ -118,18 +106,18 @@ fn may_pad(kind: u8, size: usize, len: usize, target: usize) -> bool
 }
 
 // Pads the block of `len` bytes at the front of the buffer to the target.
-pub fn pad(kind: u8, buffer: &mut [u8], len: usize, target: usize) -> Padded
+pub fn pad(kind: u8, buffer: &mut [u8], len: usize, target: usize) -> Result<(), Refusal>
     ensures { after_pad result buffer.new ≡ pad_of kind buffer.old len target }
 {
     let size = buffer.len();
     let lawful_type = kind::is_lawful(kind);
     let allowed = may_pad(kind, size, len, target);
     if !lawful_type {
-        return Padded::Refused(Refusal::BlockType);
+        return Err(Refusal::BlockType);
     }
     if !allowed {
-        return Padded::Refused(Refusal::Pad);
+        return Err(Refusal::Pad);
     }
     fill(kind, &mut buffer[len..target]);
-    Padded::Done
+    Ok(())
 }

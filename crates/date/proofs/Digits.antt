@@ -1,30 +1,24 @@
 -- The digits of a date, one by one; how many they are.
-use mathlib.Core.Path.{◌≡◌, refl}
+use mathlib.Core.Path.{◌≡◌, refl, ap}
+use mathlib.Core.List.{[], ◌∷◌}
+use Rattle.std.specs.List.{list_all}
 use mathlib.Core.Bool.{Bool, true, false, ◌&&◌}
-use Prim.Native.Nat.{ℕ, suc, ◌+◌, ◌≤◌, ◌<◌}
-use native.Mathlib.Numerals.{add-one}
+use Prim.Native.Nat.{ℕ}
 use lib.Dec.{leb, eqb}
-use borrow.Author.Tests.{le-leb, lt-leb, eqb-true, eq-eqb, ne_eqb}
-use lib.ListN.{length, get_or, drop}
-use lib.Seq.{drop-cons}
+use borrow.Author.Tests.{eqb-true, eq-eqb, ne_eqb}
+use lib.ListN.{length}
 use Rattle.bedrock.proofs.Choices.{and-true}
 use Rattle.buffer.specs.Bytes.{Bytes}
 use Rattle.date.specs.Date.{decimals, is_date}
 
--- one digit more
-module _ (d : Bytes) (i : ℕ) (h : i < length d) where
-  pub decimal : 48 ≤ get_or d i 0 → get_or d i 0 ≤ 57 → decimals (drop i d) ≡ decimals (drop (i + 1) d)
-  decimal a b = rw (drop-cons d i 0, add-one, le-leb 48 (get_or d i 0) a, le-leb (get_or d i 0) 57 b)
+-- one decimal digit
+abbrev pub decimal : ℕ → Bool
+decimal b = leb 48 b && leb b 57
 
-  pub too_low : get_or d i 0 < 48 → decimals (drop i d) ≡ false
-  too_low a = rw (drop-cons d i 0, lt-leb 48 (get_or d i 0) a)
-
-  pub too_high : 57 < get_or d i 0 → decimals (drop i d) ≡ false
-  too_high a = rw (drop-cons d i 0, lt-leb (get_or d i 0) 57 a) (and-false (leb 48 (get_or d i 0)))
-    where
-      and-false : (b : Bool) → ((b && false) && decimals (drop (suc i) d)) ≡ false
-      and-false true = refl
-      and-false false = refl
+-- the test of each digit, as one of all
+pub decimals-all : (d : Bytes) → list_all decimal d ≡ decimals d
+decimals-all [] = refl
+decimals-all (b ∷ d) = ap (λ (t : Bool). decimal b && t) (decimals-all d)
 
 pub of-eight : (d : Bytes) → length d ≡ 8 → is_date d ≡ decimals d
 unfolding is_date

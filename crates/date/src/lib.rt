@@ -8,19 +8,5 @@ ghost use Rattle.date.specs.Date.{is_date};
 pub fn is_date(d: &[u8]) -> bool
     ensures { result ≡ is_date d.now }
 {
-    if d.len() != 8 {
-        return false;
-    }
-    let mut i: usize = 0;
-    while i < d.len() {
-        let b = d[i];
-        if b < 48 {
-            return false;
-        }
-        if 57 < b {
-            return false;
-        }
-        i += 1;
-    }
-    true
+    d.len() == 8 && d.iter().all(|b| b.is_ascii_digit())
 }

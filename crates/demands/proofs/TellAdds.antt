@@ -12,7 +12,7 @@ use Rattle.bedrock.specs.Choice.{on}
 use Rattle.bedrock.proofs.Choices.{on_ind, and-true, cond_ind}
 use Rattle.buffer.specs.Bytes.{Bytes, same}
 use Rattle.buffer.proofs.Bytes.{small-drop}
-use Rattle.word.specs.Number.{small}
+use Rattle.digits.specs.Number.{small}
 use Rattle.sha1_digest.specs.Sha1.{sha1_of}
 use Rattle.refusal.specs.declared.Refusal.TheVariants.{Closed}
 use Rattle.message.specs.Message.{framed, tag_of, version_of, score_of, data_of, request_of}

@@ -3,7 +3,7 @@ use Rattle.std.specs.Prelude.{◌≡◌, true, false, not, ◌++◌, ℕ, ◌+�
 use Rattle.std.proofs.Math.Option.{Option, none, some}
 use Rattle.bedrock.specs.Choice.{on}
 use Rattle.buffer.specs.Bytes.{Bytes, same, zeros}
-use Rattle.word.specs.Number.{small}
+use Rattle.digits.specs.Number.{small}
 use Rattle.kind.specs.Kind.{zero_score}
 use Rattle.sector.specs.Sector.{fits, blank, sector_length}
 use Rattle.sector.specs.Near.{Near}

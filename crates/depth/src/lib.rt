@@ -2,45 +2,42 @@
 #![tactic(auto)]
 
 ghost use Rattle.std.specs.Prelude.{◌≡◌, ◌≤◌, ◌<◌};
-ghost use Rattle.bedrock.specs.Choice.{on};
 ghost use Rattle.kind.specs.Kind.{longest};
-ghost use Rattle.writer.specs.Depth.{least_depth, depth_of};
+ghost use Rattle.writer.specs.Depth.{least_depth, depth_of, chosen};
 
 use kind::LONGEST;
 
-// The least depth at which so many bytes fit, 8 where none up to 7 does.
-fn least_depth(n: usize, dsize: usize, p: usize) -> usize
+// The least depth at which so many bytes fit, up to 7.
+fn least_depth(n: usize, dsize: usize, p: usize) -> Option<usize>
     requires { (n ≤ longest) × (0 < p) × (p ≤ longest) }
-    ensures { result ≡ on (least_depth n dsize p) 8 (λ d. d) }
+    ensures { result ≡ chosen (least_depth n dsize p) }
 {
     let mut room = dsize;
-    let mut d: usize = 0;
-    while d < 8 {
+    for d in 0..8 {
         if n <= room {
-            return d;
+            return Some(d);
         }
-        room = room * p;
-        d += 1;
+        room *= p;
     }
-    8
+    None
 }
 
-// The depth of a file of n bytes, 8 where its sizes are not allowed or no depth up to 7 is enough.
-pub fn depth_of(n: usize, dsize: usize, psize: usize) -> usize
+// The depth of a file of n bytes; none where its sizes are not allowed, or no depth up to 7 is enough.
+pub fn depth_of(n: usize, dsize: usize, psize: usize) -> Option<usize>
     requires { n ≤ longest }
-    ensures { result ≡ on (depth_of n dsize psize) 8 (λ d. d) }
+    ensures { result ≡ chosen (depth_of n dsize psize) }
 {
     if dsize < 1 {
-        return 8;
+        return None;
     }
     if LONGEST < dsize {
-        return 8;
+        return None;
     }
     if psize < 40 {
-        return 8;
+        return None;
     }
     if LONGEST < psize {
-        return 8;
+        return None;
     }
     least_depth(n, dsize, psize / 20)
 }

@@ -12,9 +12,8 @@ ghost use Rattle.descent.specs.Parts.{entry_in, visit_listed, visit_scores};
 use block::Block;
 use descent::{Below, Judged};
 use entry::Entry;
-use sector_log::Look;
 use sector_number::SectorNumber;
-use visit::{End, Walked};
+use visit::Walked;
 
 // Visits the entries of a directory block, one after the other.
 #[cycle(visit_directory_visit_entry_visit_listed_visit_scores)]
@@ -33,22 +32,20 @@ pub fn visit_directory<'a>(
 {
     let count = (b.size + entry::ROUND_UP) / entry::ENTRY;
     let mut visits: usize = 0;
-    let mut i: usize = 0;
-    while i < count {
+    for i in 0..count {
         let w = visit_listed(log, end, waiting, b, i, nest, left - visits);
         let ended = w.end;
         visits += w.visits;
-        let End::Done = ended else {
+        let Ok(()) = ended else {
             return Walked {
                 visits: visits,
                 end: ended,
             };
         };
-        i += 1;
     }
     Walked {
         visits: visits,
-        end: End::Done,
+        end: Ok(()),
     }
 }
 
@@ -107,7 +104,7 @@ fn visit_entry<'a>(
 {
     let m = visit::visit_level(log, end, waiting, e, score, level, nest, left);
     let look = m.look;
-    let Look::Found(b) = look else {
+    let Ok(b) = look else {
         return visit::answer(m);
     };
     let below = descent::below_block(e, level, b.size);
@@ -142,22 +139,20 @@ fn visit_scores<'a>(
 {
     let count = b.size / 20;
     let mut visits: usize = 0;
-    let mut i: usize = 0;
-    while i < count {
+    for i in 0..count {
         let s = tree::score_at(log, end, waiting, b, i);
         let w = visit_entry(log, end, waiting, e, &s, level, nest, left - visits);
         let ended = w.end;
         visits += w.visits;
-        let End::Done = ended else {
+        let Ok(()) = ended else {
             return Walked {
                 visits: visits,
                 end: ended,
             };
         };
-        i += 1;
     }
     Walked {
         visits: visits,
-        end: End::Done,
+        end: Ok(()),
     }
 }

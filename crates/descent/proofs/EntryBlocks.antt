@@ -11,13 +11,10 @@ use Rattle.refusal.specs.declared.Refusal.{Refusal}
 use Rattle.refusal.specs.declared.Refusal.TheVariants.{Pointers}
 use Rattle.block.specs.declared.Block.{Block}
 use Rattle.block.specs.Log.{bytes_of}
-use Rattle.reader.proofs.Pieces.{length-bytes}
-use Rattle.sector_log.specs.declared.Look.TheVariants.{Found, Refused}
+use Rattle.tree.proofs.Pointers.{length-bytes}
 use Rattle.entry.specs.declared.Entry.{Entry}
 use Rattle.visit.specs.declared.Walked.{Walked}
 use Rattle.visit.specs.declared.Met.{Met}
-use Rattle.visit.specs.declared.End.{End}
-use Rattle.visit.specs.declared.End.TheVariants.{Done, Refused as Stopped}
 use Rattle.tree.specs.Tree.{piece, pointer, type_at, count_at}
 use Rattle.tree.proofs.Pointers.{pointer-piece, length-pointer}
 use Rattle.visit.specs.Visit.{walked, more, visiting}
@@ -28,21 +25,22 @@ use Rattle.visit.specs.Met.{met_of, answer_of}
 use Rattle.descent.specs.Parts.{visit_scores, below_of, by_below}
 use Rattle.descent.proofs.InOrder.{OfAll, walk_pieces}
 use Rattle.visit.proofs.Visits.{Known, found-known, refused-known, spent-within}
+use Rattle.std.specs.Prelude.{Ok, Err, Result, ⊤}
 
 -- ---- which part is below a block
 
 -- by its bytes at its place in the log
 pub by_part : {A : Type 0} (e : Entry) (level : ℕ) (log : Bytes) (b : Block) → b.label < 499 → {d : Below} → d ≡ below_of e level b.size
-    → (ends : End → A) (entries scores : A)
-    → cond (eqb level 0) (cond e.directory entries (ends Done)) (cond (eqb (length (bytes_of log b) % 20) 0) scores (ends (Stopped Pointers)))
+    → (ends : Result ⊤ Refusal → A) (entries scores : A)
+    → cond (eqb level 0) (cond e.directory entries (ends (Ok tt))) (cond (eqb (length (bytes_of log b) % 20) 0) scores (ends (Err Pointers)))
     ≡ by_below d ends entries scores
 unfolding below_of
 by_part {A} e level log b short q ends entries scores =
     rw (length-bytes log b short, q) (by_tests_lem (eqb level 0) e.directory (eqb (b.size % 20) 0))
   where
     by_tests_lem : (x y z : Bool)
-        → cond x (cond y entries (ends Done)) (cond z scores (ends (Stopped Pointers)))
-        ≡ by_below (cond x (cond y Entries (Ends Done)) (cond z Scores (Ends (Stopped Pointers)))) ends entries scores
+        → cond x (cond y entries (ends (Ok tt))) (cond z scores (ends (Err Pointers)))
+        ≡ by_below (cond x (cond y Entries (Ends (Ok tt))) (cond z Scores (Ends (Err Pointers)))) ends entries scores
     by_tests_lem true true z = refl
     by_tests_lem true false z = refl
     by_tests_lem false y true = refl
@@ -54,7 +52,7 @@ unfolding below_of
 whole-scores e level size {d} q h = by_tests_lem (eqb level 0) e.directory (eqb (size % 20) 0) refl refl (sym q ∙ h)
   where
     by_tests_lem : (x y z : Bool) → eqb level 0 ≡ x → eqb (size % 20) 0 ≡ z
-        → cond x (cond y Entries (Ends Done)) (cond z Scores (Ends (Stopped Pointers))) ≡ Scores → (0 < level) × (size % 20 ≡ 0)
+        → cond x (cond y Entries (Ends (Ok tt))) (cond z Scores (Ends (Err Pointers))) ≡ Scores → (0 < level) × (size % 20 ≡ 0)
     by_tests_lem true true z p r s = let n : ◌≡◌ {A = ℕ} 0 1 = cc in absurd (omega arith)
     by_tests_lem true false z p r s = let n : ◌≡◌ {A = ℕ} 0 1 = cc in absurd (omega arith)
     by_tests_lem false y true p r s = (omega (arith, eqb-false level 0 p), eqb-true (size % 20) 0 r)
@@ -66,8 +64,8 @@ whole-scores e level size {d} q h = by_tests_lem (eqb level 0) e.directory (eqb 
 abbrev below_block : ℕ → Bytes → Entry → ℕ → ℕ → ℕ → Bytes → Walked
 below_block f log e level nest left b =
     cond (eqb level 0)
-    (cond e.directory (visit_directory f log nest b (left - 1)) (walked 0 Done))
-    (cond (eqb (length b % 20) 0) (visit_scores f log e (level - 1) nest b (left - 1)) (walked 0 (Stopped Pointers)))
+    (cond e.directory (visit_directory f log nest b (left - 1)) (walked 0 (Ok tt)))
+    (cond (eqb (length b % 20) 0) (visit_scores f log e (level - 1) nest b (left - 1)) (walked 0 (Err Pointers)))
 
 -- a visit of an entry is exact, and spends no more than what is left
 abbrev pub Visited : Bytes → Entry → ℕ → ℕ → Bytes → ℕ → Walked → Type 0
@@ -85,14 +83,14 @@ module _ (log : Bytes) (e : Entry) (level nest : ℕ) (score : Bytes) (left : �
   visiting-is-entry v k (suc f) h = k f (omega arith)
 
 module _ {log : Bytes} {e : Entry} {level nest : ℕ} {score : Bytes} {left : ℕ} {m : Met} (M : EntryMet log e level nest score left m) where
-  pub refused_ends : (why : Refusal) → m.look ≡ Refused why → (r : Walked) → r ≡ answer_of m → Visited log e level nest score left r
+  pub refused_ends : (why : Refusal) → m.look ≡ Err why → (r : Walked) → r ≡ answer_of m → Visited log e level nest score left r
   refused_ends why d r er = (
     rw er (spent-within log nest left (type_at e level) (count_at e level) score m M.met),
     visiting-is-entry log e level nest score left r
         (λ g h. er ∙ refused-known log nest left (type_at e level) (count_at e level) score m M.met why d (below_block g log e level nest left)),
   )
 
-  module _ {b : Block} (d : m.look ≡ Found b) where
+  module _ {b : Block} (d : m.look ≡ Ok b) where
     pub block-known : Known log nest left (type_at e level) (count_at e level) score b m.spent
     block-known = found-known log nest left (type_at e level) (count_at e level) score m M.met b d
 
@@ -109,7 +107,7 @@ module _ {log : Bytes} {e : Entry} {level nest : ℕ} {score : Bytes} {left : �
         ≡ by_below d (walked 0) (visit_directory g log nest (bytes_of log b) (left - 1)) (visit_scores g log e (level - 1) nest (bytes_of log b) (left - 1))
     part_below q g = by_part e level log b block-known.in_log.1 q (walked 0) _ _
 
-    pub ended-below : {d : Below} → d ≡ below_of e level b.size → (x : End) → d ≡ Ends x → Visited log e level nest score left (walked 1 x)
+    pub ended-below : {d : Below} → d ≡ below_of e level b.size → (x : Result ⊤ Refusal) → d ≡ Ends x → Visited log e level nest score left (walked 1 x)
     ended-below q x h = goes_on-below (walked 0 x) (omega arith) (λ g l. sym (part_below (sym h ∙ q) g))
 
     pub directory-below : {d : Below} → d ≡ below_of e level b.size → d ≡ Entries → (w : Walked)

@@ -8,10 +8,10 @@ use native.Mathlib.Omega.{arith}
 use Rattle.buffer.specs.Bytes.{Bytes}
 use Rattle.refusal.specs.declared.Refusal.{Refusal}
 use Rattle.visit.specs.declared.Walked.{Walked}
-use Rattle.visit.specs.declared.End.TheVariants.{Done, Refused}
 use Rattle.tree.specs.Tree.{piece}
 use Rattle.visit.specs.Visit.{walked}
 use Rattle.descent.specs.Descent.{in_order}
+use Rattle.std.specs.Prelude.{Ok, Err}
 
 -- what piece i gives with an allowance, and what k pieces from piece i on give with n visits spent, by every bound f on the calls
 pub record Pieces (S A : Type 0) : Type 0 where
@@ -21,11 +21,11 @@ pub record Pieces (S A : Type 0) : Type 0 where
   pub all : (f k i n : ℕ) → S → A
 
 pub record InOrder {S A : Type 0} (P : Pieces S A) : Type 0 where
-  pub first_done : (f i k n : ℕ) (s : S) (j : ℕ) (r : Walked) (t : S) → P.told r t ≡ P.one f i (P.left - n) s → r.end ≡ Done → k ≡ suc j
+  pub first_done : (f i k n : ℕ) (s : S) (j : ℕ) (r : Walked) (t : S) → P.told r t ≡ P.one f i (P.left - n) s → r.end ≡ Ok tt → k ≡ suc j
       → P.all f j (i + 1) (n + r.visits) t ≡ P.all f k i n s
-  pub first-refused : (f i k n : ℕ) (s : S) (j : ℕ) (r : Walked) (t : S) (x : Refusal) → P.told r t ≡ P.one f i (P.left - n) s → r.end ≡ Refused x → k ≡ suc j
+  pub first-refused : (f i k n : ℕ) (s : S) (j : ℕ) (r : Walked) (t : S) (x : Refusal) → P.told r t ≡ P.one f i (P.left - n) s → r.end ≡ Err x → k ≡ suc j
       → P.told (walked (n + r.visits) r.end) t ≡ P.all f k i n s
-  pub none_left : (f i k n : ℕ) (s : S) → k ≡ 0 → P.told (walked n Done) s ≡ P.all f k i n s
+  pub none_left : (f i k n : ℕ) (s : S) → k ≡ 0 → P.told (walked n (Ok tt)) s ≡ P.all f k i n s
 
 -- v and s are what all pieces give from s₀ on, within the allowance and by every bound on the calls that is enough
 abbrev pub OfAll : {S A : Type 0} → Pieces S A → ℕ → S → Walked → S → Type 0
@@ -42,13 +42,13 @@ pub rest-at-first : {S A : Type 0} {P : Pieces S A} → InOrder P → (count : �
 rest-at-first I count s₀ = record { laws = I; index = omega arith; spent = omega arith; rest = λ f h. rw sub-zero }
 
 module _ {S A : Type 0} {P : Pieces S A} {count : ℕ} {s₀ : S} {n i : ℕ} {s : S} (R : Rest P count s₀ n i s) where
-  pub all_done : count ≤ i → OfAll P count s₀ (walked n Done) s
+  pub all_done : count ≤ i → OfAll P count s₀ (walked n (Ok tt)) s
   all_done h = (R.spent, λ f l. R.laws.none_left f i (count - i) n s (omega arith) ∙ R.rest f l)
 
   -- a piece's visits, with what was left of the allowance
   module _ (h : i < count) (r : Walked) (t : S) (v : r.visits ≤ P.left - n)
       (e : (f : ℕ) → (P.left - n) + (P.left - n) + 1 ≤ f → P.told r t ≡ P.one f i (P.left - n) s) where
-    pub rest_goes_on : r.end ≡ Done → Rest P count s₀ (n + r.visits) (i + 1) t
+    pub rest_goes_on : r.end ≡ Ok tt → Rest P count s₀ (n + r.visits) (i + 1) t
     rest_goes_on d = record {
       laws = R.laws;
       index = omega arith;
@@ -56,7 +56,7 @@ module _ {S A : Type 0} {P : Pieces S A} {count : ℕ} {s₀ : S} {n i : ℕ} {s
       rest = λ f l. R.laws.first_done f i (count - i) n s (count - (i + 1)) r t (e f (omega arith)) d (omega arith) ∙ R.rest f l;
     }
 
-    pub refused_stops : (x : Refusal) → r.end ≡ Refused x → OfAll P count s₀ (walked (n + r.visits) r.end) t
+    pub refused_stops : (x : Refusal) → r.end ≡ Err x → OfAll P count s₀ (walked (n + r.visits) r.end) t
     refused_stops x d = (
       omega (arith, R.spent),
       λ f l. R.laws.first-refused f i (count - i) n s (count - (i + 1)) r t x (e f (omega arith)) d (omega arith) ∙ R.rest f l,

@@ -11,12 +11,10 @@ use Rattle.sector.specs.Sector.{filled}
 use Rattle.sector.proofs.Encode.{length-filled}
 use Rattle.block.specs.declared.Block.{Block}
 use Rattle.block.specs.Log.{bytes_of}
-use Rattle.reader.proofs.Pieces.{length-bytes}
+use Rattle.tree.proofs.Pointers.{length-bytes}
 use Rattle.entry.specs.declared.Entry.{Entry}
 use Rattle.entry.specs.Entry.{entry_of, entry_allowed, score_of}
 use Rattle.visit.specs.declared.Walked.{Walked}
-use Rattle.visit.specs.declared.End.{End}
-use Rattle.visit.specs.declared.End.TheVariants.{Done, Refused as Stopped}
 use Rattle.visit.specs.Visit.{walked}
 use Rattle.descent.specs.declared.Judged.{Judged}
 use Rattle.descent.specs.declared.Judged.TheVariants.{Ends, Visited}
@@ -24,6 +22,8 @@ use Rattle.descent.specs.Descent.{padded_to, in_order, nest_of, entries_of, judg
 use Rattle.descent.specs.Parts.{entry_in, visit_listed, judged_of, by_judged}
 use Rattle.descent.proofs.Padded.{entry-piece}
 use Rattle.descent.proofs.InOrder.{OfAll, walk_pieces}
+use Rattle.std.specs.Prelude.{Ok, Err, Result, ⊤}
+use Rattle.refusal.specs.declared.Refusal.{Refusal}
 
 -- the bytes of a directory block, padded to whole entries
 abbrev pub wholes : Bytes → Bytes
@@ -63,13 +63,13 @@ module _ {b : Bytes} {i : ℕ} {x : Bytes} {e : Entry} (R : EntryRead b i x e) w
   entry-of-piece = R.read ∙ ap entry_of (take_all 40 x (omega (arith, length_40)) ∙ bytes_are_piece)
 
   -- what is done with it, by its bytes
-  pub by_entry : {A : Type 0} {d : Judged} → d ≡ judged_of e → (ends : End → A) (visited : A)
-      → by_judged d ends visited ≡ cond (entry_of (entry_in b i)).active (cond (entry_allowed (entry_in b i)) visited (ends (Stopped IllFormed))) (ends Done)
+  pub by_entry : {A : Type 0} {d : Judged} → d ≡ judged_of e → (ends : Result ⊤ Refusal → A) (visited : A)
+      → by_judged d ends visited ≡ cond (entry_of (entry_in b i)).active (cond (entry_allowed (entry_in b i)) visited (ends (Err IllFormed))) (ends (Ok tt))
   unfolding judged_of
   by_entry q ends visited = rw (q, entry-of-piece) (by_tests_lem (entry_of (entry_in b i)).active (entry_allowed (entry_in b i)))
     where
       by_tests_lem : (y z : Bool)
-          → by_judged (cond y (cond z Visited (Ends (Stopped IllFormed))) (Ends Done)) ends visited ≡ cond y (cond z visited (ends (Stopped IllFormed))) (ends Done)
+          → by_judged (cond y (cond z Visited (Ends (Err IllFormed))) (Ends (Ok tt))) ends visited ≡ cond y (cond z visited (ends (Err IllFormed))) (ends (Ok tt))
       by_tests_lem true true = refl
       by_tests_lem true false = refl
       by_tests_lem false z = refl
@@ -81,7 +81,7 @@ module _ {b : Bytes} {i : ℕ} {x : Bytes} {e : Entry} (R : EntryRead b i x e) w
   pub score-of_20 : length (take (40 - 20) (drop 20 x)) ≡ 20
   score-of_20 = simp (length-take, length-drop) (omega (arith, length_40))
 
-  pub ends_unvisited : (y : End) → Ends y ≡ judged_of e → (f : ℕ) (log : Bytes) (nest left : ℕ) → walked 0 y ≡ visit_listed f log nest (entry_in b i) left
+  pub ends_unvisited : (y : Result ⊤ Refusal) → Ends y ≡ judged_of e → (f : ℕ) (log : Bytes) (nest left : ℕ) → walked 0 y ≡ visit_listed f log nest (entry_in b i) left
   unfolding judged
   ends_unvisited y q f log nest left = by_entry q (walked 0) _
 

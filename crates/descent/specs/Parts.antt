@@ -1,11 +1,9 @@
 -- What the parts of a walk hand back in the program, by the definition of the walk.
-use Rattle.std.specs.Prelude.{cond, ℕ, ◌*◌, ◌/◌, ◌%◌, eqb, length}
+use Rattle.std.specs.Prelude.{cond, ℕ, ◌*◌, ◌/◌, ◌%◌, eqb, length, Ok, Err, Result, ⊤}
 use Rattle.buffer.specs.Bytes.{Bytes}
 use Rattle.refusal.specs.declared.Refusal.TheVariants.{Entry as IllFormed, Pointers}
 use Rattle.entry.specs.declared.Entry.{Entry}
 use Rattle.entry.specs.Entry.{entry_of, well_formed, score_of}
-use Rattle.visit.specs.declared.End.{End}
-use Rattle.visit.specs.declared.End.TheVariants.{Done, Refused}
 use Rattle.visit.specs.declared.Walked.{Walked}
 use Rattle.tree.specs.Tree.{piece}
 use Rattle.descent.specs.declared.Judged.{Judged}
@@ -13,6 +11,7 @@ use Rattle.descent.specs.declared.Judged.TheVariants.{Ends as Unvisited, Visited
 use Rattle.descent.specs.declared.Below.{Below}
 use Rattle.descent.specs.declared.Below.TheVariants.{Ends, Entries, Scores}
 use Rattle.descent.specs.Descent.{padded_to, in_order, nest_of, entries_of, judged, visit_entry}
+use Rattle.refusal.specs.declared.Refusal.{Refusal}
 
 -- "A directory block is padded to whole entries": the bytes of entry i
 abbrev pub entry_in : Bytes → ℕ → Bytes
@@ -28,19 +27,19 @@ visit_scores f log e level nest b left = in_order (λ x a. visit_entry f log e l
 
 -- what is done with an entry of a directory block
 unfoldable pub judged_of : Entry → Judged
-judged_of e = cond e.active (cond (well_formed e) Visited (Unvisited (Refused IllFormed))) (Unvisited Done)
+judged_of e = cond e.active (cond (well_formed e) Visited (Unvisited (Err IllFormed))) (Unvisited (Ok tt))
 
 -- what goes on, by that
-abbrev pub by_judged : {A : Type 0} → Judged → (End → A) → A → A
+abbrev pub by_judged : {A : Type 0} → Judged → ((Result ⊤ Refusal) → A) → A → A
 by_judged (Unvisited x) ends visited = ends x
 by_judged Visited ends visited = visited
 
 -- which part is below a block of an entry at a level, by its size
 unfoldable pub below_of : Entry → ℕ → ℕ → Below
-below_of e level size = cond (eqb level 0) (cond e.directory Entries (Ends Done)) (cond (eqb (size % 20) 0) Scores (Ends (Refused Pointers)))
+below_of e level size = cond (eqb level 0) (cond e.directory Entries (Ends (Ok tt))) (cond (eqb (size % 20) 0) Scores (Ends (Err Pointers)))
 
 -- what goes on, by that part
-abbrev pub by_below : {A : Type 0} → Below → (End → A) → A → A → A
+abbrev pub by_below : {A : Type 0} → Below → ((Result ⊤ Refusal) → A) → A → A → A
 by_below (Ends x) ends entries scores = ends x
 by_below Entries ends entries scores = entries
 by_below Scores ends entries scores = scores

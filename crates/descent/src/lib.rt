@@ -7,13 +7,12 @@ ghost use Rattle.descent.specs.Parts.{judged_of, below_of};
 
 use entry::Entry;
 use refusal::Refusal;
-use visit::End;
 
 // What is done with an entry of a directory block.
 #[derive(Clone, Copy)]
 pub enum Judged {
     // It is not visited: how it ends.
-    Ends(End),
+    Ends(Result<(), Refusal>),
     Visited,
 }
 
@@ -21,7 +20,7 @@ pub enum Judged {
 #[derive(Clone, Copy)]
 pub enum Below {
     // None: how the block ends.
-    Ends(End),
+    Ends(Result<(), Refusal>),
     // The entries of a directory block.
     Entries,
     // The scores of a pointer block.
@@ -36,9 +35,9 @@ pub fn judge(e: Entry) -> Judged
         if entry::is_well_formed(e) {
             return Judged::Visited;
         }
-        return Judged::Ends(End::Refused(Refusal::Entry));
+        return Judged::Ends(Err(Refusal::Entry));
     }
-    Judged::Ends(End::Done)
+    Judged::Ends(Ok(()))
 }
 
 // The nest of an entry's blocks, in a directory block of a nest.
@@ -60,10 +59,10 @@ pub fn below_block(e: Entry, level: usize, size: usize) -> Below
         if e.directory {
             return Below::Entries;
         }
-        return Below::Ends(End::Done);
+        return Below::Ends(Ok(()));
     }
     if size % 20 != 0 {
-        return Below::Ends(End::Refused(Refusal::Pointers));
+        return Below::Ends(Err(Refusal::Pointers));
     }
     Below::Scores
 }

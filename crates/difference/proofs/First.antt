@@ -13,11 +13,13 @@ use Rattle.refusal.specs.declared.Refusal.TheVariants.{Entry as IllFormed}
 use Rattle.difference.specs.declared.Side.{Side}
 use Rattle.difference.specs.declared.Side.TheVariants as side
 use Rattle.difference.specs.declared.Difference.{Difference}
-use Rattle.difference.specs.declared.Difference.TheVariants.{First, Second, Nowhere, Refused}
+use Rattle.difference.specs.declared.Difference.TheVariants.{First, Second, Nowhere}
 use Rattle.difference.specs.Difference.{entry_at, active, side_of, or_else, first_from, block_allowed, difference_of, answer_of}
 use Rattle.difference.specs.First.{Agree, FirstAt, Says, SaysTheFirst, NoneInEqual, place_of, SwappedAlike}
 use Rattle.difference.proofs.Positions.{past_end, active-within, whole-within, side_agrees, agrees_side, first-active, second-active}
 use Rattle.difference.proofs.Rest.{allowed_facts}
+use Rattle.std.specs.Prelude.{Ok, Err, Result}
+use Rattle.refusal.specs.declared.Refusal.{Refusal}
 
 agrees_back : {a b : Bytes} {i : ℕ} → Agree a b i → Agree b a i
 agrees_back A = record { alike = sym A.alike; equal = λ h. sym (A.equal (A.alike ∙ h)) }
@@ -88,10 +90,10 @@ says_the_first a b = cond_ind (Says a b) (block_allowed a && block_allowed b) _ 
 -- ---- within the blocks
 
 -- an entry that is handed back lies within its block
-pub first-within : (a b : Bytes) (at : ℕ) → difference_of a b ≡ First at → at + 40 ≤ length a
+pub first-within : (a b : Bytes) (at : ℕ) → difference_of a b ≡ Ok (First at) → at + 40 ≤ length a
 first-within a b at e = let s = subst (Says a b) e (says_the_first a b) in within a s.position at s.byte s.full-length
 
-pub second-within : (a b : Bytes) (at : ℕ) → difference_of a b ≡ Second at → at + 40 ≤ length b
+pub second-within : (a b : Bytes) (at : ℕ) → difference_of a b ≡ Ok (Second at) → at + 40 ≤ length b
 second-within a b at e = let s = (subst (Says a b) e (says_the_first a b)).first in within b s.position at s.byte s.full-length
 
 -- ---- equal blocks, and the other order
@@ -99,7 +101,7 @@ second-within a b at e = let s = (subst (Says a b) e (says_the_first a b)).first
 self_agrees : (a : Bytes) (i : ℕ) → Agree a a i
 self_agrees a i = record { alike = refl; equal = λ h. refl }
 
-none_from : (a : Bytes) (k i : ℕ) → first_from a a k i ≡ Nowhere
+none_from : (a : Bytes) (k i : ℕ) → first_from a a k i ≡ Ok Nowhere
 unfolding first_from
 none_from a zero i = refl
 none_from a (suc k) i = rw (agrees_side a a i (self_agrees a i)) (none_from a k (suc i))
@@ -109,7 +111,7 @@ unfolding difference_of
 none_in_equal a h = rw h (none_from a (max (length a) (length a) / 40) 0)
 
 -- the side from the other side
-abbrev Alike : Difference → Difference → Type 0
+abbrev Alike : Result Difference Refusal → Result Difference Refusal → Type 0
 Alike d e = (place_of d ≡ place_of e) × (answer_of d ≡ answer_of e)
 
 swapped_from : (a b : Bytes) (k i : ℕ) → Alike (first_from b a k i) (first_from a b k i)
@@ -133,6 +135,6 @@ pub swapped_alike : SwappedAlike
 unfolding difference_of
 swapped_alike a b = rw (and_comm (block_allowed b) (block_allowed a), max_comm (length b) (length a)) (go (block_allowed a && block_allowed b))
   where
-    go : (t : Bool) → Alike (cond t (first_from b a (max (length a) (length b) / 40) 0) (Refused IllFormed)) (cond t (first_from a b (max (length a) (length b) / 40) 0) (Refused IllFormed))
+    go : (t : Bool) → Alike (cond t (first_from b a (max (length a) (length b) / 40) 0) (Err IllFormed)) (cond t (first_from a b (max (length a) (length b) / 40) 0) (Err IllFormed))
     go true = swapped_from a b (max (length a) (length b) / 40) 0
     go false = (refl, refl)

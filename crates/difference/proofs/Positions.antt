@@ -9,7 +9,7 @@ use lib.ListN.{length, length-take, length-drop}
 use borrow.Author.Tests.{leb-true, leb-false}
 use Rattle.buffer.specs.Bytes.{Bytes, same}
 use Rattle.buffer.proofs.Bytes.{same_refl, same_true, no_bytes}
-use Rattle.word.specs.Number.{value_from}
+use Rattle.digits.specs.Number.{value_from}
 use Rattle.entry.specs.Entry.{entry_of}
 use Rattle.difference.specs.declared.Side.{Side}
 use Rattle.difference.specs.declared.Side.TheVariants.{First, Second, Neither}

@@ -15,8 +15,10 @@ use Rattle.refusal.specs.declared.Refusal.TheVariants.{Entry as IllFormed}
 use Rattle.difference.specs.declared.Side.{Side}
 use Rattle.difference.specs.declared.Side.TheVariants.{Neither}
 use Rattle.difference.specs.declared.Difference.{Difference}
-use Rattle.difference.specs.declared.Difference.TheVariants.{Nowhere, Refused}
+use Rattle.difference.specs.declared.Difference.TheVariants.{Nowhere}
 use Rattle.difference.specs.Difference.{entry_at, side_of, or_else, first_from, block_allowed, difference_of}
+use Rattle.std.specs.Prelude.{Ok, Err, Result}
+use Rattle.refusal.specs.declared.Refusal.{Refusal}
 
 -- at position i: the rest's first difference is the first of all
 pub record Rest (a b : Bytes) (count i : ℕ) : Type 0 where
@@ -30,12 +32,12 @@ one-position : (a b : Bytes) (k j i : ℕ) → k ≡ suc j → or_else (side_of 
 unfolding first_from
 one-position a b k j i e = rw (e, add-one i)
 
-no_position : (a b : Bytes) (k i : ℕ) → k ≡ 0 → Nowhere ≡ first_from a b k i
+no_position : (a b : Bytes) (k i : ℕ) → k ≡ 0 → Ok Nowhere ≡ first_from a b k i
 unfolding first_from
 no_position a b k i e = rw e
 
 module _ {a b : Bytes} {count i : ℕ} (R : Rest a b count i) where
-  pub none_left : count ≤ i → Nowhere ≡ first_from a b count 0
+  pub none_left : count ≤ i → Ok Nowhere ≡ first_from a b count 0
   none_left h = no_position a b (count - i) i (omega arith) ∙ R.rest
 
   module _ (h : i < count) {s : Side} (e : s ≡ side_of (entry_at a i) (entry_at b i)) where
@@ -55,14 +57,14 @@ unfolding block_allowed
 allowed_facts b e = let p = and-true (eqb (length b % 40) 0) (leb (length b) longest) e in (eqb-true (length b % 40) 0 p.0, leb-true (length b) longest p.1)
 
 module _ (a b : Bytes) where
-  pub first-refused : block_allowed a ≡ false → Refused IllFormed ≡ difference_of a b
+  pub first-refused : block_allowed a ≡ false → Err IllFormed ≡ difference_of a b
   unfolding difference_of
   first-refused e = rw e
 
-  pub second-refused : block_allowed b ≡ false → Refused IllFormed ≡ difference_of a b
+  pub second-refused : block_allowed b ≡ false → Err IllFormed ≡ difference_of a b
   unfolding difference_of
   second-refused e = rw (e, and-false (block_allowed a))
 
-  pub both-allowed : block_allowed a ≡ true → block_allowed b ≡ true → {d : Difference} {count : ℕ} → count ≡ max (length a) (length b) → d ≡ first_from a b (count / 40) 0 → d ≡ difference_of a b
+  pub both-allowed : block_allowed a ≡ true → block_allowed b ≡ true → {d : Result Difference Refusal} {count : ℕ} → count ≡ max (length a) (length b) → d ≡ first_from a b (count / 40) 0 → d ≡ difference_of a b
   unfolding difference_of
   both-allowed p q {d} e f = f ∙ rw (p, q, e)

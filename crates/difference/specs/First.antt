@@ -1,11 +1,12 @@
 -- What pins the first difference: it is one, there is none before it, and it is the same from either side.
-use Rattle.std.specs.Prelude.{◌≡◌, true, false, ◌&&◌, ℕ, ◌*◌, ◌<◌, length}
+use Rattle.std.specs.Prelude.{◌≡◌, true, false, ◌&&◌, ℕ, ◌*◌, ◌<◌, length, Ok, Err, Result}
 use Rattle.std.proofs.Math.Option.{Option, none, some}
 use Rattle.buffer.specs.Bytes.{Bytes}
 use Rattle.refusal.specs.declared.Refusal.TheVariants.{Entry as IllFormed}
 use Rattle.difference.specs.declared.Difference.{Difference}
-use Rattle.difference.specs.declared.Difference.TheVariants.{First, Second, Nowhere, Refused}
+use Rattle.difference.specs.declared.Difference.TheVariants.{First, Second, Nowhere}
 use Rattle.difference.specs.Difference.{entry_at, active, block_allowed, difference_of, answer_of}
+use Rattle.refusal.specs.declared.Refusal.{Refusal}
 
 -- no difference at a position: both entries are inactive, or both are active and the same 40 bytes
 pub record Agree (a b : Bytes) (i : ℕ) : Type 0 where
@@ -27,25 +28,25 @@ pub record OnlySecondAt (a b : Bytes) (at : ℕ) : Type 0 where
   pub inactive : active (entry_at a first.position) ≡ false
 
 -- what each answer says of the two blocks
-abbrev pub Says : Bytes → Bytes → Difference → Type 0
-Says a b (First at) = FirstAt a b at
-Says a b (Second at) = OnlySecondAt a b at
-Says a b Nowhere = (i : ℕ) → Agree a b i
-Says a b (Refused w) = (w ≡ IllFormed) × ((block_allowed a && block_allowed b) ≡ false)
+abbrev pub Says : Bytes → Bytes → Result Difference Refusal → Type 0
+Says a b (Ok (First at)) = FirstAt a b at
+Says a b (Ok (Second at)) = OnlySecondAt a b at
+Says a b (Ok Nowhere) = (i : ℕ) → Agree a b i
+Says a b (Err w) = (w ≡ IllFormed) × ((block_allowed a && block_allowed b) ≡ false)
 
 abbrev pub SaysTheFirst : Type 0
 SaysTheFirst = (a b : Bytes) → Says a b (difference_of a b)
 
 -- equal blocks have no difference
 abbrev pub NoneInEqual : Type 0
-NoneInEqual = (a : Bytes) → block_allowed a ≡ true → difference_of a a ≡ Nowhere
+NoneInEqual = (a : Bytes) → block_allowed a ≡ true → difference_of a a ≡ Ok Nowhere
 
 -- where the difference is, of whichever block
-abbrev pub place_of : Difference → Option ℕ
-place_of (First at) = some at
-place_of (Second at) = some at
-place_of Nowhere = none
-place_of (Refused w) = none
+abbrev pub place_of : Result Difference Refusal → Option ℕ
+place_of (Ok (First at)) = some at
+place_of (Ok (Second at)) = some at
+place_of (Ok Nowhere) = none
+place_of (Err w) = none
 
 -- the same place and number, whichever block comes first
 abbrev pub SwappedAlike : Type 0

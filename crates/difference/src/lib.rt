@@ -1,7 +1,7 @@
 // The first difference of two directory blocks: the entry, where it lies in the first or in the second.
 #![tactic(auto)]
 
-ghost use Rattle.std.specs.Prelude.{◌≡◌, ◌%◌, ◌^◌, ◌<◌, max, length};
+ghost use Rattle.std.specs.Prelude.{◌≡◌, ◌%◌, ◌^◌, ◌<◌, length};
 ghost use Rattle.difference.specs.Difference.{entry_at, active, side_of, block_allowed, difference_of, answer_of};
 ghost use Rattle.difference.specs.Handed.{part_of};
 
@@ -16,13 +16,12 @@ pub enum Side {
     Neither,
 }
 
-// Where two blocks first differ: at a byte of the first or of the second, or nowhere; or why they aren't compared.
+// Where two blocks first differ: at a byte of the first or of the second, or nowhere.
 #[derive(Clone, Copy)]
 pub enum Difference {
     First { at: usize },
     Second { at: usize },
     Nowhere,
-    Refused(Refusal),
 }
 
 // Whether a block is whole entries, and not too long.
@@ -33,16 +32,6 @@ fn is_block(b: &[u8]) -> bool
         return false;
     }
     b.len() <= LONGEST
-}
-
-// The longer of two lengths.
-fn longer(a: usize, b: usize) -> usize
-    ensures { result ≡ max a b }
-{
-    if a <= b {
-        return b;
-    }
-    a
 }
 
 // Whether the entry at a position is active; past the end it isn't.
@@ -82,65 +71,54 @@ fn side_at(a: &[u8], b: &[u8], i: usize) -> Side
 }
 
 // Where two blocks first differ, for any two lent parts.
-pub fn locate(a: &[u8], b: &[u8]) -> Difference
+pub fn locate(a: &[u8], b: &[u8]) -> Result<Difference, Refusal>
     ensures { result ≡ difference_of a.now b.now }
 {
     if !is_block(a) {
-        return Difference::Refused(Refusal::Entry);
+        return Err(Refusal::Entry);
     }
     if !is_block(b) {
-        return Difference::Refused(Refusal::Entry);
+        return Err(Refusal::Entry);
     }
-    let count = longer(a.len(), b.len()) / 40;
-    let mut i: usize = 0;
-    while i < count {
+    let count = a.len().max(b.len()) / 40;
+    for i in 0..count {
         let side = side_at(a, b, i);
         match side {
-            Side::First => {
-                return Difference::First { at: 40 * i };
-            }
-            Side::Second => {
-                return Difference::Second { at: 40 * i };
-            }
-            Side::Neither => {
-                i += 1;
-            }
+            Side::First => return Ok(Difference::First { at: 40 * i }),
+            Side::Second => return Ok(Difference::Second { at: 40 * i }),
+            Side::Neither => {}
         }
     }
-    Difference::Nowhere
+    Ok(Difference::Nowhere)
 }
 
 // The entry itself: a part of the first or of the second block; an empty part of the first where there is no difference, or on a refusal.
 pub fn read<'a>(a: &'a [u8], b: &'a [u8]) -> &'a [u8]
     ensures { part_of (difference_of a.now b.now) a.entry b.entry result }
 {
-    let found = locate(a, b);
+    let located = locate(a, b);
+    let Ok(found) = located else {
+        return &a[..0];
+    };
     match found {
         Difference::First { at } => {
             let end = at + 40;
-            return &a[at..end];
+            &a[at..end]
         }
         Difference::Second { at } => {
             let end = at + 40;
-            return &b[at..end];
+            &b[at..end]
         }
-        Difference::Nowhere => {
-            return &a[..0];
-        }
-        Difference::Refused(_) => {
-            return &a[..0];
-        }
+        Difference::Nowhere => &a[..0],
     }
 }
 
 // The number that goes with it: 0 for none.
-pub fn number(found: Difference) -> u8
+pub fn number(found: Result<Difference, Refusal>) -> u8
     ensures { result ≡ answer_of found }
 {
     match found {
-        Difference::First { at: _ } => 0,
-        Difference::Second { at: _ } => 0,
-        Difference::Nowhere => 0,
-        Difference::Refused(why) => refusal::number(why),
+        Ok(_) => 0,
+        Err(why) => refusal::number(why),
     }
 }

@@ -10,10 +10,8 @@ pub fn be_number(s: &[u8]) -> u64
     ensures { result ≡ be_number s.now }
 {
     let mut n: u64 = 0;
-    let mut i: usize = 0;
-    while i < s.len() {
-        n = 256 * n + (s[i] as u64);
-        i += 1;
+    for b in s {
+        n = 256 * n + u64::from(*b);
     }
     n
 }
@@ -23,10 +21,8 @@ pub fn put_be(d: &mut [u8], n: u64)
     ensures { d.new ≡ be_bytes (length d.old) n }
 {
     let mut rest = n;
-    let mut i = d.len();
-    while 0 < i {
-        i -= 1;
+    for i in (0..d.len()).rev() {
         d[i] = (rest % 256) as u8;
-        rest = rest / 256;
+        rest /= 256;
     }
 }

@@ -10,24 +10,23 @@ use Rattle.block.proofs.Facts.{parts_pos}
 use Rattle.block.proofs.Sound.{sound-reads}
 use Rattle.block.proofs.Apart.{sound-used}
 use Rattle.reader.specs.Reader.{placed}
-use Rattle.reader.specs.declared.Place.{Place}
-use Rattle.reader.specs.declared.Place.TheVariants.{At, Nowhere}
 use Rattle.refusal.specs.declared.Refusal.TheVariants.{NotHeld, NotKnown}
 use Rattle.sector_log.specs.LookUp.{blocks, outside, first_doubtful, absence}
 use Rattle.sector_log.specs.Promises.{PassedTo}
 use Rattle.sector_log.proofs.Doubt.{walked-some, doubtful-at, doubt-some}
 use Rattle.sector_log.proofs.FirstDoubt.{first-at, first-end, absence-known, absence-held}
 use Rattle.reader.proofs.Placed.{placed-some, placed-none}
+use Rattle.std.specs.Prelude.{Some, None, Option as Optional}
 
 -- one turn of the walk for doubt
 abbrev pub Passed : Bytes → ℕ → Type 0
 Passed log n = PassedTo log n × (outside (blocks log) n ≡ 0)
 
-pub walk_stops : (log : Bytes) (n : ℕ) (p : Place) → Passed log n → n < used log → p ≡ placed (sound log n) → p ≡ Nowhere → n ≡ first_doubtful log
+pub walk_stops : (log : Bytes) (n : ℕ) (p : Optional Block) → Passed log n → n < used log → p ≡ placed (sound log n) → p ≡ None → n ≡ first_doubtful log
 walk_stops log n p w h e z = sym (first-at log n w.1 h (doubtful-at log n w.0 (placed-none (sound log n) p e z)))
 
 -- past a sound block, m sectors
-pub walk-on : (log : Bytes) (n m : ℕ) (p : Place) (b : Block) → Passed log n → p ≡ placed (sound log n) → p ≡ At b → m ≡ parts_in b
+pub walk-on : (log : Bytes) (n m : ℕ) (p : Optional Block) (b : Block) → Passed log n → p ≡ placed (sound log n) → p ≡ Some b → m ≡ parts_in b
     → (n + m ≤ used log) × (0 < m) × Passed log (n + m)
 walk-on log n m p b w e z f =
     let r = placed-some (sound log n) p b e z in

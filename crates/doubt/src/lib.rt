@@ -5,7 +5,6 @@ ghost use Rattle.std.specs.Prelude.{◌≡◌, ◌≤◌, length};
 ghost use Rattle.block.specs.Log.{sectors, joined, used};
 ghost use Rattle.sector_log.specs.LookUp.{absence, first_doubtful};
 
-use reader::Place;
 use refusal::Refusal;
 use sector::SECTOR;
 use sector_number::SectorNumber;
@@ -23,7 +22,7 @@ pub fn first_doubtful<'a>(
     let mut n: usize = 0;
     while n < last.0 {
         let place = reader::sound_at(log, end, waiting, SectorNumber(n));
-        let Place::At(b) = place else {
+        let Some(b) = place else {
             return SectorNumber(n);
         };
         n += block::parts_of(b.label, b.size);

@@ -1,6 +1,6 @@
 -- The two entries more than the marked ones, computed.
 use mathlib.Core.Path.{refl}
-use Rattle.word.specs.Number.{digits, value_from}
+use Rattle.digits.specs.Number.{digits, value_from}
 use Rattle.entry.specs.Entry.{entry_of, well_formed}
 use Rattle.entry.specs.Examples.{RoundedDown, NoWrap}
 

@@ -8,7 +8,7 @@ use lib.ListN.{take, drop}
 use lib.Seq.{drop-drop}
 use Rattle.buffer.specs.Bytes.{Bytes, zeros}
 use Rattle.buffer.proofs.Parts.{part_within}
-use Rattle.word.specs.Number.{be_number}
+use Rattle.digits.specs.Number.{be_number}
 use Rattle.entry.specs.Entry.{field, pad_of, entry_of}
 use Rattle.entry.specs.declared.Entry.{Entry}
 

@@ -7,8 +7,8 @@ use lib.Dec.{eqb}
 use lib.ListN.{length}
 use lib.Seq.{take_all}
 use Rattle.buffer.specs.Bytes.{Bytes}
-use Rattle.word.specs.Number.{digits, value_from}
-use Rattle.word.proofs.NumberLaws.{value-digits}
+use Rattle.digits.specs.Number.{digits, value_from}
+use Rattle.digits.proofs.NumberLaws.{value-digits}
 use Rattle.entry.specs.declared.Entry.{Entry}
 use Rattle.entry.specs.Entry.{field, flags_of, score_of, entry_of}
 use Rattle.entry.specs.Made.{made_entry}

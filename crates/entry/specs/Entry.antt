@@ -1,7 +1,7 @@
 -- Entries of directories: 40 bytes, gen[4] psize[2] dsize[2] flags[1] pad[5] size[6] score[20], numbers big-endian.
 use Rattle.std.specs.Prelude.{Bool, not, ◌&&◌, ◌||◌, ℕ, ◌*◌, ◌/◌, ◌%◌, ◌^◌, leb, eqb, take, drop}
 use Rattle.buffer.specs.Bytes.{Bytes, zeros}
-use Rattle.word.specs.Number.{be_number}
+use Rattle.digits.specs.Number.{be_number}
 use Rattle.kind.specs.Kind.{longest}
 use Rattle.entry.specs.declared.Entry.{Entry}
 

@@ -1,7 +1,7 @@
 -- The 40 bytes of an entry that is written.
 use Rattle.std.specs.Prelude.{◌∷◌, ◌++◌, ℕ, ◌+◌, ◌*◌, replicate}
 use Rattle.buffer.specs.Bytes.{Bytes}
-use Rattle.word.specs.Number.{be_bytes}
+use Rattle.digits.specs.Number.{be_bytes}
 
 -- an active data entry: gen 0, "flags 1 plus 4 times depth", pads 0
 abbrev pub made_entry : ℕ → ℕ → ℕ → ℕ → Bytes → Bytes

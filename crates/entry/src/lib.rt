@@ -43,7 +43,7 @@ fn number_at(s: &[u8], at: usize, width: usize) -> u64
     ensures { result ≡ field at width s.now }
 {
     let end = at + width;
-    word::number::be_number(&s[at..end])
+    digits::be_number(&s[at..end])
 }
 
 // Whether the pad of the entry at an offset is all zeros.
@@ -85,11 +85,9 @@ fn holds(size: u64, dsize: u64, p: u64, depth: usize) -> bool
 {
     let limit = size / p;
     let mut product = dsize;
-    let mut level: usize = 0;
-    while level < depth {
+    for _level in 0..depth {
         if product <= limit {
-            product = product * p;
-            level += 1;
+            product *= p;
         } else {
             return true;
         }

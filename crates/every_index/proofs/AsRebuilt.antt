@@ -13,7 +13,7 @@ use Rattle.bedrock.specs.Choice.{on}
 use Rattle.bedrock.specs.Places.{found_from}
 use Rattle.buffer.specs.Bytes.{Bytes, same}
 use Rattle.buffer.proofs.Bytes.{small-drop}
-use Rattle.word.specs.Number.{small}
+use Rattle.digits.specs.Number.{small}
 use Rattle.sha1_digest.specs.Sha1.{sha1_of}
 use Rattle.refusal.specs.declared.Refusal.TheVariants.{BlockType, DataLength, Clash}
 use Rattle.message.specs.Message.{tag_of, data_of}
@@ -26,7 +26,7 @@ use Rattle.sector_log.specs.LookUp.{blocks, held, empty_row}
 use Rattle.sector_log.specs.Parts.{Lent, one_log, room_for, append_row, can_settle, settled}
 use Rattle.sector_log.proofs.Parts.{tape-alone}
 use Rattle.sector_log.specs.Store.{AfterStore, after_store, receipt, parts_for, new_row, appended, compared, store}
-use Rattle.sector_log.specs.declared.Stored.TheVariants.{Duplicate, Refused}
+use Rattle.sector_log.specs.declared.Stored.TheVariants.{Duplicate}
 use Rattle.sector_log.proofs.Allowed.{row-valid}
 use Rattle.index.specs.Index.{cleared}
 use Rattle.hint.specs.Rebuilt.{entered_row, entered_all, rebuilt}
@@ -48,6 +48,7 @@ use Rattle.demands.proofs.Seen.{held-zero, empty-score}
 use Rattle.demands.proofs.TellAdds.{date_or_none, log-allowed-of}
 use Rattle.every_index.specs.AsRebuilt.{KeptIsRebuilt, SettledRebuilt, Keeping, answer_keeping, kept_by, Leads, KeptByRequests, KeptHits}
 use Rattle.every_index.proofs.Free.{free-cleared}
+use Rattle.std.specs.Prelude.{Ok, Err}
 
 module _ (index : Bytes) (L : Lent) where
   -- rebuilt before
@@ -89,7 +90,7 @@ module _ (index : Bytes) (L : Lent) where
     old_shows : (d : Bytes) (r : Row) → Shows (compared L r.bytes r.first d)
     old_shows d r = go (same r.bytes d)
       where
-        go : (b : Bool) → Shows (cond b (after_store (receipt (sha1_of d) (Duplicate (record { 0 = r.first }))) L) (after_store (receipt (sha1_of d) (Refused Clash)) L))
+        go : (b : Bool) → Shows (cond b (after_store (receipt (sha1_of d) (Ok (Duplicate (record { 0 = r.first })))) L) (after_store (receipt (sha1_of d) (Err Clash)) L))
         go true = refl
         go false = refl
 

@@ -11,7 +11,7 @@ use lib.ListN.{length}
 use borrow.Author.Tests.{ltb-false, not-false}
 use Rattle.bedrock.specs.Choice.{on}
 use Rattle.bedrock.proofs.Choices.{cond_ind, on_ind}
-use Rattle.word.specs.Number.{small}
+use Rattle.digits.specs.Number.{small}
 use Rattle.buffer.specs.Bytes.{Bytes, same}
 use Rattle.buffer.proofs.Bytes.{small-drop}
 use Rattle.sha1_digest.specs.Sha1.{sha1_of}
@@ -26,7 +26,7 @@ use Rattle.sector_log.specs.LookUp.{held, empty_row}
 use Rattle.sector_log.specs.Parts.{Lent, one_log, room_for, can_settle, settled, append_row}
 use Rattle.sector_log.specs.Store.{AfterStore, new_row, parts_for, appended, compared, store}
 use Rattle.sector_log.specs.declared.Stored.{Stored}
-use Rattle.sector_log.specs.declared.Stored.TheVariants.{New, Duplicate, Refused}
+use Rattle.sector_log.specs.declared.Stored.TheVariants.{New, Duplicate}
 use Rattle.sector_log.proofs.Allowed.{row-valid}
 use Rattle.refusal.specs.declared.Refusal.TheVariants.{BlockType, DataLength}
 use Rattle.hint.specs.Hint.{held_by}
@@ -51,6 +51,8 @@ use Rattle.demands.proofs.LentLaws.{one-appended, room-one, at-settled, settle-f
 use Rattle.demands.proofs.TellAdds.{date_or_none, log-allowed-of}
 use Rattle.demands.proofs.Seen.{held-zero, empty-score}
 use Rattle.every_index.specs.Kept.{HasPlace, KeepsComplete, Kept, keep, NeverFull, KeptIndexHits}
+use Rattle.std.specs.Prelude.{Ok, Err, Result}
+use Rattle.refusal.specs.declared.Refusal.{Refusal}
 
 -- two logs with the same sectors
 complete_alike : (a b index : Bytes) → Alike a b → Complete b index → Complete a index
@@ -109,10 +111,10 @@ module _ (m : Bytes) (date : Option Bytes) (index : Bytes) (L : Lent) (buffer : 
   written-lent : (s : AfterStore) (tag : ℕ) → (steps.written s.receipt.stored tag s.receipt.score s.lent buffer).lent ≡ s.lent
   written-lent s tag = go s.receipt.stored
     where
-      go : (x : Stored) → (steps.written x tag s.receipt.score s.lent buffer).lent ≡ s.lent
-      go (New at) = refl
-      go (Duplicate at) = refl
-      go (Refused w) = refl
+      go : (x : Result Stored Refusal) → (steps.written x tag s.receipt.score s.lent buffer).lent ≡ s.lent
+      go (Ok (New at)) = refl
+      go (Ok (Duplicate at)) = refl
+      go (Err w) = refl
 
   write-left : (kind : ℕ) → request_of m ≡ Write kind → steps.date_allowed date ≡ true → steps.allowed L ≡ true
       → After (write_by (steps.date_of date) kind (tag_of m) (data_of m) index L buffer)

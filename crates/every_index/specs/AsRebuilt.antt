@@ -2,7 +2,7 @@
 use Rattle.std.specs.Prelude.{◌≡◌, true, List, [], ◌∷◌, ◌++◌, ℕ, ◌*◌, ◌<◌, length}
 use Rattle.std.proofs.Math.Option.{Option}
 use Rattle.buffer.specs.Bytes.{Bytes}
-use Rattle.word.specs.Number.{small}
+use Rattle.digits.specs.Number.{small}
 use Rattle.sector_log.specs.LookUp.{look_up}
 use Rattle.sector_log.specs.Parts.{Lent, one_log}
 use Rattle.request.specs.declared.Session.{Session}

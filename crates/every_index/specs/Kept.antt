@@ -2,7 +2,7 @@
 use Rattle.std.specs.Prelude.{◌≡◌, true, List, ℕ}
 use Rattle.std.proofs.Math.Option.{Option}
 use Rattle.sector_number.specs.declared.SectorNumber.{SectorNumber}
-use Rattle.word.specs.Number.{small}
+use Rattle.digits.specs.Number.{small}
 use Rattle.buffer.specs.Bytes.{Bytes}
 use Rattle.sha1_digest.specs.Sha1.{sha1_of}
 use Rattle.message.specs.Message.{data_of}

@@ -7,7 +7,7 @@ use Prim.Native.Nat.{ℕ, ◌%◌}
 use lib.Dec.{eqb}
 use lib.ListN.{length, get_or}
 use Rattle.buffer.specs.Bytes.{Bytes}
-use Rattle.word.specs.Number.{small}
+use Rattle.digits.specs.Number.{small}
 use Rattle.sector_log.specs.Parts.{Lent}
 use Rattle.known.specs.declared.Known.{Known}
 use Rattle.known.specs.Known.{doubt_of, exactly, learned}

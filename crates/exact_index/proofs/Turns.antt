@@ -12,7 +12,7 @@ use lib.ListN.{length, take, drop}
 use Rattle.bedrock.specs.Places.{found_from}
 use Rattle.bedrock.proofs.Choices.{some-not-none}
 use Rattle.buffer.specs.Bytes.{Bytes}
-use Rattle.word.specs.Hex.{is_hex}
+use Rattle.hexadecimal.specs.Hex.{is_hex}
 use Rattle.sector.specs.Sector.{behind, kind_field, score_digits, score_field}
 use Rattle.block.specs.Block.{Row, place_of}
 use Rattle.block.specs.declared.Block.{Block}
@@ -20,8 +20,6 @@ use Rattle.block.specs.Log.{sectors, at, sound}
 use Rattle.block.proofs.At.{length_at}
 use Rattle.block.proofs.Sound.{sound-reads}
 use Rattle.reader.specs.Reader.{placed}
-use Rattle.reader.specs.declared.Place.{Place}
-use Rattle.reader.specs.declared.Place.TheVariants.{At, Nowhere}
 use Rattle.sector_log.specs.LookUp.{blocks}
 use Rattle.sector_log.proofs.Blocks.{step-none, one-some}
 use Rattle.lookup.proofs.Outcomes.{placed-some, placed-none}
@@ -30,32 +28,33 @@ use Rattle.hint.proofs.Sound.{with_finds}
 use Rattle.rebuild.proofs.Turns.{kind-hex, score-hex, fields}
 use Rattle.known.specs.Known.{all_lead, exactly}
 use Rattle.exact_index.specs.Leads.{found_by, leads_found}
+use Rattle.std.specs.Prelude.{Some, None, Option as Optional}
 
 -- ---- one entry that is found
 
-place-first : (b : Block) (r : Row) → At b ≡ placed (some r) → b.first.0 ≡ r.first
+place-first : (b : Block) (r : Row) → Some b ≡ placed (some r) → b.first.0 ≡ r.first
 place-first b r q = let y : b ≡ place_of r = cc in ap (λ (x : Block). x.first.0) y
 
 -- by the type and score that were read
-module _ (log index : Bytes) (n : ℕ) (x : Place) (t u : ℕ) (s v : Bytes) (e : x ≡ placed (hint log index t s)) (p : t ≡ u) (q : s ≡ v) where
+module _ (log index : Bytes) (n : ℕ) (x : Optional Block) (t u : ℕ) (s v : Bytes) (e : x ≡ placed (hint log index t s)) (p : t ≡ u) (q : s ≡ v) where
   read : x ≡ placed (hint log index u v)
   read = e ∙ ap₂ (λ (k : ℕ) (y : Bytes). placed (hint log index k y)) p q
 
-  pub found_nowhere : x ≡ Nowhere → false ≡ found_by (hint log index u v) n
+  pub found_nowhere : x ≡ None → false ≡ found_by (hint log index u v) n
   found_nowhere z = rw (placed-none (hint log index u v) x read z)
 
-  pub found_at : (b : Block) → x ≡ At b → leb b.first.0 n ≡ found_by (hint log index u v) n
+  pub found_at : (b : Block) → x ≡ Some b → leb b.first.0 n ≡ found_by (hint log index u v) n
   found_at b z =
       let r = placed-some (hint log index u v) x b read z in
       ap (λ (k : ℕ). leb k n) (place-first b r.0 (sym z ∙ read ∙ ap placed r.1)) ∙ sym (ap (λ (o : Option Row). found_by o n) r.1)
 
 -- ---- one sector
 
-module _ (log index : Bytes) (n : ℕ) (p : Place) (e : p ≡ placed (sound log n)) where
-  pub leads_nowhere : p ≡ Nowhere → true ≡ leads_found log index (sound log n)
+module _ (log index : Bytes) (n : ℕ) (p : Optional Block) (e : p ≡ placed (sound log n)) where
+  pub leads_nowhere : p ≡ None → true ≡ leads_found log index (sound log n)
   leads_nowhere z = let q : sound log n ≡ none = placed-none (sound log n) p e z in rw q
 
-  module _ (b : Block) (h : p ≡ At b) (x : Bytes) (q : x ≡ at log n) where
+  module _ (b : Block) (h : p ≡ Some b) (x : Bytes) (q : x ≡ at log n) where
     pub label_facts : (length x ≡ 512) × (is_hex (take 2 (drop 36 (behind x))) ≡ true) × (is_hex (score_digits (behind x)) ≡ true)
         × (sound_with log n (kind_field (behind x)) (score_field (behind x)) ≢ none)
     label_facts =

@@ -3,14 +3,13 @@
 
 ghost use Rattle.std.specs.Prelude.{◌≡◌, true, ◌≢◌, ◌+◌, ◌≤◌, ◌<◌, length};
 ghost use Rattle.std.proofs.Math.Option.{none};
-ghost use Rattle.word.specs.Hex.{is_hex};
+ghost use Rattle.hexadecimal.specs.Hex.{is_hex};
 ghost use Rattle.sector.specs.Sector.{behind, kind_field, score_digits, score_field, sector_length, kind_digits};
 ghost use Rattle.block.specs.Log.{sectors, joined, sound};
 ghost use Rattle.hint.specs.Hint.{sound_with, hint};
 ghost use Rattle.known.specs.Known.{exactly};
 ghost use Rattle.exact_index.specs.Leads.{found_by, leads_found};
 
-use reader::Place;
 use sector::{KIND, KIND_WIDTH, SCORE, SCORE_WIDTH, SECTOR};
 use sector_number::SectorNumber;
 
@@ -37,12 +36,12 @@ fn leads_from<'a>(
     let from = k + SCORE;
     let last = from + SCORE_WIDTH;
     let mut score = [0u8; 20];
-    let _ = word::hex::read_hex_bytes(&mut score, &s[from..last]);
+    let _ = hexadecimal::read_hex_bytes(&mut score, &s[from..last]);
     if first_entry::tells_first(index, kind, &score, n) {
         return true;
     }
     let place = index_lookup::find_hint(log, end, waiting, index, kind, &score);
-    let Place::At(b) = place else {
+    let Some(b) = place else {
         return false;
     };
     b.first.0 <= n.0
@@ -60,7 +59,7 @@ fn leads_at<'a>(
     ensures { result ≡ leads_found (joined end.0 log.now waiting.now) index.now (sound (joined end.0 log.now waiting.now) n.0) }
 {
     let place = reader::sound_at(log, end, waiting, n);
-    let Place::At(_) = place else {
+    let Some(_) = place else {
         return true;
     };
     let s = reader::sector_at(log, end, waiting, n);
@@ -73,12 +72,10 @@ pub fn is_exact<'a>(log: &'a [u8], end: SectorNumber, waiting: &'a [u8], index: 
     ensures { result ≡ exactly (joined end.0 log.now waiting.now) index.now }
 {
     let count = end.0 + waiting.len() / SECTOR;
-    let mut n: usize = 0;
-    while n < count {
+    for n in 0..count {
         if !leads_at(log, end, waiting, index, SectorNumber(n)) {
             return false;
         }
-        n += 1;
     }
     true
 }

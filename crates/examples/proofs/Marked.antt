@@ -3,8 +3,8 @@ use mathlib.Core.Path.{refl}
 use native.Mathlib.Omega.{arith}
 use lib.ListN.{length}
 use borrow.Author.Tests.{lt-ltb, le-ltb}
-use Rattle.word.specs.Hex.{hex, digit_char}
-use Rattle.word.specs.Number.{digits, value_from}
+use Rattle.hexadecimal.specs.Hex.{hex, digit_char}
+use Rattle.digits.specs.Number.{digits, value_from}
 use Rattle.kind.specs.Kind.{longest}
 use Rattle.block.proofs.Counts.{counts}
 use Rattle.utf8.specs.Grammar.{follows}

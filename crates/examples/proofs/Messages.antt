@@ -8,8 +8,8 @@ use lib.ListN.{length, replicate}
 use borrow.Author.Tests.{le-ltb}
 use Rattle.bedrock.specs.Places.{found_from}
 use Rattle.buffer.specs.Bytes.{Bytes}
-use Rattle.word.specs.Number.{digits, value_from}
-use Rattle.word.specs.Hex.{char_digit, read_bytes}
+use Rattle.digits.specs.Number.{digits, value_from}
+use Rattle.hexadecimal.specs.Hex.{char_digit, read_bytes}
 use Rattle.sha1_block.specs.Block.{words_of, snoc_word, schedule_of, round_of, rounds_of, add_hash, compress_of}
 use Rattle.sha1_digest.specs.Sha1.{hash_of, pad_of, padded_message, digest_of, sha1_of}
 use Rattle.kind.specs.Kind.{lawful, zero_score}

@@ -21,10 +21,10 @@ use Rattle.entry.specs.Entry.{entry_of, well_formed, entry_allowed}
 use Rattle.entry.specs.declared.Entry.{Entry}
 use Rattle.file.specs.File.{entry_readable, page_allowed, extent_at, located, answer_of}
 use Rattle.visit.specs.declared.Walked.{Walked}
-use Rattle.visit.specs.declared.End.TheVariants.{Done, Refused}
 use Rattle.visit.specs.Visit.{walked}
 use Rattle.descent.specs.Descent.{judged}
 use Rattle.examples.specs.Pads.{Six, Pads}
+use Rattle.std.specs.Prelude.{Ok, Err}
 
 -- a byte other than 0 among w bytes at an offset
 part_get_d : (w at k : ℕ) (l : Bytes) → k < w → get_or (take w (drop at l)) k 0 ≡ get_or l (at + k) 0
@@ -81,9 +81,9 @@ gen-free x y e =
     let size : drop 14 x ≡ drop 14 y = later x y 10 e in
     rw (flags, e, dsize, pad, size) refl
 
-walk-ill : (x : Bytes) (w : Walked) (k : ℕ) → k < 5 → (get_or x (9 + k) 0 ≡ 0 → ⊥) → (entry_of x).active ≡ true → judged x w ≡ walked 0 (Refused IllFormed)
+walk-ill : (x : Bytes) (w : Walked) (k : ℕ) → k < 5 → (get_or x (9 + k) 0 ≡ 0 → ⊥) → (entry_of x).active ≡ true → judged x w ≡ walked 0 (Err IllFormed)
 unfolding judged
-walk-ill x w k h n a = ap₂ (λ (s t : Bool). cond s (cond t w (walked 0 (Refused IllFormed))) (walked 0 Done)) a (entry-ill x k h n)
+walk-ill x w k h n a = ap₂ (λ (s t : Bool). cond s (cond t w (walked 0 (Err IllFormed))) (walked 0 (Ok tt))) a (entry-ill x k h n)
 
 pub pads : Pads
 unfolding judged

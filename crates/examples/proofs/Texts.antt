@@ -1,6 +1,6 @@
 -- The hellos, computed.
 use mathlib.Core.Path.{refl}
-use Rattle.word.specs.Number.{digits, value_from}
+use Rattle.digits.specs.Number.{digits, value_from}
 use Rattle.utf8.specs.Grammar.{follows}
 use Rattle.field.specs.Field.{text_end, counted_end, bytes_end}
 use Rattle.message.specs.Message.{exactly, request_of}

@@ -1,5 +1,5 @@
 -- "Checked examples": those with *, in one table, of the definitions.
-use Rattle.std.specs.Prelude.{◌≡◌, true, [], ◌∷◌, ◌++◌, map, ℕ, ◌≤◌, length, replicate}
+use Rattle.std.specs.Prelude.{◌≡◌, Ok, true, [], ◌∷◌, ◌++◌, map, ℕ, ◌≤◌, length, replicate}
 use Rattle.std.proofs.Math.Option.{Option}
 use Rattle.buffer.specs.Bytes.{Bytes}
 use Rattle.refusal.specs.declared.Refusal.TheVariants.{NotHeld, NotKnown, DataLength}
@@ -14,7 +14,6 @@ use Rattle.request.specs.Step.{reply_room, granted, refused, step, allowed, date
 use Rattle.request.specs.declared.Session.TheVariants.{Fresh, Greeted}
 use Rattle.cut.specs.Cut.{cut_of}
 use Rattle.cut.specs.Examples.{hello}
-use Rattle.cut.specs.declared.Kept.TheVariants.{Length}
 use Rattle.entry.specs.declared.Entry.{Entry}
 use Rattle.entry.specs.Entry.{entry_of, entry_allowed, pointers}
 use Rattle.entry.specs.Examples.{entry_bytes}
@@ -45,8 +44,8 @@ pub record Marked : Type 0 where
   pub ten : (t : ℕ) (m : Bytes) (date : Option Bytes) (L : Lent) (buffer : Bytes) → framed m ≡ true → reply_room ≤ length buffer → allowed L ≡ true → date_allowed date ≡ true → request_of m ≡ Write t
       → lawful t ≡ true → length (data_of m) ≡ 57345 → step Greeted m date L buffer ≡ refused DataLength (tag_of m) Greeted L buffer
   -- "`hello world` and 1,013 zeros cut to 11 bytes (document 000); all zeros to none"
-  pub hello_world : cut_of 13 (hello ++ replicate 1013 0) ≡ Length 11
-  pub all-zeros : cut_of 13 (replicate 1024 0) ≡ Length 0
+  pub hello_world : cut_of 13 (hello ++ replicate 1013 0) ≡ Ok 11
+  pub all-zeros : cut_of 13 (replicate 1024 0) ≡ Ok 0
   -- "p 3, dsize 1,024, depth 1: size 3,072 passes, 3,073 is 16", whatever the log, the waiting part, the page and the offset
   pub three : pointers deep ≡ 3
   pub passes : entry_allowed (entry_bytes 60 1024 1 3072) ≡ true

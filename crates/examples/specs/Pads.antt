@@ -1,5 +1,5 @@
 -- "Pads must be zero": each byte of each pad, whatever stands beside it, and what stays free.
-use Rattle.std.specs.Prelude.{◌≡◌, true, false, ℕ, ◌+◌, ◌≤◌, ◌<◌, length, get_or, drop}
+use Rattle.std.specs.Prelude.{◌≡◌, true, false, ℕ, ◌+◌, ◌≤◌, ◌<◌, length, get_or, drop, Ok, Err}
 use Rattle.std.proofs.Math.Option.{Option}
 use Rattle.buffer.specs.Bytes.{Bytes}
 use Rattle.refusal.specs.declared.Refusal.TheVariants.{Body, Entry as IllFormed}
@@ -12,7 +12,6 @@ use Rattle.request.specs.declared.Session.TheVariants.{Closed}
 use Rattle.entry.specs.Entry.{entry_of}
 use Rattle.file.specs.File.{page_allowed, located, answer_of}
 use Rattle.visit.specs.declared.Walked.{Walked}
-use Rattle.visit.specs.declared.End.TheVariants.{Done, Refused}
 use Rattle.visit.specs.Visit.{walked}
 use Rattle.descent.specs.Descent.{judged}
 
@@ -30,8 +29,8 @@ pub record Pads : Type 0 where
   -- "the five pad bytes of an active entry: 16", whatever else is right of it: reading a file, and in a walk
   pub file : (log waiting page entry : Bytes) (offset k : ℕ) → k < 5 → (get_or entry (9 + k) 0 ≡ 0 → ⊥) → lent_allowed (length log) (length waiting) ≡ true → page_allowed page ≡ true
       → answer_of (located log waiting page entry offset) ≡ 16
-  pub walk : (x : Bytes) (w : Walked) (k : ℕ) → k < 5 → (get_or x (9 + k) 0 ≡ 0 → ⊥) → (entry_of x).active ≡ true → judged x w ≡ walked 0 (Refused IllFormed)
+  pub walk : (x : Bytes) (w : Walked) (k : ℕ) → k < 5 → (get_or x (9 + k) 0 ≡ 0 → ⊥) → (entry_of x).active ≡ true → judged x w ≡ walked 0 (Err IllFormed)
   -- an inactive entry is skipped, whatever its other bytes are
-  pub inactive : (x : Bytes) (w : Walked) → (entry_of x).active ≡ false → judged x w ≡ walked 0 Done
+  pub inactive : (x : Bytes) (w : Walked) → (entry_of x).active ≡ false → judged x w ≡ walked 0 (Ok tt)
   -- gen is anything
   pub gen : (x y : Bytes) → drop 4 x ≡ drop 4 y → entry_of x ≡ entry_of y

@@ -1,7 +1,7 @@
 -- A hello with each text of the table in utf8/specs/Examples.antt, as version and as uid: well-formed, or 6.
 use Rattle.std.specs.Prelude.{◌≡◌, cond, [], ◌∷◌, ◌++◌, map, ◌+◌, length}
 use Rattle.buffer.specs.Bytes.{Bytes}
-use Rattle.word.specs.Number.{be_bytes}
+use Rattle.digits.specs.Number.{be_bytes}
 use Rattle.utf8.specs.Examples.{Example, table}
 use Rattle.message.specs.Message.{request_of}
 use Rattle.message.specs.declared.Request.TheVariants.{Hello, Ill}

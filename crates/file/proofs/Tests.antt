@@ -18,10 +18,10 @@ use Rattle.sector_log.specs.Parts.{tape}
 use Rattle.entry.specs.declared.Entry.{Entry}
 use Rattle.entry.specs.Entry.{entry_of, well_formed, score_of}
 use Rattle.leaf.specs.declared.Extent.{Extent}
-use Rattle.leaf.specs.declared.Extent.TheVariants.{Refused}
 use Rattle.leaf.specs.Leaf.{under}
 use Rattle.file.specs.File.{page_allowed, entry_readable, test, extent_at, split, located}
 use Rattle.leaf.specs.Fetch.{Open}
+use Rattle.std.specs.Prelude.{Err, Result}
 
 -- ---- the page
 
@@ -85,22 +85,22 @@ opened b e offset r u v h o = rw h (bounds (entry_of b) offset (formed b (sym u 
 -- ---- all four, where `lent` is what test 3 gave
 
 module _ (lent : Bool) (log page b : Bytes) (offset : ℕ) (a : Bool) (ea : a ≡ lent) where
-  pub stops_log : a ≡ false → Refused why.LogLength ≡ extent_at lent log page b offset
+  pub stops_log : a ≡ false → Err why.LogLength ≡ extent_at lent log page b offset
   unfolding extent_at
   stops_log q = rw (sym ea ∙ q)
 
   module _ (ta : a ≡ true) (g : Bool) (eg : g ≡ page_allowed page) where
-    pub stops_page : g ≡ false → Refused why.Page ≡ extent_at lent log page b offset
+    pub stops_page : g ≡ false → Err why.Page ≡ extent_at lent log page b offset
     unfolding extent_at
     stops_page q = rw (sym ea ∙ ta, sym eg ∙ q)
 
     module _ (tg : g ≡ true) (r : Bool) (er : r ≡ entry_readable b) where
-      pub stops_entry : r ≡ false → Refused why.Entry ≡ extent_at lent log page b offset
+      pub stops_entry : r ≡ false → Err why.Entry ≡ extent_at lent log page b offset
       unfolding extent_at
       stops_entry q = rw (sym ea ∙ ta, sym eg ∙ tg, sym er ∙ q)
 
       module _ (tr : r ≡ true) (e : Entry) (ee : e ≡ entry_of b) where
-        pub stops_offset : e.size ≤ offset → Refused why.Offset ≡ extent_at lent log page b offset
+        pub stops_offset : e.size ≤ offset → Err why.Offset ≡ extent_at lent log page b offset
         unfolding extent_at
         stops_offset h = rw (sym ea ∙ ta, sym eg ∙ tg, sym er ∙ tr, ← ee, le-ltb offset e.size h)
 
@@ -109,8 +109,8 @@ module _ (lent : Bool) (log page b : Bytes) (offset : ℕ) (a : Bool) (ea : a �
         goes_down h = rw (sym ea ∙ ta, sym eg ∙ tg, sym er ∙ tr, ← ee, lt-ltb offset e.size h)
 
 -- what holds of every refusal, and of what the tree gives, holds of the answer
-module _ (lent : Bool) (log page b : Bytes) (offset : ℕ) (P : Extent → Type 0) (refused : (w : Refusal) → P (Refused w)) where
-  test_ind : (t : Bool) (w : Refusal) (x : Extent) → P x → P (test t w x)
+module _ (lent : Bool) (log page b : Bytes) (offset : ℕ) (P : Result Extent Refusal → Type 0) (refused : (w : Refusal) → P (Err w)) where
+  test_ind : (t : Bool) (w : Refusal) (x : Result Extent Refusal) → P x → P (test t w x)
   test_ind true w x h = h
   test_ind false w x h = refused w
 
@@ -121,7 +121,7 @@ module _ (lent : Bool) (log page b : Bytes) (offset : ℕ) (P : Extent → Type 
       (test_ind (page_allowed page) why.Page _ (test_ind (entry_readable b) why.Entry _ (test_ind (ltb offset (entry_of b).size) why.Offset _ h)))
 
 -- what is found in both parts read as one, shown in the part in which it lies
-pub shown : (log waiting page b : Bytes) (offset : ℕ) (x : Extent) → x ≡ extent_at (lent_allowed (length log) (length waiting)) (tape log waiting) page b offset
+pub shown : (log waiting page b : Bytes) (offset : ℕ) (x : Result Extent Refusal) → x ≡ extent_at (lent_allowed (length log) (length waiting)) (tape log waiting) page b offset
     → split (512 * used log) x ≡ located log waiting page b offset
 unfolding located
 shown log waiting page b offset x e = ap (split (512 * used log)) e

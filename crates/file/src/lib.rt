@@ -13,6 +13,7 @@ use leaf::Extent;
 use refusal::Refusal;
 use sector::SECTOR;
 use sector_number::SectorNumber;
+pub use way_down::descend;
 
 // Where it lies in what is lent: at a byte of the log or of the waiting part, or at the front of the page; or why there is none.
 #[derive(Clone, Copy)]
@@ -20,30 +21,29 @@ pub enum Located {
     Stored { at: usize, length: usize },
     Waiting { at: usize, length: usize },
     Zeros { length: usize },
-    Refused(Refusal),
 }
 
 // The run in the part in which it lies: before the end of the log's sectors in the log, from there on in the waiting part.
-fn split(end: SectorNumber, run: Extent) -> Located
+fn split(end: SectorNumber, run: Result<Extent, Refusal>) -> Result<Located, Refusal>
     requires { end.0 < addressable }
     ensures { result ≡ splitAt (sector_length * end.0) run }
 {
     let border = SECTOR * end.0;
     match run {
-        Extent::Stored { at, length } => {
+        Ok(Extent::Stored { at, length }) => {
             if at < border {
-                return Located::Stored {
+                return Ok(Located::Stored {
                     at: at,
                     length: length,
-                };
+                });
             }
-            Located::Waiting {
+            Ok(Located::Waiting {
                 at: at - border,
                 length: length,
-            }
+            })
         }
-        Extent::Zeros { length } => Located::Zeros { length: length },
-        Extent::Refused(why) => Located::Refused(why),
+        Ok(Extent::Zeros { length }) => Ok(Located::Zeros { length: length }),
+        Err(why) => Err(why),
     }
 }
 
@@ -78,21 +78,21 @@ pub fn locate<'a>(
     page: &[u8],
     entry: &[u8],
     offset: u64,
-) -> Located
+) -> Result<Located, Refusal>
     ensures { result ≡ located log.now waiting.now page.now entry.now offset }
 {
     if !lookup::are_allowed(log.len(), waiting.len()) {
-        return Located::Refused(Refusal::LogLength);
+        return Err(Refusal::LogLength);
     }
     if !is_page(page) {
-        return Located::Refused(Refusal::Page);
+        return Err(Refusal::Page);
     }
     if !is_readable(entry) {
-        return Located::Refused(Refusal::Entry);
+        return Err(Refusal::Entry);
     }
     let e = entry::entry_at(entry, 0);
     if e.size <= offset {
-        return Located::Refused(Refusal::Offset);
+        return Err(Refusal::Offset);
     }
     let end = lookup::border(log, waiting);
     let look = way_down::descend(log, end, waiting, e, offset, &entry[entry::SCORE..ENTRY]);
@@ -100,13 +100,13 @@ pub fn locate<'a>(
 }
 
 // The number that goes with the bytes: 0 for none.
-pub fn number(run: Located) -> u8
+pub fn number(run: Result<Located, Refusal>) -> u8
     ensures { result ≡ answer_of run }
 {
     match run {
-        Located::Stored { at: _, length: _ } => 0,
-        Located::Waiting { at: _, length: _ } => 0,
-        Located::Zeros { length: _ } => 0,
-        Located::Refused(why) => refusal::number(why),
+        Ok(Located::Stored { at: _, length: _ }) => 0,
+        Ok(Located::Waiting { at: _, length: _ }) => 0,
+        Ok(Located::Zeros { length: _ }) => 0,
+        Err(why) => refusal::number(why),
     }
 }

@@ -25,19 +25,20 @@ use Rattle.file_laws.proofs.Extents.{Reads, extent_bytes, shown-bytes, shown-rea
 use Rattle.file_laws.proofs.Missing.{held_if}
 use Rattle.file_laws.proofs.Stored.{stored_bytes, room-left}
 use Rattle.file_laws.proofs.Runs.{least_pos, least-below, through, Run, under-run, nothing, block}
+use Rattle.std.specs.Prelude.{Result}
 
 -- ---- an answer that is the same wherever the answer below is
 
-test_again : (b : Bool) (w : Refusal) (x x' : Extent) → (Reads x → x' ≡ x) → Reads (test b w x) → test b w x' ≡ test b w x
+test_again : (b : Bool) (w : Refusal) (x x' : Result Extent Refusal) → (Reads x → x' ≡ x) → Reads (test b w x) → test b w x' ≡ test b w x
 test_again true w x x' f a = f a
 test_again false w x x' f a = refl
 
-else_again : (b : Bool) (x y y' : Extent) → (Reads y → y' ≡ y) → Reads (cond b x y) → cond b x y' ≡ cond b x y
+else_again : (b : Bool) (x y y' : Result Extent Refusal) → (Reads y → y' ≡ y) → Reads (cond b x y) → cond b x y' ≡ cond b x y
 else_again true x y y' f a = refl
 else_again false x y y' f a = f a
 
 module _ (log log' : Bytes) (more : (t : ℕ) (s : Bytes) (r : Row) → held log t s ≡ some r → held log' t s ≡ some r) where
-  fetched_again : (t : ℕ) (s : Bytes) (count : ℕ) (f f' : Row → Extent) → ((r : Row) → Reads (f r) → f' r ≡ f r)
+  fetched_again : (t : ℕ) (s : Bytes) (count : ℕ) (f f' : Row → (Result Extent Refusal)) → ((r : Row) → Reads (f r) → f' r ≡ f r)
       → Reads (fetched log t s count f) → fetched log' t s count f' ≡ fetched log t s count f
   fetched_again t s count f f' g a =
       let h = held_if log t s count f a in
@@ -65,7 +66,7 @@ module _ (log log' : Bytes) (more : (t : ℕ) (s : Bytes) (r : Row) → held log
       (under_again (length page) (entry_of entry) offset (entry_of entry).depth (score_of entry))))) a
 
   -- what lies at the place of a stored run are the leaf's bytes, in both logs
-  bytes_again : (page : Bytes) (e : Entry) (offset : ℕ) (byte : ℕ → Option ℕ) (x : Extent) → offset < e.size
+  bytes_again : (page : Bytes) (e : Entry) (offset : ℕ) (byte : ℕ → Option ℕ) (x : Result Extent Refusal) → offset < e.size
       → Run log (length page) e offset byte x → extent_bytes log' page x ≡ extent_bytes log page x
   bytes_again page e offset byte x o (nothing a b) = ap (extent_bytes log' page) a ∙ sym (ap (extent_bytes log page) a)
   bytes_again page e offset byte x o (block t s r h k m a b) =

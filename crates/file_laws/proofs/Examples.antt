@@ -6,7 +6,7 @@ use Prim.Native.Nat.{ℕ, ◌%◌}
 use lib.Dec.{leb, eqb}
 use lib.ListN.{length}
 use Rattle.buffer.specs.Bytes.{Bytes, same}
-use Rattle.word.specs.Number.{digits, value_from}
+use Rattle.digits.specs.Number.{digits, value_from}
 use Rattle.kind.specs.Kind.{zero_score}
 use Rattle.block.specs.Block.{Row, place_of}
 use Rattle.sector_log.specs.LookUp.{held}

@@ -14,34 +14,36 @@ use Rattle.block.proofs.Used.{used_le_sectors}
 use Rattle.sector_log.specs.LookUp.{lent_allowed}
 use Rattle.sector_log.specs.Parts.{tape}
 use Rattle.leaf.specs.declared.Extent.{Extent}
-use Rattle.leaf.specs.declared.Extent.TheVariants.{Stored, Zeros, Refused}
+use Rattle.leaf.specs.declared.Extent.TheVariants.{Stored, Zeros}
 use Rattle.file.specs.declared.Located.{Located}
 use Rattle.file.specs.File.{extent_at, split, located}
 use Rattle.file.proofs.Inside.{Inside, extent_in, one_part}
 use Rattle.file_laws.specs.Path.{Answers}
 use Rattle.file_laws.specs.Bytes.{run_bytes}
+use Rattle.std.specs.Prelude.{Ok, Err, Result}
+use Rattle.refusal.specs.declared.Refusal.{Refusal}
 
 -- stored bytes or zeros, no refusal
-abbrev pub Reads : Extent → Type 0
-Reads (Stored at n) = Unit {0}
-Reads (Zeros n) = Unit {0}
-Reads (Refused w) = ⊥
+abbrev pub Reads : Result Extent Refusal → Type 0
+Reads (Ok (Stored at n)) = Unit {0}
+Reads (Ok (Zeros n)) = Unit {0}
+Reads (Err w) = ⊥
 
-pub answers-reads : (border : ℕ) (x : Extent) → Answers (split border x) → Reads x
-answers-reads border (Stored at n) a = tt
-answers-reads border (Zeros n) a = tt
-answers-reads border (Refused w) a = a
+pub answers-reads : (border : ℕ) (x : Result Extent Refusal) → Answers (split border x) → Reads x
+answers-reads border (Ok (Stored at n)) a = tt
+answers-reads border (Ok (Zeros n)) a = tt
+answers-reads border (Err w) a = a
 
-pub reads-answers : (border : ℕ) (x : Extent) → Reads x → Answers (split border x)
-reads-answers border (Stored at n) a = cond_ind Answers (ltb at border) _ _ (λ _. tt) (λ _. tt)
-reads-answers border (Zeros n) a = tt
-reads-answers border (Refused w) a = a
+pub reads-answers : (border : ℕ) (x : Result Extent Refusal) → Reads x → Answers (split border x)
+reads-answers border (Ok (Stored at n)) a = cond_ind Answers (ltb at border) _ _ (λ _. tt) (λ _. tt)
+reads-answers border (Ok (Zeros n)) a = tt
+reads-answers border (Err w) a = a
 
 -- its bytes in one log
-abbrev pub extent_bytes : Bytes → Bytes → Extent → Bytes
-extent_bytes log page (Stored at n) = take n (drop at log)
-extent_bytes log page (Zeros n) = take n page
-extent_bytes log page (Refused w) = []
+abbrev pub extent_bytes : Bytes → Bytes → Result Extent Refusal → Bytes
+extent_bytes log page (Ok (Stored at n)) = take n (drop at log)
+extent_bytes log page (Ok (Zeros n)) = take n page
+extent_bytes log page (Err w) = []
 
 -- ---- the bytes of a part
 
@@ -66,16 +68,16 @@ back_bytes log second k at h g =
     sym (ap (λ (x : ℕ). drop x (f ++ second)) e ∙ drop-append-add f second (at - k))
 
 module _ (log waiting : Bytes) where
-  split-bytes : (page : Bytes) (u p : ℕ) (x : Extent) → Inside u p x → run_bytes log waiting page (split (512 * used log) x) ≡ extent_bytes (tape log waiting) page x
+  split-bytes : (page : Bytes) (u p : ℕ) (x : Result Extent Refusal) → Inside u p x → run_bytes log waiting page (split (512 * used log) x) ≡ extent_bytes (tape log waiting) page x
   unfolding joined
-  split-bytes page u p (Stored at n) i =
+  split-bytes page u p (Ok (Stored at n)) i =
       let k = 512 * used log in
       let h : k ≤ length log = omega (arith, used_le_sectors log) in
-      cond_ind (λ (y : Located). run_bytes log waiting page y ≡ extent_bytes (tape log waiting) page (Stored at n)) (ltb at k) _ _
+      cond_ind (λ (y : Result Located Refusal). run_bytes log waiting page y ≡ extent_bytes (tape log waiting) page (Ok (Stored at n))) (ltb at k) _ _
       (λ q. front_bytes log waiting k at n h (one_part (used log) at n (ltb-true at k q) i.1))
       (λ q. ap (take n) (back_bytes log waiting k at h (ltb-false at k q)))
-  split-bytes page u p (Zeros n) i = refl
-  split-bytes page u p (Refused w) i = refl
+  split-bytes page u p (Ok (Zeros n)) i = refl
+  split-bytes page u p (Err w) i = refl
 
   pub shown-bytes : (page entry : Bytes) (offset : ℕ)
       → run_bytes log waiting page (located log waiting page entry offset)

@@ -24,7 +24,6 @@ use Rattle.leaf.specs.declared.Extent.{Extent}
 use Rattle.leaf.specs.declared.Extent.TheVariants as run
 use Rattle.file.specs.File.{page_allowed, entry_readable, extent_at, split, located}
 use Rattle.file.proofs.Tests.{stops_log, stops_entry, stops_offset}
-use Rattle.fill.specs.declared.Stop.TheVariants.{Refused}
 use Rattle.fill.specs.Fill.{byte, refused, byte_of, byte_at, gathered, FillOutcome, filled_with, fill_in}
 use Rattle.fill.proofs.Tests.{zero-page, nothing}
 use Rattle.file_laws.specs.Bytes.{file_byte}
@@ -33,35 +32,36 @@ use Rattle.file_laws.proofs.Extents.{Reads, extent_bytes}
 use Rattle.file_laws.proofs.Laid.{page_facts, run_in_lem}
 use Rattle.file_laws.proofs.Pages.{why_not, refused_why, answers-why, any_page}
 use Rattle.file_laws.proofs.Gathered.{Gathers, gathers}
+use Rattle.std.specs.Prelude.{⊤, Err, Ok, Result}
 
 -- ---- the byte that is read
 
 -- the first byte of a run that has one
-first-of-run : (log page : Bytes) (x : Extent) (b : ℕ) → page_allowed page ≡ true → 1 ≤ length (extent_bytes log page x) → byte_of log x ≡ byte b
+first-of-run : (log page : Bytes) (x : Result Extent Refusal) (b : ℕ) → page_allowed page ≡ true → 1 ≤ length (extent_bytes log page x) → byte_of log x ≡ byte b
     → get_or (extent_bytes log page x) 0 0 ≡ b
-first-of-run log page (run.Stored at n) b p h e =
+first-of-run log page (Ok (run.Stored at n)) b p h e =
     let z : get_or log at 0 ≡ b = cc in
     let k : 0 < n = omega (arith, length-take n (drop at log)) in
     let a : at + 0 ≡ at = omega arith in
     get_or-take n (drop at log) 0 0 k ∙ get_or-drop at log 0 0 ∙ ap (λ (i : ℕ). get_or log i 0) a ∙ z
-first-of-run log page (run.Zeros n) b p h e =
+first-of-run log page (Ok (run.Zeros n)) b p h e =
     let z : 0 ≡ b = cc in
     let k : 0 < n = omega (arith, length-take n page) in
     get_or-take n page 0 0 k ∙ zeros_get_d page 0 (page_facts page p).1 ∙ z
-first-of-run log page (run.Refused w) b p h e = absurd (omega arith)
+first-of-run log page (Err w) b p h e = absurd (omega arith)
 
-read-answers : (log : Bytes) (x : Extent) (b : ℕ) → byte_of log x ≡ byte b → why_not x ≡ none
-read-answers log (run.Stored at n) b e = refl
-read-answers log (run.Zeros n) b e = refl
-read-answers log (run.Refused w) b e = let z : ◌≡◌ {A = ℕ} 0 1 = cc in absurd (omega arith)
+read-answers : (log : Bytes) (x : Result Extent Refusal) (b : ℕ) → byte_of log x ≡ byte b → why_not x ≡ none
+read-answers log (Ok (run.Stored at n)) b e = refl
+read-answers log (Ok (run.Zeros n)) b e = refl
+read-answers log (Err w) b e = let z : ◌≡◌ {A = ℕ} 0 1 = cc in absurd (omega arith)
 
-read-refused : (log : Bytes) (x : Extent) (w : Refusal) → byte_of log x ≡ refused w → why_not x ≡ some w
-read-refused log (run.Stored at n) w e = let z : ◌≡◌ {A = ℕ} 0 1 = cc in absurd (omega arith)
-read-refused log (run.Zeros n) w e = let z : ◌≡◌ {A = ℕ} 0 1 = cc in absurd (omega arith)
-read-refused log (run.Refused v) w e = let z : v ≡ w = cc in ap (λ (x : Refusal). some x) z
+read-refused : (log : Bytes) (x : Result Extent Refusal) (w : Refusal) → byte_of log x ≡ refused w → why_not x ≡ some w
+read-refused log (Ok (run.Stored at n)) w e = let z : ◌≡◌ {A = ℕ} 0 1 = cc in absurd (omega arith)
+read-refused log (Ok (run.Zeros n)) w e = let z : ◌≡◌ {A = ℕ} 0 1 = cc in absurd (omega arith)
+read-refused log (Err v) w e = let z : v ≡ w = cc in ap (λ (x : Refusal). some x) z
 
 module _ (lent : Bool) (log entry : Bytes) where
-  zero-run : ℕ → Extent
+  zero-run : ℕ → Result Extent Refusal
   zero-run o = extent_at lent log (0 ∷ []) entry o
 
   -- the byte that is read is the file's
@@ -77,14 +77,14 @@ module _ (lent : Bool) (log entry : Bytes) where
     pub byte-answers : (b : ℕ) → byte_at lent log entry o ≡ byte b → Reads (extent_at lent log page entry o)
     byte-answers b e = answers-why (extent_at lent log page entry o) (any_page lent log page (0 ∷ []) entry o p zero-page ∙ read-answers log (extent_at lent log (0 ∷ []) entry o) b e)
 
-    pub byte-refused : (w : Refusal) → byte_at lent log entry o ≡ refused w → extent_at lent log page entry o ≡ run.Refused w
+    pub byte-refused : (w : Refusal) → byte_at lent log entry o ≡ refused w → extent_at lent log page entry o ≡ Err w
     byte-refused w e = refused_why (extent_at lent log page entry o) w (any_page lent log page (0 ∷ []) entry o p zero-page ∙ read-refused log (extent_at lent log (0 ∷ []) entry o) w e)
 
 -- ---- the tests
 
 -- a test stopped it, or it goes down
 pub data Course (lent : Bool) (log entry : Bytes) (offset : ℕ) (d : Bytes) (x : FillOutcome) : Type 0 where
-  stopped : (w : Refusal) → x ≡ nothing d w → ((page : Bytes) → page_allowed page ≡ true → run.Refused w ≡ extent_at lent log page entry offset) → Course lent log entry offset d x
+  stopped : (w : Refusal) → x ≡ nothing d w → ((page : Bytes) → page_allowed page ≡ true → Err w ≡ extent_at lent log page entry offset) → Course lent log entry offset d x
   down : offset < (entry_of entry).size → x ≡ filled_with d (gathered (byte_at lent log entry) (min (length d) ((entry_of entry).size - offset)) offset) → Course lent log entry offset d x
 
 pub course : (lent : Bool) (log entry : Bytes) (offset : ℕ) (d : Bytes) → Course lent log entry offset d (fill_in lent log entry offset d)
@@ -149,11 +149,11 @@ fill_files log waiting entry offset d = files_in (lent_allowed (length log) (len
 -- ---- the refusal
 
 refusal_in : (lent : Bool) (log page entry : Bytes) (offset : ℕ) (d : Bytes) (w : Refusal) → page_allowed page ≡ true → (r : FillOutcome) → Course lent log entry offset d r
-    → r.filled.stop ≡ Refused w → extent_at lent log page entry (offset + r.filled.count) ≡ run.Refused w
+    → r.filled.stop ≡ Err w → extent_at lent log page entry (offset + r.filled.count) ≡ Err w
 refusal_in lent log page entry offset d w p r (stopped v e h) q =
-    let c : v ≡ w = let y : Refused v ≡ Refused w = ap (λ (o : FillOutcome). o.filled.stop) (sym e) ∙ q in cc in
+    let c : v ≡ w = let y : ◌≡◌ {A = Result ⊤ Refusal} (Err v) (Err w) = ap (λ (o : FillOutcome). o.filled.stop) (sym e) ∙ q in cc in
     let z : offset + r.filled.count ≡ offset = ap (λ (o : FillOutcome). offset + o.filled.count) e ∙ add-zero offset in
-    ap (extent_at lent log page entry) z ∙ sym (h page p) ∙ ap run.Refused c
+    ap (extent_at lent log page entry) z ∙ sym (h page p) ∙ ap Err c
 refusal_in lent log page entry offset d w p r (down inside e) q =
     let n = min (length d) ((entry_of entry).size - offset) in
     let g = gathered (byte_at lent log entry) n offset in

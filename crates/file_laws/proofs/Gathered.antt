@@ -5,17 +5,17 @@ use Prim.Native.Nat.{ℕ, zero, suc, ◌+◌, ◌≤◌, ◌<◌}
 use native.Mathlib.Omega.{arith}
 use lib.ListN.{length, get_or}
 use Rattle.refusal.specs.declared.Refusal.{Refusal}
-use Rattle.fill.specs.declared.Stop.TheVariants.{Done, Refused}
 use Rattle.fill.specs.Fill.{Read, Gathered, infront, gathered, byte, refused}
+use Rattle.std.specs.Prelude.{Ok, Err}
 
 pub record Gathers (read : ℕ → Read) (n o : ℕ) (g : Gathered) : Type 0 where
   pub few : length g.bytes ≤ n
   pub each : (j : ℕ) → j < length g.bytes → read (o + j) ≡ byte (get_or g.bytes j 0)
-  pub done : g.stop ≡ Done → length g.bytes ≡ n
-  pub ends : (w : Refusal) → g.stop ≡ Refused w → (length g.bytes < n) × (read (o + length g.bytes) ≡ refused w)
+  pub done : g.stop ≡ Ok tt → length g.bytes ≡ n
+  pub ends : (w : Refusal) → g.stop ≡ Err w → (length g.bytes < n) × (read (o + length g.bytes) ≡ refused w)
 
 module _ (read : ℕ → Read) where
-  none-gathered : (o : ℕ) → Gathers read 0 o (record { bytes = []; stop = Done })
+  none-gathered : (o : ℕ) → Gathers read 0 o (record { bytes = []; stop = (Ok tt) })
   none-gathered o = record {
     few = omega arith;
     each = λ j h. absurd (omega arith);

@@ -27,6 +27,8 @@ use Rattle.file_laws.specs.Bytes.{run_bytes, byte_under, file_byte, laid, RunIsT
 use Rattle.file_laws.proofs.Extents.{Reads, extent_bytes, shown-bytes, shown-reads}
 use Rattle.file_laws.proofs.Stored.{stored_bytes, room-left}
 use Rattle.file_laws.proofs.Runs.{least_pos, least-below, through, Onward, Run, under-run, nothing, block}
+use Rattle.std.specs.Prelude.{Result}
+use Rattle.refusal.specs.declared.Refusal.{Refusal}
 
 -- ---- one run
 
@@ -83,7 +85,7 @@ module _ (log page : Bytes) (e : Entry) (offset : ℕ) (byte : ℕ → Option �
             ∙ ap (λ (x : ℕ). some x) (sym (get_or-take n (drop k r.bytes) j 0 (omega arith) ∙ get_or-drop k r.bytes j 0)),
       )
 
-  run-next : (x : Extent) → page_allowed page ≡ true → Run log (length page) e offset byte x → Next e offset byte (extent_bytes log page x)
+  run-next : (x : Result Extent Refusal) → page_allowed page ≡ true → Run log (length page) e offset byte x → Next e offset byte (extent_bytes log page x)
   run-next x p (nothing a f) = rw a (zeros-next p f)
   run-next x p (block t s r h lt short a f) = rw a (stored_next t s r h lt short f)
 

@@ -24,12 +24,13 @@ use Rattle.file.specs.declared.Located.{Located}
 use Rattle.file.specs.declared.Located.TheVariants as part
 use Rattle.file.specs.File.{page_allowed, entry_readable, test, extent_at, split, located}
 use Rattle.file_laws.specs.Reasons.{ReadingsReasons}
+use Rattle.std.specs.Prelude.{Ok, Err, Result}
 
 -- not refused, or for a reason of reading
-abbrev Readings : Extent → Type 0
-Readings (extent.Stored at n) = Unit {0}
-Readings (extent.Zeros n) = Unit {0}
-Readings (extent.Refused w) = number_of w ≤ 19
+abbrev Readings : Result Extent Refusal → Type 0
+Readings (Ok (extent.Stored at n)) = Unit {0}
+Readings (Ok (extent.Zeros n)) = Unit {0}
+Readings (Err w) = number_of w ≤ 19
 
 missing_reason : (log : Bytes) → number_of (absence log) ≤ 19
 unfolding absence
@@ -39,7 +40,7 @@ leaf_reason : (page : ℕ) (e : Entry) (offset : ℕ) (b : Block) → Readings (
 unfolding leaf_run
 leaf_reason page e offset b = cond_ind Readings (ltb (offset % e.dsize) b.size) _ _ (λ _. tt) (λ _. tt)
 
-test_reason : (b : Bool) (w : Refusal) (x : Extent) → number_of w ≤ 19 → Readings x → Readings (test b w x)
+test_reason : (b : Bool) (w : Refusal) (x : Result Extent Refusal) → number_of w ≤ 19 → Readings x → Readings (test b w x)
 test_reason b w x h r = cond_ind Readings b _ _ (λ _. r) (λ _. h)
 
 extent_reason : (lent : Bool) (log page entry : Bytes) (offset : ℕ) → Readings (extent_at lent log page entry offset)
@@ -53,12 +54,12 @@ extent_reason lent log page entry offset =
     (under_ind log (length page) e offset Readings (missing_reason log) (omega arith) (omega arith) tt (λ r _. leaf_reason (length page) e offset (place_of r)) e.depth (score_of entry)))))
 
 -- a run is refused in both parts for the reason for which it is in one
-split_reason : (border : ℕ) (x : Extent) (w : Refusal) → Readings x → split border x ≡ part.Refused w → number_of w ≤ 19
-split_reason border (extent.Stored at n) w r e =
-    absurd (cond_ind (λ (y : Located). y ≡ part.Refused w → ⊥) (ltb at border) _ _
+split_reason : (border : ℕ) (x : Result Extent Refusal) (w : Refusal) → Readings x → split border x ≡ Err w → number_of w ≤ 19
+split_reason border (Ok (extent.Stored at n)) w r e =
+    absurd (cond_ind (λ (y : Result Located Refusal). y ≡ Err w → ⊥) (ltb at border) _ _
     (λ _ q. let z : ◌≡◌ {A = ℕ} 0 1 = cc in omega arith) (λ _ q. let z : ◌≡◌ {A = ℕ} 0 1 = cc in omega arith) e)
-split_reason border (extent.Zeros n) w r e = let z : ◌≡◌ {A = ℕ} 0 1 = cc in absurd (omega arith)
-split_reason border (extent.Refused v) w r e = let z : v ≡ w = cc in rw (← z) r
+split_reason border (Ok (extent.Zeros n)) w r e = let z : ◌≡◌ {A = ℕ} 0 1 = cc in absurd (omega arith)
+split_reason border (Err v) w r e = let z : v ≡ w = cc in rw (← z) r
 
 pub readings_reasons : ReadingsReasons
 unfolding located

@@ -24,6 +24,8 @@ use Rattle.leaf.proofs.Steps.{leaf_in, leaf-past, under-zero}
 use Rattle.file.proofs.Tests.{opened, goes_down}
 use Rattle.file_laws.proofs.Extents.{Reads}
 use Rattle.file_laws.proofs.Missing.{tested, passed, looked, held_if}
+use Rattle.std.specs.Prelude.{Result}
+use Rattle.refusal.specs.declared.Refusal.{Refusal}
 
 -- ---- the least of three
 
@@ -63,7 +65,7 @@ abbrev pub Onward : Entry → ℕ → ℕ → Type 0
 Onward e offset o = (o / e.dsize ≡ offset / e.dsize) × (offset % e.dsize ≤ o % e.dsize)
 
 -- an answer x, where `byte` gives the file's bytes
-pub data Run (log : Bytes) (page : ℕ) (e : Entry) (offset : ℕ) (byte : ℕ → Option ℕ) (x : Extent) : Type 0 where
+pub data Run (log : Bytes) (page : ℕ) (e : Entry) (offset : ℕ) (byte : ℕ → Option ℕ) (x : Result Extent Refusal) : Type 0 where
   nothing : x ≡ zero_run page e offset → ((o : ℕ) → Onward e offset o → byte o ≡ some 0) → Run log page e offset byte x
   block : (t : ℕ) (s : Bytes) (r : Row) → held log t s ≡ some r → offset % e.dsize < length r.bytes → length r.bytes ≤ e.dsize
       → x ≡ stored_run e offset (place_of r) → ((o : ℕ) → Onward e offset o → byte o ≡ some (get_or r.bytes (o % e.dsize) 0))
@@ -71,7 +73,7 @@ pub data Run (log : Bytes) (page : ℕ) (e : Entry) (offset : ℕ) (byte : ℕ �
 
 module _ (log : Bytes) (page : ℕ) (e : Entry) (offset : ℕ) where
   -- the same run, by other names
-  rename : (f g : ℕ → Option ℕ) (x y : Extent) → y ≡ x → ((o : ℕ) → Onward e offset o → g o ≡ f o) → Run log page e offset f x → Run log page e offset g y
+  rename : (f g : ℕ → Option ℕ) (x y : Result Extent Refusal) → y ≡ x → ((o : ℕ) → Onward e offset o → g o ≡ f o) → Run log page e offset f x → Run log page e offset g y
   rename f g x y p q (nothing a b) = nothing (p ∙ a) (λ o h. q o h ∙ b o h)
   rename f g x y p q (block t s r a k m b c) = block t s r a k m (p ∙ b) (λ o h. q o h ∙ c o h)
 

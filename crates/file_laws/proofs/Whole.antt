@@ -19,8 +19,6 @@ use Rattle.entry.specs.Entry.{entry_of}
 use Rattle.leaf.specs.declared.Extent.{Extent}
 use Rattle.leaf.specs.declared.Extent.TheVariants as run
 use Rattle.file.specs.File.{page_allowed, extent_at, located}
-use Rattle.fill.specs.declared.Stop.{Stop}
-use Rattle.fill.specs.declared.Stop.TheVariants.{Done, Refused}
 use Rattle.fill.specs.Fill.{byte_at, gathered, FillOutcome, fill_in}
 use Rattle.file_laws.specs.Path.{Answers}
 use Rattle.file_laws.specs.Bytes.{run_bytes, file_byte, laid}
@@ -30,6 +28,7 @@ use Rattle.file_laws.proofs.Runs.{through}
 use Rattle.file_laws.proofs.Laid.{run-bytes}
 use Rattle.file_laws.proofs.Gathered.{gathers}
 use Rattle.file_laws.proofs.Filled.{byte-answers, byte-refused, Course, stopped, down, course, files_in}
+use Rattle.std.specs.Prelude.{Ok, Err, Result, ⊤}
 
 -- ---- runs laid end to end, as far as every offset reads
 
@@ -88,10 +87,10 @@ filled-reads lent log page entry offset d p r (down inside e) o g l =
     byte-answers lent log entry page p o _ (ap (byte_at lent log entry) (sym z) ∙ G.each (o - offset) (omega (arith, c)))
 
 -- done is full
-done_full : (lent : Bool) (log entry : Bytes) (offset : ℕ) (d : Bytes) (r : FillOutcome) → Course lent log entry offset d r → r.filled.stop ≡ Done
+done_full : (lent : Bool) (log entry : Bytes) (offset : ℕ) (d : Bytes) (r : FillOutcome) → Course lent log entry offset d r → r.filled.stop ≡ Ok tt
     → r.filled.count ≡ min (length d) ((entry_of entry).size - offset)
 done_full lent log entry offset d r (stopped w e h) q =
-    let y : Refused w ≡ Done = ap (λ (o : FillOutcome). o.filled.stop) (sym e) ∙ q in
+    let y : Err w ≡ Ok tt = ap (λ (o : FillOutcome). o.filled.stop) (sym e) ∙ q in
     let z : ◌≡◌ {A = ℕ} 0 1 = cc in absurd (omega arith)
 done_full lent log entry offset d r (down inside e) q =
     ap (λ (o : FillOutcome). o.filled.count) e
@@ -142,25 +141,25 @@ fill_runs log waiting page entry offset d p =
 
 -- ---- the whole file
 
-refused_none : (x : Extent) (w : Refusal) → x ≡ run.Refused w → Reads x → ⊥
+refused_none : (x : Result Extent Refusal) (w : Refusal) → x ≡ Err w → Reads x → ⊥
 refused_none x w e a = rw e at a
 
 from-count : (lent : Bool) (log page entry : Bytes) (offset : ℕ) (d : Bytes) → offset < (entry_of entry).size
     → ((o : ℕ) → offset ≤ o → o < (entry_of entry).size → Reads (extent_at lent log page entry o)) → (r : FillOutcome) → Course lent log entry offset d r
-    → (r.filled.count ≡ min (length d) ((entry_of entry).size - offset)) × (r.filled.stop ≡ Done)
+    → (r.filled.count ≡ min (length d) ((entry_of entry).size - offset)) × (r.filled.stop ≡ Ok tt)
 from-count lent log page entry offset d inside a r (stopped w e f) =
     let here = a offset (omega arith) inside in
     let T = through lent log page entry offset here in
     absurd (refused_none (extent_at lent log page entry offset) w (sym (f page T.zeros)) here)
 from-count lent log page entry offset d inside a r (down pos e) = go (gathered (byte_at lent log entry) (min (length d) ((entry_of entry).size - offset)) offset).stop refl
   where
-    go : (s : Stop) → (gathered (byte_at lent log entry) (min (length d) ((entry_of entry).size - offset)) offset).stop ≡ s
-        → (r.filled.count ≡ min (length d) ((entry_of entry).size - offset)) × (r.filled.stop ≡ Done)
-    go Done q = (
+    go : (s : Result ⊤ Refusal) → (gathered (byte_at lent log entry) (min (length d) ((entry_of entry).size - offset)) offset).stop ≡ s
+        → (r.filled.count ≡ min (length d) ((entry_of entry).size - offset)) × (r.filled.stop ≡ Ok tt)
+    go (Ok tt) q = (
       ap (λ (o : FillOutcome). o.filled.count) e ∙ (gathers (byte_at lent log entry) (min (length d) ((entry_of entry).size - offset)) offset).done q,
       ap (λ (o : FillOutcome). o.filled.stop) e ∙ q,
     )
-    go (Refused w) q =
+    go (Err w) q =
         let n = min (length d) ((entry_of entry).size - offset) in
         let t = (gathers (byte_at lent log entry) n offset).ends w q in
         let o = offset + length (gathered (byte_at lent log entry) n offset).bytes in
@@ -183,7 +182,7 @@ fill_whole log waiting page entry d a h =
     )
   where
     go : (t : Bool) → ltb 0 (entry_of entry).size ≡ t → let r = fill_in (lent_allowed (length log) (length waiting)) (tape log waiting) entry 0 d in
-        (r.filled.count ≡ (entry_of entry).size) × (0 < (entry_of entry).size → r.filled.stop ≡ Done)
+        (r.filled.count ≡ (entry_of entry).size) × (0 < (entry_of entry).size → r.filled.stop ≡ Ok tt)
     go true q = let R = fill_from log waiting page entry 0 d (ltb-true 0 (entry_of entry).size q) (λ o f g. a o g) in (omega (arith, R.0), λ _. R.1)
     go false q =
         let F = files_in (lent_allowed (length log) (length waiting)) (tape log waiting) entry 0 d in

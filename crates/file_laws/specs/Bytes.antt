@@ -1,5 +1,5 @@
 -- The bytes of a run, each byte of a file by look-up's definition, and a file's runs laid end to end.
-use Rattle.std.specs.Prelude.{◌≡◌, cond, [], ◌++◌, ℕ, zero, suc, ◌+◌, ◌%◌, ◌≤◌, ◌<◌, ltb, length, take, drop, get_or}
+use Rattle.std.specs.Prelude.{◌≡◌, cond, [], ◌++◌, ℕ, zero, suc, ◌+◌, ◌%◌, ◌≤◌, ◌<◌, ltb, length, take, drop, get_or, Ok, Err, Result}
 use Rattle.std.proofs.Math.Option.{Option, none, some}
 use Rattle.bedrock.specs.Choice.{on}
 use Rattle.buffer.specs.Bytes.{Bytes, same}
@@ -9,18 +9,19 @@ use Rattle.sector_log.specs.Parts.{tape}
 use Rattle.entry.specs.declared.Entry.{Entry}
 use Rattle.entry.specs.Entry.{entry_of, score_of}
 use Rattle.file.specs.declared.Located.{Located}
-use Rattle.file.specs.declared.Located.TheVariants.{Stored, Waiting, Zeros, Refused}
+use Rattle.file.specs.declared.Located.TheVariants.{Stored, Waiting, Zeros}
 use Rattle.tree.specs.Tree.{pointer, pointer_type, type_at}
 use Rattle.leaf.specs.Leaf.{pointer_index}
 use Rattle.file.specs.File.{located}
 use Rattle.file_laws.specs.Path.{Answers}
+use Rattle.refusal.specs.declared.Refusal.{Refusal}
 
 -- the bytes of a run: "a part of the log or of the lent blank page", or of the waiting part; "A refusal hands back an empty part"
-abbrev pub run_bytes : Bytes → Bytes → Bytes → Located → Bytes
-run_bytes log waiting page (Stored at n) = take n (drop at log)
-run_bytes log waiting page (Waiting at n) = take n (drop at waiting)
-run_bytes log waiting page (Zeros n) = take n page
-run_bytes log waiting page (Refused w) = []
+abbrev pub run_bytes : Bytes → Bytes → Bytes → Result Located Refusal → Bytes
+run_bytes log waiting page (Ok (Stored at n)) = take n (drop at log)
+run_bytes log waiting page (Ok (Waiting at n)) = take n (drop at waiting)
+run_bytes log waiting page (Ok (Zeros n)) = take n page
+run_bytes log waiting page (Err w) = []
 
 -- byte `offset` of the file under a score at a level, by look-up's definition; none where a block on the path is missing.
 -- "below a zero score all is zero", and so is what a leaf lacks

@@ -1,5 +1,5 @@
 -- The blocks on the path from a score down to an offset.
-use Rattle.std.specs.Prelude.{◌≡◌, true, false, ◌⊎◌, ℕ, zero, suc, ◌%◌, ◌≤◌, ◌<◌, length}
+use Rattle.std.specs.Prelude.{◌≡◌, true, false, ◌⊎◌, ℕ, zero, suc, ◌%◌, ◌≤◌, ◌<◌, length, Ok, Err, Result}
 use Rattle.std.proofs.Math.Option.{none, some}
 use Rattle.buffer.specs.Bytes.{Bytes, same}
 use Rattle.kind.specs.Kind.{zero_score}
@@ -12,7 +12,8 @@ use Rattle.tree.specs.Tree.{pointer, pointer_type, type_at}
 use Rattle.leaf.specs.Leaf.{pointer_index}
 use Rattle.file.specs.File.{page_allowed, entry_readable, located}
 use Rattle.file.specs.declared.Located.{Located}
-use Rattle.file.specs.declared.Located.TheVariants.{Stored, Waiting, Zeros, Refused}
+use Rattle.file.specs.declared.Located.TheVariants.{Stored, Waiting, Zeros}
+use Rattle.refusal.specs.declared.Refusal.{Refusal}
 
 -- no block on the path is missing: each is held, down to the leaf or to a zero score
 unfoldable pub Whole : Bytes → Entry → ℕ → ℕ → Bytes → Type 0
@@ -31,11 +32,11 @@ Lacks log e offset (suc d) s =
     × Lacks log e offset d (pointer r.bytes (pointer_index e offset d))))
 
 -- stored bytes or zeros, no refusal
-abbrev pub Answers : Located → Type 0
-Answers (Stored at n) = Unit {0}
-Answers (Waiting at n) = Unit {0}
-Answers (Zeros n) = Unit {0}
-Answers (Refused w) = ⊥
+abbrev pub Answers : Result Located Refusal → Type 0
+Answers (Ok (Stored at n)) = Unit {0}
+Answers (Ok (Waiting at n)) = Unit {0}
+Answers (Ok (Zeros n)) = Unit {0}
+Answers (Err w) = ⊥
 
 -- "A missing block is refused, never zero": an answer comes only where every block on the path is held
 abbrev pub ReadsWhole : Type 0
@@ -46,4 +47,4 @@ ReadsWhole = (log waiting page b : Bytes) (offset : ℕ) → Answers (located lo
 abbrev pub MissingIsRefused : Type 0
 MissingIsRefused = (log waiting page b : Bytes) (offset : ℕ) → lent_allowed (length log) (length waiting) ≡ true → page_allowed page ≡ true → entry_readable b ≡ true
     → offset < (entry_of b).size → Lacks (tape log waiting) (entry_of b) offset (entry_of b).depth (score_of b)
-    → located log waiting page b offset ≡ Refused (absence (tape log waiting))
+    → located log waiting page b offset ≡ Err (absence (tape log waiting))

@@ -16,21 +16,19 @@ pub fn read<'a>(
 ) -> &'a [u8]
     ensures { run_of (located log.now waiting.now page.now entry.now offset) log.entry waiting.entry page.entry result }
 {
-    let run = file::locate(log, waiting, page, entry, offset);
+    let located = file::locate(log, waiting, page, entry, offset);
+    let Ok(run) = located else {
+        return &page[..0];
+    };
     match run {
         Located::Stored { at, length } => {
             let end = at + length;
-            return &log[at..end];
+            &log[at..end]
         }
         Located::Waiting { at, length } => {
             let end = at + length;
-            return &waiting[at..end];
+            &waiting[at..end]
         }
-        Located::Zeros { length } => {
-            return &page[..length];
-        }
-        Located::Refused(_) => {
-            return &page[..0];
-        }
+        Located::Zeros { length } => &page[..length],
     }
 }

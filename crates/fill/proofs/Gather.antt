@@ -9,8 +9,8 @@ use Rattle.buffer.specs.Bytes.{Bytes, put}
 use Rattle.buffer.proofs.Put.{put-put}
 use Rattle.buffer.proofs.Put.{put-none as put-nothing}
 use Rattle.refusal.specs.declared.Refusal.{Refusal}
-use Rattle.fill.specs.declared.Stop.TheVariants.{Done, Refused}
 use Rattle.fill.specs.Fill.{Read, byte, refused, Gathered, infront, gathered, FillOutcome, fill_outcome, filled_with}
+use Rattle.std.specs.Prelude.{Ok, Err, Result, ⊤}
 
 -- known bytes in front
 abbrev pub behind : Bytes → Gathered → Gathered
@@ -23,15 +23,15 @@ gathered-same f g zero o e = refl
 gathered-same f g (suc n) o e = ap₂ infront (e o (omega arith) (omega arith)) (gathered-same f g n (suc o) (λ j a b. e j (omega arith) (omega arith)))
 
 -- a refusal is not the end
-not_done : (w : Refusal) → Refused w ≡ Done → ⊥
+not_done : (w : Refusal) → ◌≡◌ {A = Result ⊤ Refusal} (Err w) (Ok tt) → ⊥
 not_done w q = let z : ◌≡◌ {A = ℕ} 0 1 = cc in omega arith
 
 -- what the first m bytes give, those behind them, and all together: up to m bytes; and all of them, or a refusal that ends it
 pub record Split (m : ℕ) (front rest all : Gathered) : Type 0 where
   pub short : length front.bytes ≤ m
-  pub all-gathered : front.stop ≡ Done → length front.bytes ≡ m
-  pub goes_on : front.stop ≡ Done → all ≡ behind front.bytes rest
-  pub ends : (w : Refusal) → front.stop ≡ Refused w → all ≡ front
+  pub all-gathered : front.stop ≡ Ok tt → length front.bytes ≡ m
+  pub goes_on : front.stop ≡ Ok tt → all ≡ behind front.bytes rest
+  pub ends : (w : Refusal) → front.stop ≡ Err w → all ≡ front
 
 split-infront : (r : Read) (m : ℕ) (front rest all : Gathered) → Split m front rest all → Split (suc m) (infront r front) rest (infront r all)
 split-infront (byte b) m front rest all s = record {
@@ -50,7 +50,7 @@ split-infront (refused v) m front rest all s = record {
 module _ (read : ℕ → Read) where
   -- bytes that are all read
   pub gathered-all : (p : Bytes) (o : ℕ) → ((j : ℕ) → j < length p → read (o + j) ≡ byte (get_or p j 0))
-      → gathered read (length p) o ≡ record { bytes = p; stop = Done }
+      → gathered read (length p) o ≡ record { bytes = p; stop = (Ok tt) }
   unfolding gathered
   gathered-all [] o f = refl
   gathered-all (b ∷ p) o f =
@@ -60,7 +60,7 @@ module _ (read : ℕ → Read) where
       ap₂ infront here there
 
   -- a refusal
-  pub gathered-refused : (n o : ℕ) (w : Refusal) → 0 < n → read o ≡ refused w → gathered read n o ≡ record { bytes = []; stop = Refused w }
+  pub gathered-refused : (n o : ℕ) (w : Refusal) → 0 < n → read o ≡ refused w → gathered read n o ≡ record { bytes = []; stop = Err w }
   unfolding gathered
   gathered-refused zero o w h e = absurd (omega arith)
   gathered-refused (suc n) o w h e = ap (λ (r : Read). infront r (gathered read n (suc o))) e
@@ -102,11 +102,11 @@ module _ (read : ℕ → Read) (count offset : ℕ) (d₀ : Bytes) where
   rest_all = ap₂ (λ (n o : ℕ). onward d₀ 0 (gathered read n o)) (sub-zero count) (add-zero offset) ∙ onward-front d₀ (gathered read count offset)
 
   module _ (d : Bytes) (done : ℕ) (rest : Rest read count offset d₀ d done) where
-    pub rest-none : count ≤ done → fill_outcome (record { count = done; stop = Done }) d ≡ filled_with d₀ (gathered read count offset)
+    pub rest-none : count ≤ done → fill_outcome (record { count = done; stop = (Ok tt) }) d ≡ filled_with d₀ (gathered read count offset)
     unfolding gathered
     rest-none h =
         let z : count - done ≡ 0 = omega arith in
-        (λ i. fill_outcome (record { count = sym (add-zero done) i; stop = Done }) (sym (put-nothing d done) i))
+        (λ i. fill_outcome (record { count = sym (add-zero done) i; stop = (Ok tt) }) (sym (put-nothing d done) i))
         ∙ ap (λ (n : ℕ). onward d done (gathered read n (offset + done))) (sym z) ∙ rest
 
     -- m bytes more, as they are gathered
@@ -114,11 +114,11 @@ module _ (read : ℕ → Read) (count offset : ℕ) (d₀ : Bytes) where
       pub rest-split : Split m (gathered read m (offset + done)) (gathered read (count - (done + m)) (offset + (done + m))) (gathered read (count - done) (offset + done))
       rest-split = gathered-split read m (count - (done + m)) (count - done) (offset + done) (offset + (done + m)) (omega arith) (omega arith)
 
-      pub rest_ends : (w : Refusal) → (gathered read m (offset + done)).stop ≡ Refused w
+      pub rest_ends : (w : Refusal) → (gathered read m (offset + done)).stop ≡ Err w
           → onward d done (gathered read m (offset + done)) ≡ filled_with d₀ (gathered read count offset)
       rest_ends w q = ap (onward d done) (sym (rest-split.ends w q)) ∙ rest
 
-      pub rest_goes_on : (gathered read m (offset + done)).stop ≡ Done → done ≤ length d
+      pub rest_goes_on : (gathered read m (offset + done)).stop ≡ Ok tt → done ≤ length d
           → let p = (gathered read m (offset + done)).bytes in
           Rest read count offset d₀ (put d done p) (done + length p)
       rest_goes_on q l =

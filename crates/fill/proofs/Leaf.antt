@@ -13,14 +13,13 @@ use Rattle.block.specs.declared.Block.{Block}
 use Rattle.block.specs.Block.{Inside}
 use Rattle.block.specs.Log.{sectors, bytes_of}
 use Rattle.reader.proofs.Pieces.{length-bytes}
-use Rattle.sector_log.specs.declared.Look.{Look}
-use Rattle.sector_log.specs.declared.Look.TheVariants as look
 use Rattle.entry.specs.declared.Entry.{Entry}
 use Rattle.leaf.specs.Leaf.{leaf_run, under}
 use Rattle.leaf.specs.Fetch.{run_in}
 use Rattle.leaf.proofs.Places.{byte-place}
 use Rattle.leaf.proofs.Steps.{leaf_in, leaf-past}
 use Rattle.fill.specs.Fill.{byte, refused, byte_of, byte_below}
+use Rattle.std.specs.Prelude.{Ok, Err, Result}
 
 sum_front : (x r j o : ℕ) → x + r ≡ o → o + j ≡ x + (r + j)
 sum_front x r j o e = omega arith
@@ -48,12 +47,12 @@ first_byte log e o b h = go (ltb (o % e.dsize) b.size) refl
         let past : length (bytes_of log b) ≤ o % e.dsize = omega (arith, length-bytes log b h.1) in
         ap (byte_of log) (sym (leaf-past 1 e o b ge)) ∙ ap byte (sym (get_or-eq_default (bytes_of log b) 0 past))
 
-module _ (log : Bytes) (e : Entry) (top : Bytes) (offset : ℕ) (l : Look)
+module _ (log : Bytes) (e : Entry) (top : Bytes) (offset : ℕ) (l : Result Block Refusal)
     (found : (page o : ℕ) → o / e.dsize ≡ offset / e.dsize → run_in page e o l ≡ under log page e o e.depth top) where
-  pub leaf-refused : (w : Refusal) → l ≡ look.Refused w → byte_below log e top offset ≡ refused w
+  pub leaf-refused : (w : Refusal) → l ≡ Err w → byte_below log e top offset ≡ refused w
   leaf-refused w z = ap (byte_of log) (sym (found 1 offset refl) ∙ ap (run_in 1 e offset) z)
 
-  pub leaf-bytes : (b : Block) → l ≡ look.Found b → Inside (sectors (length log)) b → 0 < e.dsize
+  pub leaf-bytes : (b : Block) → l ≡ Ok b → Inside (sectors (length log)) b → 0 < e.dsize
       → (j : ℕ) → offset % e.dsize + j < e.dsize → byte_below log e top (offset + j) ≡ byte (get_or (bytes_of log b) (offset % e.dsize + j) 0)
   leaf-bytes b z room pos j h =
       let s = same-leaf e.dsize offset j pos h in

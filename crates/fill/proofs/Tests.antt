@@ -8,8 +8,8 @@ use Rattle.refusal.specs.declared.Refusal.{Refusal}
 use Rattle.entry.specs.declared.Entry.{Entry}
 use Rattle.file.specs.File.{page_allowed}
 use Rattle.leaf.specs.Fetch.{Open}
-use Rattle.fill.specs.declared.Stop.TheVariants.{Refused}
 use Rattle.fill.specs.Fill.{FillOutcome, fill_outcome}
+use Rattle.std.specs.Prelude.{Err}
 
 -- further on in the file
 pub open_on : (e : Entry) (offset o : ℕ) → Open e offset → o < e.size → Open e o
@@ -29,4 +29,4 @@ zero-page = refl
 
 -- nothing written
 abbrev pub nothing : Bytes → Refusal → FillOutcome
-nothing d w = fill_outcome (record { count = 0; stop = Refused w }) d
+nothing d w = fill_outcome (record { count = 0; stop = Err w }) d

@@ -17,21 +17,19 @@ use Rattle.block.specs.Block.{Inside}
 use Rattle.block.specs.Log.{sectors, joined, bytes_of}
 use Rattle.block.proofs.Joined.{sectors-joined}
 use Rattle.block.proofs.Payloads.{filled_get_d}
-use Rattle.sector_log.specs.declared.Look.{Look}
-use Rattle.sector_log.specs.declared.Look.TheVariants as look
 use Rattle.entry.specs.declared.Entry.{Entry}
 use Rattle.leaf.specs.Leaf.{under}
 use Rattle.leaf.specs.Fetch.{LiesIn, run_in}
-use Rattle.fill.specs.declared.Stop.TheVariants.{Done, Refused}
 use Rattle.fill.specs.declared.Filled.{Filled}
 use Rattle.fill.specs.Fill.{Read, byte, byte_below, gathered, FillOutcome, fill_outcome, filled_with}
 use Rattle.fill.proofs.Gather.{gathered-all, gathered-refused, Rest, rest-split, rest_ends, rest_goes_on}
 use Rattle.fill.proofs.Leaf.{leaf-refused, leaf-bytes}
+use Rattle.std.specs.Prelude.{Ok, Err, Result}
 
 -- ---- one leaf
 
 -- the block that was found lies within both parts, and within them read as one
-pub found_inside : (l : Look) (end : ℕ) → LiesIn end l → {b : Block} → l ≡ look.Found b → Inside end b
+pub found_inside : (l : Result Block Refusal) (end : ℕ) → LiesIn end l → {b : Block} → l ≡ Ok b → Inside end b
 found_inside l end h z = subst (LiesIn end) z h
 
 pub inside_both : (u : ℕ) (log waiting : Bytes) → u ≤ sectors (length log) → (b : Block) → Inside (u + sectors (length waiting)) b → Inside (sectors (length (joined u log waiting))) b
@@ -42,24 +40,24 @@ least-of : (a b : ℕ) → 0 < a → 0 < b → (0 < min a b) × (min a b ≤ a) 
 least-of a b p q = (omega arith, omega arith, omega arith)
 
 -- bytes written to the front
-written : (d p : Bytes) (n : ℕ) → length p ≡ n → fill_outcome (record { count = n; stop = Done }) (p ++ drop n d) ≡ filled_with d (record { bytes = p; stop = Done })
-written d p n e = ap (λ (k : ℕ). fill_outcome (record { count = k; stop = Done }) (p ++ drop k d)) (sym e) ∙ ap (fill_outcome (record { count = length p; stop = Done })) (sym (put_front d p))
+written : (d p : Bytes) (n : ℕ) → length p ≡ n → fill_outcome (record { count = n; stop = (Ok tt) }) (p ++ drop n d) ≡ filled_with d (record { bytes = p; stop = (Ok tt) })
+written d p n e = ap (λ (k : ℕ). fill_outcome (record { count = k; stop = (Ok tt) }) (p ++ drop k d)) (sym e) ∙ ap (fill_outcome (record { count = length p; stop = (Ok tt) })) (sym (put_front d p))
 
-module _ (log : Bytes) (e : Entry) (top : Bytes) (offset : ℕ) (d : Bytes) (pos : 0 < e.dsize) (lent : 0 < length d) (l : Look)
+module _ (log : Bytes) (e : Entry) (top : Bytes) (offset : ℕ) (d : Bytes) (pos : 0 < e.dsize) (lent : 0 < length d) (l : Result Block Refusal)
     (found : (page o : ℕ) → o / e.dsize ≡ offset / e.dsize → run_in page e o l ≡ under log page e o e.depth top) where
   least : let n = min (length d) (e.dsize - offset % e.dsize) in
       (0 < n) × (n ≤ length d) × (n ≤ e.dsize - offset % e.dsize)
   least = least-of (length d) (e.dsize - offset % e.dsize) lent (omega (arith, mod-lt offset pos))
 
-  pub leaf-missing : (w : Refusal) → l ≡ look.Refused w
-      → fill_outcome (record { count = 0; stop = Refused w }) d ≡ filled_with d (gathered (byte_below log e top) (min (length d) (e.dsize - offset % e.dsize)) offset)
+  pub leaf-missing : (w : Refusal) → l ≡ Err w
+      → fill_outcome (record { count = 0; stop = Err w }) d ≡ filled_with d (gathered (byte_below log e top) (min (length d) (e.dsize - offset % e.dsize)) offset)
   leaf-missing w z =
-      ap (fill_outcome (record { count = 0; stop = Refused w })) (sym (put-none d 0))
+      ap (fill_outcome (record { count = 0; stop = Err w })) (sym (put-none d 0))
       ∙ ap (filled_with d) (sym (gathered-refused (byte_below log e top) _ offset w least.0 (leaf-refused log e top offset l found w z)))
 
-  module _ (b : Block) (z : l ≡ look.Found b) (room : Inside (sectors (length log)) b) (n : ℕ) (en : n ≡ min (length d) (e.dsize - offset % e.dsize)) where
+  module _ (b : Block) (z : l ≡ Ok b) (room : Inside (sectors (length log)) b) (n : ℕ) (en : n ≡ min (length d) (e.dsize - offset % e.dsize)) where
     pub leaf-written : (ys : Bytes) → ys ≡ filled n (drop (offset % e.dsize) (bytes_of log b))
-        → fill_outcome (record { count = n; stop = Done }) (ys ++ drop n d)
+        → fill_outcome (record { count = n; stop = (Ok tt) }) (ys ++ drop n d)
         ≡ filled_with d (gathered (byte_below log e top) (min (length d) (e.dsize - offset % e.dsize)) offset)
     leaf-written ys ey =
         let k = offset % e.dsize in
@@ -69,7 +67,7 @@ module _ (log : Bytes) (e : Entry) (top : Bytes) (offset : ℕ) (d : Bytes) (pos
         let reads : (j : ℕ) → j < length p → byte_below log e top (offset + j) ≡ byte (get_or p j 0) =
         λ j g. leaf-bytes log e top offset l found b z room pos j (omega (arith, lp, least.2))
         ∙ ap byte (sym (filled_get_d n (drop k bytes) j (omega (arith, lp)) ∙ get_or-drop k bytes j 0)) in
-        ap (λ (x : Bytes). fill_outcome (record { count = n; stop = Done }) (x ++ drop n d)) ey
+        ap (λ (x : Bytes). fill_outcome (record { count = n; stop = (Ok tt) }) (x ++ drop n d)) ey
         ∙ written d p n lp
         ∙ ap (filled_with d) (sym (gathered-all (byte_below log e top) p offset reads))
         ∙ ap (λ (m : ℕ). filled_with d (gathered (byte_below log e top) m offset)) (lp ∙ en)
@@ -84,9 +82,9 @@ Filling read count offset d₀ d done = (done ≤ count) × (length d ≡ length
 pub record Turned (read : ℕ → Read) (count offset : ℕ) (d₀ d : Bytes) (done : ℕ) (f : Filled) (ys : Bytes) : Type 0 where
   pub within : done + f.count ≤ count
   pub same_length : length (take done d ++ (ys ++ drop (count - done) (drop done d))) ≡ length d₀
-  pub some : f.stop ≡ Done → 0 < f.count
-  pub goes_on : f.stop ≡ Done → Filling read count offset d₀ (take done d ++ (ys ++ drop (count - done) (drop done d))) (done + f.count)
-  pub ends : (w : Refusal) → f.stop ≡ Refused w
+  pub some : f.stop ≡ Ok tt → 0 < f.count
+  pub goes_on : f.stop ≡ Ok tt → Filling read count offset d₀ (take done d ++ (ys ++ drop (count - done) (drop done d))) (done + f.count)
+  pub ends : (w : Refusal) → f.stop ≡ Err w
       → fill_outcome (record { count = done + f.count; stop = f.stop }) (take done d ++ (ys ++ drop (count - done) (drop done d))) ≡ filled_with d₀ (gathered read count offset)
 
 pub turned : (read : ℕ → Read) (count offset : ℕ) (d₀ d : Bytes) (done : ℕ) → count ≤ length d₀ → Filling read count offset d₀ d done → done < count

@@ -8,30 +8,22 @@ ghost use Rattle.fill.specs.Fill.{stop_number, fill_outcome, filled_with, byte_b
 
 use entry::Entry;
 use refusal::Refusal;
-use sector_log::Look;
 use sector_number::SectorNumber;
-
-// How filling a buffer ended: the buffer or the file is full, or the refusal at the first offset that has one.
-#[derive(Clone, Copy)]
-pub enum Stop {
-    Done,
-    Refused(Refusal),
-}
 
 // What filling a buffer answers: how many bytes are written to its front, and how it ended.
 #[derive(Clone, Copy)]
 pub struct Filled {
     pub count: usize,
-    pub stop: Stop,
+    pub stop: Result<(), Refusal>,
 }
 
 // The number of how filling a buffer ended: 0 for done.
-pub fn number(stop: Stop) -> u8
+pub fn number(stop: Result<(), Refusal>) -> u8
     ensures { result ≡ stop_number stop }
 {
     match stop {
-        Stop::Done => 0,
-        Stop::Refused(why) => refusal::number(why),
+        Ok(()) => 0,
+        Err(why) => refusal::number(why),
     }
 }
 
@@ -39,10 +31,7 @@ pub fn number(stop: Stop) -> u8
 fn lesser(a: usize, b: u64) -> usize
     ensures { result ≡ min a b }
 {
-    if a as u64 <= b {
-        return a;
-    }
-    b as usize
+    (a as u64).min(b) as usize
 }
 
 // Fills d from an offset on, up to its end or that of the leaf in which the offset lies, below the score at the top level. The leaf is
@@ -61,20 +50,20 @@ fn fill_leaf<'a>(
         ≡ filled_with d.old
         (gathered (byte_below (joined end.0 log.now waiting.now) e top.now) (min (length d.old) (e.dsize - offset % e.dsize)) offset) }
 {
-    let look = way_down::descend(log, end, waiting, e, offset, top);
+    let look = file::descend(log, end, waiting, e, offset, top);
     match look {
-        Look::Found(b) => {
+        Ok(b) => {
             let k = (offset % e.dsize as u64) as usize;
             let n = lesser(d.len(), (e.dsize - k) as u64);
             tree::read_part(log, end, waiting, b, k, &mut d[..n]);
             Filled {
                 count: n,
-                stop: Stop::Done,
+                stop: Ok(()),
             }
         }
-        Look::Refused(why) => Filled {
+        Err(why) => Filled {
             count: 0,
-            stop: Stop::Refused(why),
+            stop: Err(why),
         },
     }
 }
@@ -101,7 +90,7 @@ pub fn fill_leaves<'a>(
         let leaf = fill_leaf(log, end, waiting, e, top, o, &mut d[done..count]);
         let stop = leaf.stop;
         done += leaf.count;
-        let Stop::Done = stop else {
+        let Ok(()) = stop else {
             return Filled {
                 count: done,
                 stop: stop,
@@ -110,6 +99,6 @@ pub fn fill_leaves<'a>(
     }
     Filled {
         count: done,
-        stop: Stop::Done,
+        stop: Ok(()),
     }
 }

@@ -5,7 +5,7 @@ ghost use Rattle.std.specs.Prelude.{◌≡◌};
 ghost use Rattle.fill.specs.Fill.{fill_outcome, fill_of};
 
 use entry::{ENTRY, SCORE};
-use fill::{Filled, Stop};
+use fill::Filled;
 use refusal::Refusal;
 
 // Fills d with the bytes of a file from an offset on: any log, waiting part, entry, offset and buffer.
@@ -15,20 +15,20 @@ pub fn fill<'a>(log: &'a [u8], waiting: &'a [u8], entry: &[u8], offset: u64, d: 
     if !lookup::are_allowed(log.len(), waiting.len()) {
         return Filled {
             count: 0,
-            stop: Stop::Refused(Refusal::LogLength),
+            stop: Err(Refusal::LogLength),
         };
     }
     if !file::is_readable(entry) {
         return Filled {
             count: 0,
-            stop: Stop::Refused(Refusal::Entry),
+            stop: Err(Refusal::Entry),
         };
     }
     let e = entry::entry_at(entry, 0);
     if e.size <= offset {
         return Filled {
             count: 0,
-            stop: Stop::Refused(Refusal::Offset),
+            stop: Err(Refusal::Offset),
         };
     }
     let end = lookup::border(log, waiting);

@@ -12,13 +12,12 @@ pub fn tells_first(index: &[u8], kind: u8, score: &[u8], n: SectorNumber) -> boo
     ensures { result ≡ tells index.now kind score.now n.0 }
 {
     let b = index::bucket_of(index, score);
-    let mut p = b.from;
-    while p < b.to {
+    let to = b.to;
+    for p in b.from..to {
         if index::names(index, p, kind, score) {
             let first = index::sector_at(index, p);
             return first.0 == n.0;
         }
-        p += 1;
     }
     false
 }

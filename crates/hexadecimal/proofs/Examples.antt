@@ -3,7 +3,7 @@ use mathlib.Core.Path.{◌≡◌, refl}
 use mathlib.Core.Bool.{true, false}
 use mathlib.Core.List.{[], ◌∷◌}
 use Rattle.digits.specs.Number.{value_from}
-use Rattle.hexadecimal.specs.declared.Hex.TheVariants.{Value, Bad}
+use Rattle.std.specs.Prelude.{Some, None}
 use Rattle.hexadecimal.specs.Hex.{digit_char, char_digit, hex, read_from, read_hex, hex_bytes, read_bytes, reading, read_hex_bytes}
 
 -- "00c0ffee"
@@ -12,11 +12,11 @@ unfolding hex digit_char
 eight = refl
 
 -- "09af", and "09AF", whose letters are capital
-read : read_hex (48 ∷ 57 ∷ 97 ∷ 102 ∷ []) ≡ Value 0x09af
+read : read_hex (48 ∷ 57 ∷ 97 ∷ 102 ∷ []) ≡ Some 0x09af
 unfolding read_from value_from char_digit
 read = refl
 
-capital : read_hex (48 ∷ 57 ∷ 65 ∷ 70 ∷ []) ≡ Bad
+capital : read_hex (48 ∷ 57 ∷ 65 ∷ 70 ∷ []) ≡ None
 unfolding read_from char_digit
 capital = refl
 

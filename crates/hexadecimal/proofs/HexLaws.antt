@@ -9,7 +9,7 @@ use borrow.Author.Tests.{ltb-true, ltb-false, lt-ltb, le-ltb}
 use lib.ListN.{length, length-append, length-map}
 use Rattle.bedrock.proofs.Choices.{and-true, cond_ind}
 use Rattle.digits.specs.Number.{digits, value_from, Below, below, small}
-use Rattle.hexadecimal.specs.declared.Hex.TheVariants.{Value, Bad}
+use Rattle.std.specs.Prelude.{Some, None}
 use Rattle.hexadecimal.specs.Hex.{digit_char, char_digit, hex, is_hex, hex_value, read_from, read_hex, hex_bytes, read_bytes, reading, read_hex_bytes}
 use Rattle.digits.proofs.NumberLaws.{below_fact, below-append, below-take, below-drop, below-map, length_digits, below-digits, value-digits, digits_value, value_lt}
 use Rattle.hexadecimal.specs.Promises.{ValueOfHex, HexOfValue}
@@ -86,17 +86,17 @@ pub hex_injective : (w n m : ℕ) → n < 16 ^ w → m < 16 ^ w → hex w n ≡ 
 hex_injective w n m h k e = sym (hex_value-hex w n h) ∙ ap hex_value e ∙ hex_value-hex w m k
 
 -- reading succeeds exactly on what writing makes
-pub read_hex-hex : (w n : ℕ) → n < 16 ^ w → read_hex (hex w n) ≡ Value n
+pub read_hex-hex : (w n : ℕ) → n < 16 ^ w → read_hex (hex w n) ≡ Some n
 unfolding read_from
 read_hex-hex w n h = rw (is_hex-hex w n, hex_value-hex w n h)
 
-pub hex-read_hex : (s : List ℕ) (n : ℕ) → read_hex s ≡ Value n → hex (length s) n ≡ s
+pub hex-read_hex : (s : List ℕ) (n : ℕ) → read_hex s ≡ Some n → hex (length s) n ≡ s
 unfolding read_from
 hex-read_hex s n e = go (is_hex s) refl
   where
     go : (t : Bool) → is_hex s ≡ t → hex (length s) n ≡ s
     go true q = let v : hex_value s ≡ n = cc (rw q at e) in ap (hex (length s)) (sym v) ∙ hex-hex_value s q
-    go false q = let f : Bad ≡ Value n = rw q at e in let z : ◌≡◌ {A = ℕ} 0 1 = cc in absurd (omega arith)
+    go false q = let f : None ≡ Some n = rw q at e in let z : ◌≡◌ {A = ℕ} 0 1 = cc in absurd (omega arith)
 
 pub hex_value_lt : (s : List ℕ) → is_hex s ≡ true → hex_value s < 16 ^ length s
 hex_value_lt s e = rw (length-map s char_digit) at (value_lt 16 (map char_digit s) (below_fact 16 (map char_digit s) (omega arith) e))

@@ -1,6 +1,6 @@
 -- One turn of each loop over hex digits, and its end: what is left to do still makes the whole. Assumes nothing.
-use mathlib.Core.Path.{◌≡◌, sym, ap, ap₂, ◌∙◌}
-use mathlib.Core.Bool.{true, false}
+use mathlib.Core.Path.{◌≡◌, refl, sym, ap, ap₂, ◌∙◌}
+use mathlib.Core.Bool.{Bool, true, false, ◌&&◌}
 use mathlib.Core.List.{List, [], ◌∷◌, ◌++◌, append_assoc, append-nil}
 use Prim.Native.Nat.{ℕ, zero, suc, ◌+◌, ◌*◌, ◌/◌, ◌%◌, ◌≤◌, ◌<◌}
 use native.Mathlib.Numerals.{add-one}
@@ -11,7 +11,8 @@ use lib.ListN.{length, get_or, take, drop, set, length-set, drop_of_length-le}
 use lib.Seq.{drop-cons, take-suc-set, take_all, append_snoc}
 use Rattle.bedrock.proofs.Choices.{and-true}
 use Rattle.digits.specs.Number.{value_from}
-use Rattle.hexadecimal.specs.declared.Hex.TheVariants.{Value, Bad}
+use Rattle.std.specs.Prelude.{Some, None}
+use Rattle.std.specs.List.{list_all}
 use Rattle.hexadecimal.specs.Hex.{digit_char, char_digit, hex, is_hex, hex_value, read_from, hex_bytes, read_bytes, reading, read_hex_bytes}
 
 -- ---- hex digits read, one a turn
@@ -20,10 +21,7 @@ module _ (s : List ℕ) (i : ℕ) (h : i < length s) where
   pub hex-bad : 15 < char_digit (get_or s i 0) → is_hex (drop i s) ≡ false
   hex-bad k = rw (drop-cons s i 0, le-ltb (char_digit (get_or s i 0)) 16 k)
 
-  pub hex_turn : char_digit (get_or s i 0) ≤ 15 → is_hex (drop (i + 1) s) ≡ is_hex (drop i s)
-  hex_turn k = rw (add-one, drop-cons s i 0, lt-ltb (char_digit (get_or s i 0)) 16 (omega arith))
-
-  pub read-bad : (a : ℕ) → 15 < char_digit (get_or s i 0) → Bad ≡ read_from a (drop i s)
+  pub read-bad : (a : ℕ) → 15 < char_digit (get_or s i 0) → None ≡ read_from a (drop i s)
   unfolding read_from
   read-bad a k = rw (hex-bad k)
 
@@ -31,9 +29,14 @@ module _ (s : List ℕ) (i : ℕ) (h : i < length s) where
   unfolding read_from value_from
   read_turn a k = rw (add-one, drop-cons s i 0, lt-ltb (char_digit (get_or s i 0)) 16 (omega arith))
 
-pub read-end : (s : List ℕ) (a i : ℕ) → length s ≤ i → Value a ≡ read_from a (drop i s)
+pub read-end : (s : List ℕ) (a i : ℕ) → length s ≤ i → Some a ≡ read_from a (drop i s)
 unfolding read_from value_from
 read-end s a i h = rw drop_of_length-le
+
+-- the test of each character, as one of all
+pub hex-all : (s : List ℕ) → list_all (λ c. ltb (char_digit c) 16) s ≡ is_hex s
+hex-all [] = refl
+hex-all (c ∷ s) = ap (λ (t : Bool). ltb (char_digit c) 16 && t) (hex-all s)
 
 -- all of s are hex digits, so each is
 pub hex-at : (s : List ℕ) (k : ℕ) → is_hex s ≡ true → k < length s → char_digit (get_or s k 0) < 16

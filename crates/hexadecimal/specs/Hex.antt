@@ -1,8 +1,6 @@
 -- Numbers and byte strings in lower-case hexadecimal. Assumes nothing: these are definitions.
-use Rattle.std.specs.Prelude.{Bool, true, false, cond, List, [], ◌∷◌, ◌++◌, map, ℕ, zero, suc, ◌+◌, ◌-◌, ◌/◌, ◌%◌, ltb}
+use Rattle.std.specs.Prelude.{Bool, true, false, cond, Option, Some, None, List, [], ◌∷◌, ◌++◌, map, ℕ, zero, suc, ◌+◌, ◌-◌, ◌/◌, ◌%◌, ltb}
 use Rattle.digits.specs.Number.{value_from, below}
-use Rattle.hexadecimal.specs.declared.Hex.{Hex}
-use Rattle.hexadecimal.specs.declared.Hex.TheVariants.{Value, Bad}
 
 -- the character of a digit: 0 to 9, a to f
 unfoldable pub digit_char : ℕ → ℕ
@@ -29,12 +27,12 @@ hex_from a s = value_from 16 a (map char_digit s)
 abbrev pub hex_value : List ℕ → ℕ
 hex_value s = hex_from 0 s
 
--- the number read from characters after a, refused if one of them is no hex digit
-unfoldable pub read_from : ℕ → List ℕ → Hex
-read_from a s = cond (is_hex s) (Value (hex_from a s)) Bad
+-- the number read from characters after a, none if one of them is no hex digit
+unfoldable pub read_from : ℕ → List ℕ → Option ℕ
+read_from a s = cond (is_hex s) (Some (hex_from a s)) None
 
 -- the number read from characters
-abbrev pub read_hex : List ℕ → Hex
+abbrev pub read_hex : List ℕ → Option ℕ
 read_hex s = read_from 0 s
 
 -- bytes as hex digits, two for each

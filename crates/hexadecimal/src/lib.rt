@@ -4,32 +4,22 @@
 ghost use Rattle.std.specs.Prelude.{◌≡◌, ◌*◌, ◌<◌, ◌≤◌, true, length};
 ghost use Rattle.hexadecimal.specs.Hex.{digit_char, char_digit, hex, is_hex, read_hex, hex_bytes, read_bytes, reading, read_hex_bytes};
 
-#[derive(Clone, Copy)]
-pub enum Hex {
-    Value(u64),
-    Bad,
-}
-
 // The character of a digit.
 fn digit_char(d: u8) -> u8
     requires { d < 16 }
     ensures { result ≡ digit_char d }
 {
-    if d < 10 { 48 + d } else { 87 + d }
+    if d < 10 { b'0' + d } else { b'a' + (d - 10) }
 }
 
 // The digit of a character, and 16 of one that is none.
 fn char_digit(c: u8) -> u8
     ensures { result ≡ char_digit c }
 {
-    if c < 58 {
-        if c < 48 { 16 } else { c - 48 }
-    } else if c < 97 {
-        16
-    } else if c < 103 {
-        c - 87
-    } else {
-        16
+    match c {
+        b'0'..=b'9' => c - b'0',
+        b'a'..=b'f' => c - b'a' + 10,
+        _ => 16,
     }
 }
 
@@ -38,30 +28,26 @@ pub fn put_hex(d: &mut [u8], n: u64)
     ensures { d.new ≡ hex (length d.old) n }
 {
     let mut rest = n;
-    let mut i = d.len();
-    while 0 < i {
-        i -= 1;
+    for i in (0..d.len()).rev() {
         d[i] = digit_char((rest % 16) as u8);
-        rest = rest / 16;
+        rest /= 16;
     }
 }
 
 // The number that at most sixteen hex digits make.
-pub fn read_hex(s: &[u8]) -> Hex
+pub fn read_hex(s: &[u8]) -> Option<u64>
     requires { length s.now ≤ 16 }
     ensures { result ≡ read_hex s.now }
 {
     let mut n: u64 = 0;
-    let mut i: usize = 0;
-    while i < s.len() {
-        let k = char_digit(s[i]);
+    for b in s {
+        let k = char_digit(*b);
         if 15 < k {
-            return Hex::Bad;
+            return None;
         }
-        n = 16 * n + (k as u64);
-        i += 1;
+        n = 16 * n + u64::from(k);
     }
-    Hex::Value(n)
+    Some(n)
 }
 
 // The whole of d becomes the hex digits of the bytes b, two for each.
@@ -69,12 +55,9 @@ pub fn put_hex_bytes(d: &mut [u8], b: &[u8])
     requires { length d.old ≡ 2 * length b.now }
     ensures { d.new ≡ hex_bytes b.now }
 {
-    let mut i: usize = 0;
-    while i < b.len() {
-        let a = b[i];
-        d[2 * i] = digit_char(a / 16);
-        d[2 * i + 1] = digit_char(a % 16);
-        i += 1;
+    for (i, a) in b.iter().enumerate() {
+        d[2 * i] = digit_char(*a / 16);
+        d[2 * i + 1] = digit_char(*a % 16);
     }
 }
 
@@ -82,14 +65,7 @@ pub fn put_hex_bytes(d: &mut [u8], b: &[u8])
 fn is_hex(s: &[u8]) -> bool
     ensures { result ≡ is_hex s.now }
 {
-    let mut i: usize = 0;
-    while i < s.len() {
-        if 15 < char_digit(s[i]) {
-            return false;
-        }
-        i += 1;
-    }
-    true
+    s.iter().all(|b| char_digit(*b) < 16)
 }
 
 // The whole of d becomes the bytes that the hex digits s make, two for each.
@@ -97,10 +73,8 @@ fn fill_bytes(d: &mut [u8], s: &[u8])
     requires { (length s.now ≡ 2 * length d.old) × (is_hex s.now ≡ true) }
     ensures { d.new ≡ read_bytes s.now }
 {
-    let mut i: usize = 0;
-    while i < d.len() {
+    for i in 0..d.len() {
         d[i] = 16 * char_digit(s[2 * i]) + char_digit(s[2 * i + 1]);
-        i += 1;
     }
 }
 

@@ -11,7 +11,7 @@ use borrow.Author.Tests.{lt-ltb, ltb-true, ltb-false}
 use lib.ListN.{length, get_or, length-append, get_or-append}
 use Rattle.bedrock.specs.Choice.{on}
 use Rattle.bedrock.proofs.Choices.{false_unless}
-use Rattle.word.specs.Number.{be_bytes}
+use Rattle.digits.specs.Number.{be_bytes}
 use Rattle.buffer.specs.Bytes.{Bytes, same, zeros}
 use Rattle.buffer.proofs.Bytes.{zeros_get_d}
 use Rattle.block.specs.Block.{Row, valid}

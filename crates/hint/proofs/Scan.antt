@@ -12,12 +12,13 @@ use Rattle.kind.specs.Kind.{lawful, zero_score}
 use Rattle.block.specs.Block.{Row, place_of}
 use Rattle.block.specs.Log.{sound}
 use Rattle.sector_log.specs.LookUp.{blocks, first_of, empty_row, held, absence, look_up, look_number, look_sector}
-use Rattle.sector_log.specs.declared.Look.{Look}
-use Rattle.sector_log.specs.declared.Look.TheVariants.{Found, Refused}
 use Rattle.sector_log.proofs.First.{first-sound}
 use Rattle.hint.specs.Hint.{hint, held_by, look_up_by}
 use Rattle.hint.specs.Promises.{bytes_of, HintIsScan, OneBlockIsTheScans, RefusesAlike, HintHolds, ExactIsScan}
 use Rattle.hint.proofs.Leads.{hint-sound, hint_finds}
+use Rattle.std.specs.Prelude.{Ok, Err, Result}
+use Rattle.block.specs.declared.Block.{Block}
+use Rattle.refusal.specs.declared.Refusal.{Refusal}
 
 -- what is seen of a look-up by index is what is seen of the scan, if that is so of any hint
 module _ {A : Type 0} (see : Option Row → A) (log index : Bytes) (t : ℕ) (s : Bytes) where
@@ -50,8 +51,8 @@ one-block-is_the_scans log index t s one = seen (λ o. o) log index t s
     let b = first-sound log t s x q in
     same_row log r x a.0 b.0 (one r x a.0 b.0 (a.1, a.2) (b.1, b.2)))
 
-look : Bytes → Option Row → Look
-look log o = on o (Refused (absence log)) (λ (r : Row). Found (place_of r))
+look : Bytes → Option Row → Result Block Refusal
+look log o = on o (Err (absence log)) (λ (r : Row). Ok (place_of r))
 
 pub refuses_alike : RefusesAlike
 unfolding look_up_by look_up look

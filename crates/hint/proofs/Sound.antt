@@ -12,8 +12,8 @@ use lib.ListN.{length, get_or, take, drop}
 use lib.Seq.{take_at, drop_at, get_or-take, get_or_at}
 use Rattle.bedrock.specs.Choice.{on}
 use Rattle.bedrock.proofs.Choices.{and-true, some_same, cond_or_none, cond-of-none}
-use Rattle.word.specs.Number.{be_bytes, be_number}
-use Rattle.word.proofs.NumberLaws.{value-digits}
+use Rattle.digits.specs.Number.{be_bytes, be_number}
+use Rattle.digits.proofs.NumberLaws.{value-digits}
 use Rattle.buffer.specs.Bytes.{Bytes, same}
 use Rattle.buffer.proofs.Bytes.{same_refl, same_true, zeros_get_d}
 use Rattle.sha1_digest.proofs.Digest.{digest_bytes}

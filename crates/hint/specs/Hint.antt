@@ -1,5 +1,5 @@
 -- Look-up by index: "an index entry is a hint, checked against the log". For any bytes in the index and any log.
-use Rattle.std.specs.Prelude.{cond, ◌&&◌, ℕ, zero, suc, ◌-◌, eqb, length, take}
+use Rattle.std.specs.Prelude.{cond, ◌&&◌, ℕ, zero, suc, ◌-◌, eqb, length, take, Ok, Err, Result}
 use Rattle.std.proofs.Math.Option.{Option, none, some}
 use Rattle.bedrock.specs.Choice.{on}
 use Rattle.buffer.specs.Bytes.{Bytes, same}
@@ -9,9 +9,9 @@ use Rattle.block.specs.Block.{Row, place_of}
 use Rattle.block.specs.Log.{sound}
 use Rattle.sector_log.specs.Parts.{tape}
 use Rattle.sector_log.specs.LookUp.{blocks, first_of, empty_row, absence, lent_allowed}
-use Rattle.sector_log.specs.declared.Look.{Look}
-use Rattle.sector_log.specs.declared.Look.TheVariants.{Found, Refused}
 use Rattle.index.specs.Index.{named, place_at, sector_at, bucket_of}
+use Rattle.block.specs.declared.Block.{Block}
+use Rattle.refusal.specs.declared.Refusal.{Refusal}
 
 -- the sound block that starts at sector n, if it has this type and score
 unfoldable pub sound_with : Bytes → ℕ → ℕ → Bytes → Option Row
@@ -35,10 +35,10 @@ unfoldable pub held_by : Bytes → Bytes → ℕ → Bytes → Option Row
 held_by log index t s = cond (lawful t && same s zero_score) (some (empty_row t)) (on (hint log index t s) (first_of t s (blocks log)) some)
 
 -- "Look-up by index also tells where the stored block it found starts"; a block that isn't found is refused as by the scan
-unfoldable pub look_up_by : Bytes → Bytes → ℕ → Bytes → Look
-look_up_by log index t s = on (held_by log index t s) (Refused (absence log)) (λ r. Found (place_of r))
+unfoldable pub look_up_by : Bytes → Bytes → ℕ → Bytes → Result Block Refusal
+look_up_by log index t s = on (held_by log index t s) (Err (absence log)) (λ r. Ok (place_of r))
 
 -- look-up by index asked outside messages: tests 3 and 9, as for the scan
-unfoldable pub look_up_by_asked : Bytes → Bytes → Bytes → ℕ → Bytes → Look
+unfoldable pub look_up_by_asked : Bytes → Bytes → Bytes → ℕ → Bytes → Result Block Refusal
 look_up_by_asked log waiting index t s =
-    cond (lent_allowed (length log) (length waiting)) (cond (lawful t) (look_up_by (tape log waiting) index t s) (Refused BlockType)) (Refused LogLength)
+    cond (lent_allowed (length log) (length waiting)) (cond (lawful t) (look_up_by (tape log waiting) index t s) (Err BlockType)) (Err LogLength)

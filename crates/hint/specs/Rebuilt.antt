@@ -1,13 +1,12 @@
 -- "Rebuilding it from the log alone clears the buckets and enters each sound block in log order"
-use Rattle.std.specs.Prelude.{cond, List, [], ◌∷◌, ℕ, length}
+use Rattle.std.specs.Prelude.{cond, List, [], ◌∷◌, ℕ, length, Ok, Err, Result, ⊤}
 use Rattle.buffer.specs.Bytes.{Bytes}
 use Rattle.refusal.specs.Number.{number_of}
 use Rattle.refusal.specs.declared.Refusal.TheVariants.{LogLength}
 use Rattle.block.specs.Block.{Row}
 use Rattle.sector_log.specs.LookUp.{blocks, log_allowed}
 use Rattle.index.specs.Index.{entered, cleared}
-use Rattle.hint.specs.declared.Rebuilding.{Rebuilding}
-use Rattle.hint.specs.declared.Rebuilding.TheVariants.{Done, Refused}
+use Rattle.refusal.specs.declared.Refusal.{Refusal}
 
 -- a row entered: its score, type, and the sector where it starts
 abbrev pub entered_row : Bytes → Row → Bytes
@@ -23,17 +22,17 @@ rebuilt log index = entered_all (cleared index) (blocks log)
 
 -- rebuilding's answer, and what the index then holds
 pub record AfterRebuild : Type 0 where
-  pub answer : Rebuilding
+  pub answer : Result ⊤ Refusal
   pub index : Bytes
 
-abbrev pub after_rebuild : Rebuilding → Bytes → AfterRebuild
+abbrev pub after_rebuild : Result ⊤ Refusal → Bytes → AfterRebuild
 after_rebuild answer index = record { answer = answer; index = index }
 
 -- its number: 0, or its refusal's
-abbrev pub rebuilding_number : Rebuilding → ℕ
-rebuilding_number Done = 0
-rebuilding_number (Refused w) = number_of w
+abbrev pub rebuilding_number : Result ⊤ Refusal → ℕ
+rebuilding_number (Ok tt) = 0
+rebuilding_number (Err w) = number_of w
 
 -- test 3, and then nothing is changed
 unfoldable pub rebuilt_asked : Bytes → Bytes → AfterRebuild
-rebuilt_asked log index = cond (log_allowed (length log)) (after_rebuild Done (rebuilt log index)) (after_rebuild (Refused LogLength) index)
+rebuilt_asked log index = cond (log_allowed (length log)) (after_rebuild (Ok tt) (rebuilt log index)) (after_rebuild (Err LogLength) index)

@@ -2,10 +2,3 @@
 #![tactic(auto)]
 
 use refusal::Refusal;
-
-// What rebuilding the index answers.
-#[derive(Clone, Copy)]
-pub enum Rebuilding {
-    Done,
-    Refused(Refusal),
-}

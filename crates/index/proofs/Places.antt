@@ -12,8 +12,8 @@ use lib.Seq.{take_at, drop_at, drop-append-le, take-append-le, drop-drop, length
 use Rattle.buffer.specs.Bytes.{Bytes, put}
 use Rattle.buffer.proofs.Parts.{part_within}
 use Rattle.buffer.proofs.Put.{drop-put}
-use Rattle.word.specs.Number.{be_bytes}
-use Rattle.word.proofs.NumberLaws.{length_digits}
+use Rattle.digits.specs.Number.{be_bytes}
+use Rattle.digits.proofs.NumberLaws.{length_digits}
 use Rattle.index.specs.Index.{place_at, named, entry_bytes}
 
 pub length-named : (score : Bytes) (kind : ℕ) → length score ≡ 20 → length (named score kind) ≡ 21

@@ -10,7 +10,7 @@ use lib.Seq.{take-suc, take-take, take_at, get_or_at, get_or-drop, drop-drop}
 use Rattle.buffer.specs.Bytes.{Bytes, same}
 use Rattle.buffer.proofs.Bytes.{same_refl, same_true, same_false}
 use Rattle.buffer.proofs.Parts.{part_size, drop-take}
-use Rattle.word.specs.Number.{be_number}
+use Rattle.digits.specs.Number.{be_number}
 use Rattle.index.specs.Index.{place_at, named, sector_at}
 
 module _ (index : Bytes) (p : ℕ) (h : 25 * p + 25 ≤ length index) where

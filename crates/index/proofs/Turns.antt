@@ -10,8 +10,8 @@ use borrow.Author.Tests.{lt-ltb, le-ltb}
 use lib.ListN.{length, take, drop, set, replicate, length-take, length-drop}
 use Rattle.buffer.specs.Bytes.{Bytes, zeros, put}
 use Rattle.buffer.proofs.Put.{length-put, put_next, put_mid_lem, put_one, put_whole}
-use Rattle.word.specs.Number.{be_bytes}
-use Rattle.word.proofs.NumberLaws.{length_digits}
+use Rattle.digits.specs.Number.{be_bytes}
+use Rattle.digits.proofs.NumberLaws.{length_digits}
 use Rattle.index.specs.declared.Bucket.{Bucket}
 use Rattle.index.specs.Index.{bucket_of, place_at, named, entry_bytes, free, first_free, free_place, entered, cleared}
 use Rattle.index.proofs.Places.{length-named, length-entry}

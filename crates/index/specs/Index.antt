@@ -1,6 +1,6 @@
 -- The index: a lent buffer of any length, in buckets of places for entries. Assumes nothing: these are definitions.
 use Rattle.std.specs.Prelude.{Bool, cond, [], ◌∷◌, ◌++◌, ℕ, zero, suc, ◌+◌, ◌-◌, ◌*◌, ◌/◌, ltb, length, get_or, take, drop, replicate}
-use Rattle.word.specs.Number.{be_bytes, be_number}
+use Rattle.digits.specs.Number.{be_bytes, be_number}
 use Rattle.buffer.specs.Bytes.{Bytes, zeros, put}
 use Rattle.index.specs.declared.Bucket.{Bucket}
 

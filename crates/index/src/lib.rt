@@ -52,7 +52,7 @@ pub fn sector_at(index: &[u8], p: usize) -> SectorNumber
 {
     let from = ENTRY * p + 21;
     let to = from + 4;
-    SectorNumber(word::number::be_number(&index[from..to]) as usize)
+    SectorNumber(digits::be_number(&index[from..to]) as usize)
 }
 
 // The first free place from place `from` on, and `to` if none before it is.
@@ -60,16 +60,14 @@ fn first_free(index: &[u8], from: usize, to: usize) -> usize
     requires { (from ≤ to) × (25 * to ≤ length index.now) }
     ensures { result ≡ first_free index.now (to - from) from }
 {
-    let mut p = from;
-    while p < to {
+    for p in from..to {
         let at = ENTRY * p;
         let end = at + ENTRY;
         if buffer::is_zero(&index[at..end]) {
             return p;
         }
-        p += 1;
     }
-    p
+    to
 }
 
 // The whole of a place becomes an entry.
@@ -79,7 +77,7 @@ fn write_entry(place: &mut [u8], score: &[u8], kind: u8, first: SectorNumber)
 {
     buffer::copy_at(place, 0, score);
     place[20] = kind;
-    word::number::put_be(&mut place[21..25], first.0 as u64);
+    digits::put_be(&mut place[21..25], first.0 as u64);
 }
 
 // Enters a block into the first free place of its bucket; without one the index stays as it is.

@@ -4,22 +4,22 @@
 ghost use Rattle.std.specs.Prelude.{◌≡◌};
 ghost use Rattle.hint.specs.Hint.{look_up_by_asked};
 ghost use Rattle.hint.specs.Rebuilt.{rebuilding_number, rebuilt_asked};
-ghost use Rattle.results.specs.Hints.{SmallLook, look_result, rebuilt_index, rebuild_result};
+ghost use Rattle.index_calls.specs.Hints.{SmallLook, look_result, rebuilt_index, rebuild_result};
 
-use hint::Rebuilding;
-use sector_log::Look;
+use block::Block;
+use refusal::Refusal;
 
 // What stands above a length, which takes 16 bits, is so many times itself.
 pub const ABOVE_LENGTH: u64 = 65536;
 
 // A look-up in one number: the size of the block above the number, its first sector above both; a refusal tells its sector there.
-fn look_result(look: Look) -> u64
+fn look_result(look: Result<Block, Refusal>) -> u64
     requires { SmallLook look }
     ensures { result ≡ look_result look }
 {
     match look {
-        Look::Found(b) => 256 * (b.size as u64 + ABOVE_LENGTH * (b.first.0 as u64)),
-        Look::Refused(why) => {
+        Ok(b) => 256 * (b.size as u64 + ABOVE_LENGTH * (b.first.0 as u64)),
+        Err(why) => {
             refusal::number(why) as u64 + 256 * (ABOVE_LENGTH * (refusal::told_sector(why) as u64))
         }
     }
@@ -40,12 +40,12 @@ pub fn look_up_by<'a>(
 }
 
 // The number of a rebuilding: 0 where it is done.
-fn rebuilding_number(answer: Rebuilding) -> u32
+fn rebuilding_number(answer: Result<(), Refusal>) -> u32
     ensures { result ≡ rebuilding_number answer }
 {
     match answer {
-        Rebuilding::Done => 0,
-        Rebuilding::Refused(why) => refusal::number(why) as u32,
+        Ok(()) => 0,
+        Err(why) => refusal::number(why) as u32,
     }
 }
 

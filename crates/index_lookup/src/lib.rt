@@ -7,10 +7,9 @@ ghost use Rattle.sector_log.specs.LookUp.{counted};
 ghost use Rattle.reader.specs.Reader.{placed};
 ghost use Rattle.hint.specs.Hint.{true_at, hint, held_by, look_up_by, look_up_by_asked};
 
-use reader::Place;
+use block::Block;
 use refusal::Refusal;
 use sector::SECTOR;
-use sector_log::Look;
 use sector_number::SectorNumber;
 
 // The block that the entry at a place is true of: it names the score and type, and such a block starts at its sector.
@@ -22,16 +21,16 @@ fn true_at<'a>(
     p: usize,
     kind: u8,
     score: &[u8],
-) -> Place
+) -> Option<Block>
     requires { (end.0 ≤ sectors (length log.now)) × (25 * p + 25 ≤ length index.now) × (length score.now ≡ 20) }
     ensures { result ≡ placed (true_at (joined end.0 log.now waiting.now) index.now kind score.now p) }
 {
     if !index::names(index, p, kind, score) {
-        return Place::Nowhere;
+        return None;
     }
     let first = index::sector_at(index, p);
     if end.0 + waiting.len() / SECTOR <= first.0 {
-        return Place::Nowhere;
+        return None;
     }
     reader::sound_as(log, end, waiting, first, kind, score)
 }
@@ -44,20 +43,19 @@ pub fn find_hint<'a>(
     index: &[u8],
     kind: u8,
     score: &[u8],
-) -> Place
+) -> Option<Block>
     requires { (end.0 ≤ sectors (length log.now)) × (length score.now ≡ 20) }
     ensures { result ≡ placed (hint (joined end.0 log.now waiting.now) index.now kind score.now) }
 {
     let b = index::bucket_of(index, score);
-    let mut p = b.from;
-    while p < b.to {
+    let to = b.to;
+    for p in b.from..to {
         let place = true_at(log, end, waiting, index, p, kind, score);
-        let Place::Nowhere = place else {
-            return place;
-        };
-        p += 1;
+        if let Some(b) = place {
+            return Some(b);
+        }
     }
-    Place::Nowhere
+    None
 }
 
 // What look-up by index finds: the empty block for the zero score, else the hint's, else the scan's.
@@ -68,7 +66,7 @@ fn find_held_by<'a>(
     index: &[u8],
     kind: u8,
     score: &[u8],
-) -> Place
+) -> Option<Block>
     requires { (end.0 ≤ sectors (length log.now)) × (length score.now ≡ 20) }
     ensures { result ≡ placed (held_by (joined end.0 log.now waiting.now) index.now kind score.now) }
 {
@@ -78,9 +76,9 @@ fn find_held_by<'a>(
         }
     }
     let place = find_hint(log, end, waiting, index, kind, score);
-    let Place::Nowhere = place else {
-        return place;
-    };
+    if let Some(b) = place {
+        return Some(b);
+    }
     lookup::find_held(log, end, waiting, kind, score)
 }
 
@@ -92,15 +90,15 @@ pub fn look_up_by<'a>(
     index: &[u8],
     kind: u8,
     score: &[u8],
-) -> Look
+) -> Result<Block, Refusal>
     requires { (end.0 ≤ sectors (length log.now)) × (length score.now ≡ 20) }
     ensures { result ≡ look_up_by (joined end.0 log.now waiting.now) index.now kind score.now }
 {
     let place = find_held_by(log, end, waiting, index, kind, score);
-    let Place::At(b) = place else {
-        return Look::Refused(lookup::why_absent(log, end, waiting));
+    let Some(b) = place else {
+        return Err(lookup::why_absent(log, end, waiting));
     };
-    Look::Found(b)
+    Ok(b)
 }
 
 // Look-up by index for a read: also refused if the block is longer than count.
@@ -112,18 +110,15 @@ pub fn fetch_by<'a>(
     kind: u8,
     score: &[u8],
     count: usize,
-) -> Look
+) -> Result<Block, Refusal>
     requires { (end.0 ≤ sectors (length log.now)) × (length score.now ≡ 20) }
     ensures { result ≡ counted count (look_up_by (joined end.0 log.now waiting.now) index.now kind score.now) }
 {
-    let look = look_up_by(log, end, waiting, index, kind, score);
-    let Look::Found(b) = look else {
-        return look;
-    };
+    let b = look_up_by(log, end, waiting, index, kind, score)?;
     if count < b.size {
-        return Look::Refused(Refusal::OverCount);
+        return Err(Refusal::OverCount);
     }
-    Look::Found(b)
+    Ok(b)
 }
 
 // The public look-up by index: any log, waiting part, index, type and score.
@@ -133,14 +128,14 @@ pub fn ask_by<'a>(
     index: &[u8],
     kind: u8,
     score: &[u8; 20],
-) -> Look
+) -> Result<Block, Refusal>
     ensures { result ≡ look_up_by_asked log.now waiting.now index.now kind score.now }
 {
     if !lookup::are_allowed(log.len(), waiting.len()) {
-        return Look::Refused(Refusal::LogLength);
+        return Err(Refusal::LogLength);
     }
     if !kind::is_lawful(kind) {
-        return Look::Refused(Refusal::BlockType);
+        return Err(Refusal::BlockType);
     }
     let end = lookup::border(log, waiting);
     look_up_by(log, end, waiting, index, kind, score)

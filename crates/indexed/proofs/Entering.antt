@@ -17,7 +17,7 @@ use Rattle.kind.specs.Kind.{lawful, longest}
 use Rattle.sector_log.specs.Parts.{Lent}
 use Rattle.sector_log.specs.Store.{store}
 use Rattle.sector_log.specs.declared.Stored.{Stored}
-use Rattle.sector_log.specs.declared.Stored.TheVariants.{New, Duplicate, Refused}
+use Rattle.sector_log.specs.declared.Stored.TheVariants.{New, Duplicate}
 use Rattle.sector_log.proofs.Receipts.{store-score}
 use Rattle.index.specs.Index.{entered, left_over}
 use Rattle.index.proofs.Entered.{entered-keeps}
@@ -29,6 +29,8 @@ use Rattle.request.specs.declared.Session.TheVariants.{Greeted}
 use Rattle.indexed.specs.Indexed.{read_by, entered_by, index_after, write_by, greeted_by, in_session_by, step_by}
 use Rattle.indexed.specs.Promises.{Stores, EntersWhatItStores, OnlyAStoreEnters}
 use Rattle.indexed.proofs.Ways.{step_ways}
+use Rattle.std.specs.Prelude.{Ok, Err, Result}
+use Rattle.refusal.specs.declared.Refusal.{Refusal}
 
 pub enters_what_it_stores : EntersWhatItStores
 unfolding step_by in_session_by greeted_by write_by index_after
@@ -45,13 +47,13 @@ module _ (m : Bytes) (date : Option Bytes) (index : Bytes) (L : Lent) (buffer : 
   same_index : (s : Session) (number : ℕ) → Kept s number index
   same_index s number = (refl, refl, inl refl)
 
-  by_store : (kind : ℕ) → request_of m ≡ Write kind → (w : Stored) → (store L (date_of date) kind (data_of m)).receipt.stored ≡ w → (score : Bytes) (K : Lent)
+  by_store : (kind : ℕ) → request_of m ≡ Write kind → (w : Result Stored Refusal) → (store L (date_of date) kind (data_of m)).receipt.stored ≡ w → (score : Bytes) (K : Lent)
       → Kept Greeted (written w (tag_of m) score K buffer).number (entered_by w (sha1_of (data_of m)) kind index)
-  by_store kind e (New at) q score K =
+  by_store kind e (Ok (New at)) q score K =
       let k = entered-keeps index (sha1_of (data_of m)) kind at.0 (digest_length (data_of m)) (digest_bytes (data_of m) 0) in
       (k.0, k.1, inr (refl, refl, (kind, at, (e, q), refl)))
-  by_store kind e (Duplicate at) q score K = same_index Greeted 0
-  by_store kind e (Refused w) q score K = same_index Greeted (number_of w)
+  by_store kind e (Ok (Duplicate at)) q score K = same_index Greeted 0
+  by_store kind e (Err w) q score K = same_index Greeted (number_of w)
 
   by_write : (kind : ℕ) → request_of m ≡ Write kind
       → Kept Greeted (write (date_of date) kind (tag_of m) (data_of m) L buffer).number (index_after (date_of date) kind (data_of m) index L)

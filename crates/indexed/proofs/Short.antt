@@ -13,19 +13,21 @@ use Rattle.block.specs.Block.{Row}
 use Rattle.sector_log.specs.Parts.{Lent, one_log}
 use Rattle.sector_log.specs.Store.{store}
 use Rattle.sector_log.specs.declared.Stored.{Stored}
-use Rattle.sector_log.specs.declared.Stored.TheVariants.{New, Duplicate, Refused}
+use Rattle.sector_log.specs.declared.Stored.TheVariants.{New, Duplicate}
 use Rattle.hint.proofs.Short.{held_by_none, nothing-entered}
 use Rattle.request.specs.Step.{refused, read_of, date_of, read, write}
 use Rattle.request.specs.declared.Session.TheVariants.{Greeted}
 use Rattle.indexed.specs.Indexed.{keeping, read_by, entered_by, index_after, write_by}
 use Rattle.indexed.specs.Promises.{EmptyIsScan}
 use Rattle.indexed.proofs.Ways.{step_ways}
+use Rattle.std.specs.Prelude.{Ok, Err, Result}
+use Rattle.refusal.specs.declared.Refusal.{Refusal}
 
 module _ (index : Bytes) (h : length index < 6400) where
-  none-entered : (w : Stored) (score : Bytes) (kind : ℕ) → entered_by w score kind index ≡ index
-  none-entered (New at) score kind = nothing-entered index h score kind at.0
-  none-entered (Duplicate at) score kind = refl
-  none-entered (Refused w) score kind = refl
+  none-entered : (w : Result Stored Refusal) (score : Bytes) (kind : ℕ) → entered_by w score kind index ≡ index
+  none-entered (Ok (New at)) score kind = nothing-entered index h score kind at.0
+  none-entered (Ok (Duplicate at)) score kind = refl
+  none-entered (Err w) score kind = refl
 
   none_after : (date : Bytes) (kind : ℕ) (d : Bytes) (L : Lent) → index_after date kind d index L ≡ index
   unfolding index_after

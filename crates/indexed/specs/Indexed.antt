@@ -1,5 +1,5 @@
 -- One request that is lent an index beside the log: its outcome, and what the index then holds. For any bytes in the index.
-use Rattle.std.specs.Prelude.{cond, not, ℕ, ltb, length}
+use Rattle.std.specs.Prelude.{cond, not, ℕ, ltb, length, Ok, Err, Result}
 use Rattle.std.proofs.Math.Option.{Option}
 use Rattle.buffer.specs.Bytes.{Bytes}
 use Rattle.refusal.specs.declared.Refusal.TheVariants.{Frame, Buffer, LogLength, BlockType, Date}
@@ -10,13 +10,14 @@ use Rattle.kind.specs.Kind.{lawful, longest}
 use Rattle.sector_log.specs.Parts.{Lent, one_log}
 use Rattle.sector_log.specs.Store.{store}
 use Rattle.sector_log.specs.declared.Stored.{Stored}
-use Rattle.sector_log.specs.declared.Stored.TheVariants.{New, Duplicate, Refused}
+use Rattle.sector_log.specs.declared.Stored.TheVariants.{New, Duplicate}
 use Rattle.index.specs.Index.{entered}
 use Rattle.hint.specs.Hint.{held_by}
 use Rattle.request.specs.Step.{Outcome, outcome_of, silent, refused, reply_room, allowed, read_of, date_allowed, date_of, write, greeted, in_session}
 use Rattle.request.specs.declared.Answer.{Answer}
 use Rattle.request.specs.declared.Session.{Session}
 use Rattle.request.specs.declared.Session.TheVariants.{Fresh, Greeted, Closed as Shut}
+use Rattle.refusal.specs.declared.Refusal.{Refusal}
 
 -- the whole outcome of a request that is lent an index
 pub record Indexed : Type 0 where
@@ -37,10 +38,10 @@ read_by kind count tag score index L buffer =
     keeping index (cond (not (lawful kind)) (refused BlockType tag Greeted L buffer) (read_of (held_by (one_log L) index kind score) count tag L buffer))
 
 -- "also enters the block it stores": at the sector where the store put it. A duplicate stores nothing, nor does a refusal
-abbrev pub entered_by : Stored → Bytes → ℕ → Bytes → Bytes
-entered_by (New at) score kind index = entered index score kind at.0
-entered_by (Duplicate at) score kind index = index
-entered_by (Refused w) score kind index = index
+abbrev pub entered_by : Result Stored Refusal → Bytes → ℕ → Bytes → Bytes
+entered_by (Ok (New at)) score kind index = entered index score kind at.0
+entered_by (Ok (Duplicate at)) score kind index = index
+entered_by (Err w) score kind index = index
 
 -- the index after a write: after tests 9 and 10, by what the store did
 unfoldable pub index_after : Bytes → ℕ → Bytes → Bytes → Lent → Bytes

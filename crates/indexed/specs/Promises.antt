@@ -1,5 +1,5 @@
 -- What is promised of a request that is lent an index.
-use Rattle.std.specs.Prelude.{◌≡◌, true, ◌⊎◌, ◌≢◌, ℕ, ◌≤◌, ◌<◌, length}
+use Rattle.std.specs.Prelude.{◌≡◌, true, ◌⊎◌, ◌≢◌, ℕ, ◌≤◌, ◌<◌, length, Ok}
 use Rattle.std.proofs.Math.Option.{Option}
 use Rattle.sector_number.specs.declared.SectorNumber.{SectorNumber}
 use Rattle.buffer.specs.Bytes.{Bytes}
@@ -45,7 +45,7 @@ EmptyIsScan = (s : Session) (m : Bytes) (date : Option Bytes) (index : Bytes) (L
 
 -- the request stores a block of this type at this sector
 abbrev pub Stores : Bytes → Option Bytes → Lent → ℕ → SectorNumber → Type 0
-Stores m date L kind at = (request_of m ≡ Write kind) × ((store L (date_of date) kind (data_of m)).receipt.stored ≡ New at)
+Stores m date L kind at = (request_of m ≡ Write kind) × ((store L (date_of date) kind (data_of m)).receipt.stored ≡ Ok (New at))
 
 -- a write that passes its tests "also enters the block it stores", by its score and type, at the sector where it starts
 abbrev pub EntersWhatItStores : Type 0

@@ -13,27 +13,28 @@ use Rattle.block.specs.Log.{sectors, used}
 use Rattle.sector_log.specs.Parts.{written_from, beside}
 use Rattle.sector_log.specs.Store.{after_store, receipt, parts_for, appended}
 use Rattle.sector_log.specs.Behind.{room_behind, appended_behind}
-use Rattle.sector_log.specs.declared.Stored.TheVariants.{New, Refused}
+use Rattle.sector_log.specs.declared.Stored.TheVariants.{New}
 use Rattle.sector_log.proofs.Room.{room-behind, lacks_behind-log, lacks_behind-waiting, appended-behind}
+use Rattle.std.specs.Prelude.{Ok, Err}
 
 module _ (u n : ℕ) (log w date : Bytes) (t : ℕ) (d : Bytes) where
   refused : room_behind u n (length log) (length w) (parts_for date d) ≡ false
-      → after_store (receipt (sha1_of d) (Refused NoRoom)) (beside log w) ≡ appended_behind u n log w date t d
+      → after_store (receipt (sha1_of d) (Err NoRoom)) (beside log w) ≡ appended_behind u n log w date t d
   refused h = rw h
 
-  pub lacks_in_waiting : sectors (length w) < n + parts_for date d → after_store (receipt (sha1_of d) (Refused NoRoom)) (beside log w) ≡ appended_behind u n log w date t d
+  pub lacks_in_waiting : sectors (length w) < n + parts_for date d → after_store (receipt (sha1_of d) (Err NoRoom)) (beside log w) ≡ appended_behind u n log w date t d
   lacks_in_waiting h = refused (lacks_behind-waiting u n (length log) (length w) (parts_for date d) h)
 
-  pub lacks_in_log : sectors (length log) < u + n + parts_for date d → after_store (receipt (sha1_of d) (Refused NoRoom)) (beside log w) ≡ appended_behind u n log w date t d
+  pub lacks_in_log : sectors (length log) < u + n + parts_for date d → after_store (receipt (sha1_of d) (Err NoRoom)) (beside log w) ≡ appended_behind u n log w date t d
   lacks_in_log h = refused (lacks_behind-log u n (length log) (length w) (parts_for date d) h)
 
   pub has_room_lem : (s w' : Bytes) → s ≡ sha1_of d → u + n + parts_for date d ≤ sectors (length log) → n + parts_for date d ≤ sectors (length w)
       → w' ≡ written_from u w (record { kind = t; score = s; bytes = d; first = u + n; date = date })
-      → after_store (receipt (sha1_of d) (New (record { 0 = u + n }))) (beside log w') ≡ appended_behind u n log w date t d
+      → after_store (receipt (sha1_of d) (Ok (New (record { 0 = u + n })))) (beside log w') ≡ appended_behind u n log w date t d
   has_room_lem s w' f a b p =
       let q : w' ≡ written_from u w (record { kind = t; score = sha1_of d; bytes = d; first = u + n; date = date }) =
       p ∙ (λ i. written_from u w (record { kind = t; score = f i; bytes = d; first = u + n; date = date })) in
-      rw (room-behind u n (length log) (length w) (parts_for date d) a b) (ap (λ (x : Bytes). after_store (receipt (sha1_of d) (New (record { 0 = u + n }))) (beside log x)) q)
+      rw (room-behind u n (length log) (length w) (parts_for date d) a b) (ap (λ (x : Bytes). after_store (receipt (sha1_of d) (Ok (New (record { 0 = u + n })))) (beside log x)) q)
 
   -- behind the used sectors of both parts
   pub behind-used : used log ≡ u → n ≡ used w → appended_behind u n log w date t d ≡ appended (beside log w) date t d

@@ -26,7 +26,7 @@ pub fn append_behind(
     kind: u8,
     score: &[u8; 20],
     data: &[u8],
-) -> Stored
+) -> Result<Stored, Refusal>
     requires { (length «data».now ≤ longest) × (length date.now ≡ 8) × (score.now ≡ sha1_of «data».now) × (from.0 < addressable)
         × (waits.0 ≤ sectors (length waiting.old)) }
     ensures { (log : Bytes) → sectors (length log) ≡ most → after_store (receipt (sha1_of «data».now) result) (beside log waiting.new)
@@ -34,14 +34,14 @@ pub fn append_behind(
 {
     let count = block::parts_of(FRONT + LABEL, data.len());
     if waiting.len() / SECTOR < waits.0 + count {
-        return Stored::Refused(Refusal::NoRoom);
+        return Err(Refusal::NoRoom);
     }
     let first = from.0 + waits.0;
     if most < first + count {
-        return Stored::Refused(Refusal::NoRoom);
+        return Err(Refusal::NoRoom);
     }
     append::append_block(waiting, from, SectorNumber(first), date, kind, score, data);
-    Stored::New(SectorNumber(first))
+    Ok(Stored::New(SectorNumber(first)))
 }
 
 // Appends it behind the used sectors of the waiting part.
@@ -53,7 +53,7 @@ pub fn append_new(
     kind: u8,
     score: &[u8; 20],
     data: &[u8],
-) -> Stored
+) -> Result<Stored, Refusal>
     requires { (length «data».now ≤ longest) × (length date.now ≡ 8) × (score.now ≡ sha1_of «data».now) × (from.0 < addressable) }
     ensures { (log : Bytes) → sectors (length log) ≡ most → used_of log
         ≡ from.0 → after_store (receipt (sha1_of «data».now) result) (beside log waiting.new)

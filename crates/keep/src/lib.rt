@@ -13,18 +13,19 @@ ghost use Rattle.copying.specs.Copy.{copied, store_end, stored_in, kept};
 
 use block::Block;
 use kind::LONGEST;
+use refusal::Refusal;
 use sector_log::Stored;
 use sector_number::SectorNumber;
-use visit::{End, Walked};
+use visit::Walked;
 
 // How a copy goes on behind a store in the second log.
-fn end_of(stored: Stored) -> End
+fn end_of(stored: Result<Stored, Refusal>) -> Result<(), Refusal>
     ensures { result ≡ store_end stored }
 {
     match stored {
-        Stored::New(_) => End::Done,
-        Stored::Duplicate(_) => End::Done,
-        Stored::Refused(why) => End::Refused(why),
+        Ok(Stored::New(_)) => Ok(()),
+        Ok(Stored::Duplicate(_)) => Ok(()),
+        Err(why) => Err(why),
     }
 }
 
@@ -37,7 +38,7 @@ fn store_block<'a>(
     date: &[u8],
     kind: u8,
     b: Block,
-) -> End
+) -> Result<(), Refusal>
     requires { (end.0 ≤ sectors (length log.now)) × Inside (end.0 + sectors (length waiting.now)) b × (b.size ≤ longest) × (length date.now ≡ 8) }
     ensures { (n : ℕ) → copied (walked n result) second.new
         ≡ stored_in n (store_of (alone second.old) date.now kind (bytes_of (joined end.0 log.now waiting.now) b)) }
@@ -67,7 +68,7 @@ pub fn keep<'a>(
 {
     let ended = below.end;
     let visits = below.visits + 1;
-    let End::Done = ended else {
+    let Ok(()) = ended else {
         return Walked {
             visits: visits,
             end: ended,

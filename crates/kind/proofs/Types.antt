@@ -3,13 +3,13 @@ use mathlib.Core.Path.{◌≡◌, refl}
 use mathlib.Core.Bool.{Bool, true, false, ◌&&◌}
 use mathlib.Core.List.{[], ◌∷◌, map}
 use Prim.Native.Nat.{ℕ, ◌≤◌, ◌<◌}
+use Rattle.std.specs.Prelude.{Ok, Err}
 use native.Mathlib.Omega.{arith}
 use lib.Dec.{leb}
 use borrow.Author.Tests.{leb-true, le-leb, eqb-true}
 use Rattle.bedrock.proofs.Choices.{and-true}
 use Rattle.refusal.specs.declared.Refusal.TheVariants.{BlockType}
 use Rattle.kind.specs.Kind.{lawful, is_pointer, wire_type}
-use Rattle.kind.specs.declared.Wire.TheVariants.{«Type», Refused}
 
 -- a pointer type is one of the ten
 pub pointer-lawful : (t : ℕ) → is_pointer t ≡ true → lawful t ≡ true
@@ -30,7 +30,7 @@ lawful_lt t e = go (leb 1 t && leb t 9) refl
 
 -- "0 to 13; 1..7 to 3..9; 8 to 2; 9..15 to 3..9; 16 to 1; anything else is refused with 9"
 pub enumeration : map wire_type (0 ∷ 1 ∷ 2 ∷ 3 ∷ 4 ∷ 5 ∷ 6 ∷ 7 ∷ 8 ∷ 9 ∷ 10 ∷ 11 ∷ 12 ∷ 13 ∷ 14 ∷ 15 ∷ 16 ∷ 17 ∷ [])
-    ≡ («Type» 13 ∷ «Type» 3 ∷ «Type» 4 ∷ «Type» 5 ∷ «Type» 6 ∷ «Type» 7 ∷ «Type» 8 ∷ «Type» 9 ∷ «Type» 2
-    ∷ «Type» 3 ∷ «Type» 4 ∷ «Type» 5 ∷ «Type» 6 ∷ «Type» 7 ∷ «Type» 8 ∷ «Type» 9 ∷ «Type» 1 ∷ Refused BlockType ∷ [])
+    ≡ (Ok 13 ∷ Ok 3 ∷ Ok 4 ∷ Ok 5 ∷ Ok 6 ∷ Ok 7 ∷ Ok 8 ∷ Ok 9 ∷ Ok 2
+    ∷ Ok 3 ∷ Ok 4 ∷ Ok 5 ∷ Ok 6 ∷ Ok 7 ∷ Ok 8 ∷ Ok 9 ∷ Ok 1 ∷ Err BlockType ∷ [])
 unfolding wire_type
 enumeration = refl

@@ -8,6 +8,7 @@ use lib.ListN.{length, get_or}
 use Rattle.buffer.specs.Bytes.{Bytes, same}
 use Rattle.buffer.proofs.Steps.{same-lengths, same-differ}
 use Rattle.sha1_digest.proofs.Digest.{empty}
+pub use Rattle.sha1_digest.proofs.Digest.{digest_length, digest_bytes}
 use Rattle.kind.specs.Kind.{zero_score}
 
 pub zero-score-bytes : zero_score ≡ 0xda ∷ 0x39 ∷ 0xa3 ∷ 0xee ∷ 0x5e ∷ 0x6b ∷ 0x4b ∷ 0x0d ∷ 0x32 ∷ 0x55 ∷ 0xbf ∷ 0xef ∷ 0x95 ∷ 0x60 ∷ 0x18 ∷ 0x90 ∷ 0xaf ∷ 0xd8 ∷ 0x07 ∷ 0x09 ∷ []

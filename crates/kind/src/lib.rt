@@ -10,55 +10,32 @@ use refusal::Refusal;
 // The most bytes that a block has.
 pub const LONGEST: usize = 57344;
 
-#[derive(Clone, Copy)]
-pub enum Wire {
-    Type(u8),
-    Refused(Refusal),
-}
-
 // Whether a number is one of the ten block types.
 pub fn is_lawful(kind: u8) -> bool
     ensures { result ≡ lawful kind }
 {
-    if kind < 1 {
-        return false;
-    }
-    if kind <= 9 {
-        return true;
-    }
-    kind == 13
+    matches!(kind, 1..=9 | 13)
 }
 
 // Whether a block type is one whose blocks are scores.
 pub fn is_pointer(kind: u8) -> bool
     ensures { result ≡ is_pointer kind }
 {
-    if kind < 3 {
-        return false;
-    }
-    kind <= 9
+    matches!(kind, 3..=9)
 }
 
 // The block type of a number of the enumeration.
-pub fn wire_type(e: u64) -> Wire
+pub fn wire_type(e: u64) -> Result<u8, Refusal>
     ensures { result ≡ wire_type e }
 {
-    if e == 0 {
-        return Wire::Type(13);
+    match e {
+        0 => Ok(13),
+        1..=7 => Ok((e + 2) as u8),
+        8 => Ok(2),
+        9..=15 => Ok((e - 6) as u8),
+        16 => Ok(1),
+        _ => Err(Refusal::BlockType),
     }
-    if e <= 7 {
-        return Wire::Type((e + 2) as u8);
-    }
-    if e == 8 {
-        return Wire::Type(2);
-    }
-    if e <= 15 {
-        return Wire::Type((e - 6) as u8);
-    }
-    if e == 16 {
-        return Wire::Type(1);
-    }
-    Wire::Refused(Refusal::BlockType)
 }
 
 // The score of the empty block.
@@ -75,12 +52,8 @@ pub fn zero_score() -> [u8; 20]
 pub fn is_zero_score(s: &[u8]) -> bool
     ensures { result ≡ same s.now zero_score }
 {
-    if s.len() == 0 {
-        return false;
+    match s {
+        [0xda, ..] => buffer::equal(s, &zero_score()),
+        _ => false,
     }
-    if s[0] != 0xda {
-        return false;
-    }
-    let z = zero_score();
-    buffer::equal(s, &z)
 }

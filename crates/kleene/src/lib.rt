@@ -26,22 +26,10 @@ pub fn not(a: Value) -> Value
 pub fn and(a: Value, b: Value) -> Value
     ensures { result ≡ and_of a b }
 {
-    match a {
-        Value::Yes => match b {
-            Value::Yes => Value::Yes,
-            Value::No => Value::No,
-            Value::NotKnown => Value::NotKnown,
-        },
-        Value::No => match b {
-            Value::Yes => Value::No,
-            Value::No => Value::No,
-            Value::NotKnown => Value::No,
-        },
-        Value::NotKnown => match b {
-            Value::Yes => Value::NotKnown,
-            Value::No => Value::No,
-            Value::NotKnown => Value::NotKnown,
-        },
+    match (a, b) {
+        (Value::No, _) | (_, Value::No) => Value::No,
+        (Value::Yes, Value::Yes) => Value::Yes,
+        _ => Value::NotKnown,
     }
 }
 
@@ -49,21 +37,9 @@ pub fn and(a: Value, b: Value) -> Value
 pub fn or(a: Value, b: Value) -> Value
     ensures { result ≡ or_of a b }
 {
-    match a {
-        Value::Yes => match b {
-            Value::Yes => Value::Yes,
-            Value::No => Value::Yes,
-            Value::NotKnown => Value::Yes,
-        },
-        Value::No => match b {
-            Value::Yes => Value::Yes,
-            Value::No => Value::No,
-            Value::NotKnown => Value::NotKnown,
-        },
-        Value::NotKnown => match b {
-            Value::Yes => Value::Yes,
-            Value::No => Value::NotKnown,
-            Value::NotKnown => Value::NotKnown,
-        },
+    match (a, b) {
+        (Value::Yes, _) | (_, Value::Yes) => Value::Yes,
+        (Value::No, Value::No) => Value::No,
+        _ => Value::NotKnown,
     }
 }

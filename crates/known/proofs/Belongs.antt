@@ -14,10 +14,10 @@ use Rattle.block.proofs.Joined.{used-joined}
 use Rattle.sector_log.specs.LookUp.{doubtful, first_doubtful, absence}
 use Rattle.sector_log.specs.Parts.{tape}
 use Rattle.sector_log.proofs.Gives.{twelve_is-first}
-use Rattle.known.specs.declared.Doubt.{Doubt}
-use Rattle.known.specs.declared.Doubt.TheVariants.{Clear, At}
 use Rattle.known.specs.Known.{doubt_of, doubt_before, learned, belongs}
 use Rattle.known.specs.Promises.{LearnedBelongs, BelongsWithin}
+use Rattle.std.specs.Prelude.{Some, None, Option as Optional}
+use Rattle.sector_number.specs.declared.SectorNumber.{SectorNumber}
 
 pub belongs-within : BelongsWithin
 unfolding belongs
@@ -27,7 +27,7 @@ belongs-within k m w e =
     let q = and-true (leb k.waits.0 (sectors w)) doubt p.1 in (
       leb-true k.used.0 (sectors m) p.0,
       leb-true k.waits.0 (sectors w) q.0,
-      λ n d. ltb-true n.0 (k.used.0 + k.waits.0) (sym (ap (λ (x : Doubt). doubt_before x (k.used.0 + k.waits.0)) d) ∙ q.1),
+      λ n d. ltb-true n.0 (k.used.0 + k.waits.0) (sym (ap (λ (x : Optional SectorNumber). doubt_before x (k.used.0 + k.waits.0)) d) ∙ q.1),
     )
 
 -- the doubt that is learned lies in the used part
@@ -35,7 +35,7 @@ doubt-before : (log : Bytes) → doubt_before (doubt_of log) (used log) ≡ true
 unfolding doubt_of absence
 doubt-before log = go (eqb (doubtful log) 0) refl
   where
-    go : (b : Bool) → eqb (doubtful log) 0 ≡ b → doubt_before (cond b Clear (At (record { 0 = first_doubtful log }))) (used log) ≡ true
+    go : (b : Bool) → eqb (doubtful log) 0 ≡ b → doubt_before (cond b None (Some (record { 0 = first_doubtful log }))) (used log) ≡ true
     go true q = refl
     go false q =
         let told : absence log ≡ NotKnown (record { 0 = first_doubtful log }) = rw q in

@@ -22,9 +22,9 @@ use Rattle.sector_log.proofs.FirstDoubt.{first-at, first-end, outside-at, inside
 use Rattle.sector_log.proofs.Written.{new-sound}
 use Rattle.sector_log.proofs.Appended.{used_ends, blocks-added}
 use Rattle.hint.specs.Promises.{Appends}
-use Rattle.known.specs.declared.Doubt.TheVariants.{Clear, At}
 use Rattle.known.specs.Known.{doubt_of, missing}
 use Rattle.known.specs.Promises.{DoubtWritten, MissingIsAbsence}
+use Rattle.std.specs.Prelude.{Some, None}
 
 in_append : (xs : List Row) (r : Row) (n : ℕ) → in_block (xs ++ (r ∷ [])) n ≡ (in_block xs n || within r.first (parts r) n)
 unfolding in_block
@@ -41,7 +41,7 @@ pub missing-is-absence : MissingIsAbsence
 unfolding doubt_of absence
 missing-is-absence log = go (eqb (doubtful log) 0)
   where
-    go : (b : Bool) → missing (cond b Clear (At (record { 0 = first_doubtful log }))) ≡ cond b NotHeld (NotKnown (record { 0 = first_doubtful log }))
+    go : (b : Bool) → missing (cond b None (Some (record { 0 = first_doubtful log }))) ≡ cond b NotHeld (NotKnown (record { 0 = first_doubtful log }))
     go true = refl
     go false = refl
 
@@ -55,11 +55,11 @@ doubt_by_absence a b e = go (eqb (doubtful a) 0) (eqb (doubtful b) 0) e
     y : SectorNumber
     y = record { 0 = first_doubtful b }
 
-    go : (p q : Bool) → cond p NotHeld (NotKnown x) ≡ cond q NotHeld (NotKnown y) → cond p Clear (At x) ≡ cond q Clear (At y)
+    go : (p q : Bool) → cond p NotHeld (NotKnown x) ≡ cond q NotHeld (NotKnown y) → cond p None (Some x) ≡ cond q None (Some y)
     go true true d = refl
     go true false d = let z : ◌≡◌ {A = ℕ} 0 1 = cc in absurd (omega arith)
     go false true d = let z : ◌≡◌ {A = ℕ} 0 1 = cc in absurd (omega arith)
-    go false false d = let z : x ≡ y = cc in ap At z
+    go false false d = let z : x ≡ y = cc in ap Some z
 
 module _ (log : Bytes) (r : Row) (a : Appends log r) where
   abbrev W : Bytes

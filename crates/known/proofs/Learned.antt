@@ -24,13 +24,14 @@ use Rattle.hint.specs.Hint.{hint, held_by}
 use Rattle.hint.specs.Rebuilt.{entered_row}
 use Rattle.hint.specs.Promises.{Appends}
 use Rattle.hint.proofs.Alike.{hint-alike}
-use Rattle.known.specs.declared.Doubt.{Doubt}
 use Rattle.known.specs.declared.Known.{Known}
 use Rattle.known.specs.Known.{doubt_of, all_lead, exactly, learned, held_known, owner, store_known, listed, can_settle_known, settled_known}
 use Rattle.known.specs.Promises.{LearnedFinds, LearnedStores, LearnedSettles, KnownAfterNew, KnownAfterSync}
 use Rattle.known.proofs.Exact.{exactly-exact}
 use Rattle.known.proofs.Written.{all_same, exactly-written}
 use Rattle.known.proofs.Doubts.{used-written, doubt-written, doubt_by_absence}
+use Rattle.std.specs.Prelude.{Option as Optional}
+use Rattle.sector_number.specs.declared.SectorNumber.{SectorNumber}
 
 module _ (log waiting index : Bytes) where
   abbrev one : Bytes
@@ -76,7 +77,7 @@ unfolding learned can_settle_known can_settle settled_known settled moved
 learned-settles log waiting index = (refl, refl)
 
 -- four facts are one
-known_is : (u v w x : ℕ) (a b : Doubt) (p q : Bool) → u ≡ v → w ≡ x → a ≡ b → p ≡ q
+known_is : (u v w x : ℕ) (a b : Optional SectorNumber) (p q : Bool) → u ≡ v → w ≡ x → a ≡ b → p ≡ q
     → ◌≡◌ {A = Known} (record { used = record { 0 = u }; waits = record { 0 = w }; doubt = a; exact = p }) (record { used = record { 0 = v }; waits = record { 0 = x }; doubt = b; exact = q })
 known_is u v w x a b p q e f g h = λ i. record { used = record { 0 = e i }; waits = record { 0 = f i }; doubt = g i; exact = h i }
 

@@ -1,6 +1,6 @@
 -- What is known of a log, its waiting part and an index: as it is learned from their bytes, and what look-up, store and sync make of it, for any bytes and
 -- anything that is said to be known.
-use Rattle.std.specs.Prelude.{Bool, true, false, cond, ◌&&◌, ◌||◌, List, [], ◌∷◌, ℕ, zero, suc, ◌+◌, ◌-◌, eqb, leb, ltb, take}
+use Rattle.std.specs.Prelude.{Bool, true, false, cond, ◌&&◌, ◌||◌, List, [], ◌∷◌, ℕ, zero, suc, ◌+◌, ◌-◌, eqb, leb, ltb, take, Some, None, Option as Optional, Ok, Err, Result}
 use Rattle.std.proofs.Math.Option.{Option, none, some}
 use Rattle.bedrock.specs.Choice.{on}
 use Rattle.buffer.specs.Bytes.{Bytes, same}
@@ -15,23 +15,22 @@ use Rattle.sector_log.specs.Parts.{tape, Lent, beside}
 use Rattle.sector_log.specs.Store.{AfterStore, compared}
 use Rattle.sector_log.specs.Behind.{moved_behind, appended_behind}
 use Rattle.sector_log.specs.declared.Stored.{Stored}
-use Rattle.sector_log.specs.declared.Stored.TheVariants.{New, Duplicate, Refused}
+use Rattle.sector_log.specs.declared.Stored.TheVariants.{New, Duplicate}
 use Rattle.index.specs.Index.{place_at, named, sector_at, bucket_of}
 use Rattle.hint.specs.Hint.{hint}
-use Rattle.known.specs.declared.Doubt.{Doubt}
-use Rattle.known.specs.declared.Doubt.TheVariants.{Clear, At}
 use Rattle.known.specs.declared.Known.{Known}
+use Rattle.sector_number.specs.declared.SectorNumber.{SectorNumber}
 
 -- ---- what is learned
 
 -- the first doubtful sector of a log, or none
-unfoldable pub doubt_of : Bytes → Doubt
-doubt_of log = cond (eqb (doubtful log) 0) Clear (At (record { 0 = first_doubtful log }))
+unfoldable pub doubt_of : Bytes → Optional SectorNumber
+doubt_of log = cond (eqb (doubtful log) 0) None (Some (record { 0 = first_doubtful log }))
 
 -- the refusal of a block that is not found: "Else 12 if any sector is doubtful, else 11"
-abbrev pub missing : Doubt → Refusal
-missing Clear = NotHeld
-missing (At n) = NotKnown n
+abbrev pub missing : Optional SectorNumber → Refusal
+missing None = NotHeld
+missing (Some n) = NotKnown n
 
 -- the index leads from a block's type and score to it, or to one of them that starts before it
 abbrev pub leads : Bytes → Bytes → Row → Bool
@@ -57,9 +56,9 @@ learned log waiting index =
 -- ---- what is done with it
 
 -- "A doubtful sector is in the used part": the one that is told, if any is, lies before the end
-abbrev pub doubt_before : Doubt → ℕ → Bool
-doubt_before Clear end = true
-doubt_before (At n) end = ltb n.0 end
+abbrev pub doubt_before : Optional SectorNumber → ℕ → Bool
+doubt_before None end = true
+doubt_before (Some n) end = ltb n.0 end
 
 -- what can be known of a log and a waiting part of these lengths: "one that cannot belong to these lengths is learned anew"
 unfoldable pub belongs : Known → ℕ → ℕ → Bool
@@ -102,10 +101,10 @@ listed index score kind first = let b = bucket_of index score in listed_from ind
 abbrev pub after_new : Known → ℕ → Bool → Known
 after_new k n there = record { used = k.used; waits = record { 0 = k.waits.0 + n }; doubt = k.doubt; exact = k.exact && there }
 
-abbrev pub known_after : Known → Stored → ℕ → Bool → Known
-known_after k (New at) n there = after_new k n there
-known_after k (Duplicate at) n there = k
-known_after k (Refused w) n there = k
+abbrev pub known_after : Known → Result Stored Refusal → ℕ → Bool → Known
+known_after k (Ok (New at)) n there = after_new k n there
+known_after k (Ok (Duplicate at)) n there = k
+known_after k (Err w) n there = k
 
 -- sync, by what is known: where the sectors that wait fit, they are moved, and the waiting part is blank
 unfoldable pub can_settle_known : Known → ℕ → Bool

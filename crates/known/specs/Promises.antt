@@ -1,6 +1,6 @@
 -- What is promised of what is known: where it is what was learned, look-up, store and sync answer as they do without it, and what is known afterwards is
 -- what would be learned then.
-use Rattle.std.specs.Prelude.{◌≡◌, true, ◌&&◌, ℕ, ◌+◌, ◌≤◌, ◌<◌, length, replicate}
+use Rattle.std.specs.Prelude.{◌≡◌, true, ◌&&◌, ℕ, ◌+◌, ◌≤◌, ◌<◌, length, replicate, Some}
 use Rattle.std.proofs.Math.Option.{none}
 use Rattle.buffer.specs.Bytes.{Bytes}
 use Rattle.sector_number.specs.declared.SectorNumber.{SectorNumber}
@@ -13,7 +13,6 @@ use Rattle.sector_log.specs.Store.{store, new_row, parts_for}
 use Rattle.hint.specs.Hint.{held_by}
 use Rattle.hint.specs.Rebuilt.{entered_row}
 use Rattle.hint.specs.Promises.{Exact, Appends}
-use Rattle.known.specs.declared.Doubt.TheVariants.{At}
 use Rattle.known.specs.declared.Known.{Known}
 use Rattle.known.specs.Known.{doubt_of, missing, exactly, learned, belongs, held_known, owner, store_known, listed, after_new, can_settle_known, settled_known, after_sync}
 
@@ -37,7 +36,7 @@ LearnedBelongs = (log waiting index : Bytes) → belongs (learned log waiting in
 -- and what belongs has its ends within these lengths, and no doubt behind them
 abbrev pub BelongsWithin : Type 0
 BelongsWithin = (k : Known) (m w : ℕ) → belongs k m w ≡ true
-    → (k.used.0 ≤ sectors m) × (k.waits.0 ≤ sectors w) × ((n : SectorNumber) → k.doubt ≡ At n → n.0 < k.used.0 + k.waits.0)
+    → (k.used.0 ≤ sectors m) × (k.waits.0 ≤ sectors w) × ((n : SectorNumber) → k.doubt ≡ Some n → n.0 < k.used.0 + k.waits.0)
 
 -- a block that is missing is refused alike
 abbrev pub MissingIsAbsence : Type 0

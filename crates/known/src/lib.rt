@@ -3,18 +3,11 @@
 
 use sector_number::SectorNumber;
 
-// The first doubtful sector, or that there is none.
-#[derive(Clone, Copy)]
-pub enum Doubt {
-    Clear,
-    At(SectorNumber),
-}
-
 // How many sectors of the log and of the waiting part are used, what is doubtful in both, and whether the index leads to every sound block.
 #[derive(Clone, Copy)]
 pub struct Known {
     pub used: SectorNumber,
     pub waits: SectorNumber,
-    pub doubt: Doubt,
+    pub doubt: Option<SectorNumber>,
     pub exact: bool,
 }

@@ -7,15 +7,14 @@ use native.Mathlib.Omega.{arith}
 use lib.Dec.{eqb}
 use lib.ListN.{length, get_or, take, drop, set, length-take, length-drop, length-append}
 use borrow.Author.Tests.{eq-eqb, ne_eqb}
-use Rattle.word.specs.Number.{digits, be_bytes, be_number}
-use Rattle.word.proofs.NumberLaws.{length_digits}
+use Rattle.digits.specs.Number.{digits, be_bytes, be_number}
+use Rattle.digits.proofs.NumberLaws.{length_digits}
 use Rattle.buffer.specs.Bytes.{Bytes, put}
 use Rattle.buffer.proofs.Put.{length-put, put_next, put_mid_lem, put_one, put_whole}
 use Rattle.sector_number.specs.declared.SectorNumber.{SectorNumber}
-use Rattle.known.specs.declared.Doubt.{Doubt}
-use Rattle.known.specs.declared.Doubt.TheVariants.{Clear, At}
 use Rattle.known.specs.declared.Known.{Known}
 use Rattle.known_bytes.specs.KnownBytes.{doubt_number, doubt_by, exact_byte, known_bytes, known_of}
+use Rattle.std.specs.Prelude.{Some, None, Option as Optional}
 
 -- the part that is read
 pub number_read : (s : Bytes) (at : ℕ) → be_number (take (at + 8 - at) (drop at s)) ≡ be_number (take 8 (drop at s))
@@ -38,29 +37,29 @@ module _ (s ys : Bytes) (at n : ℕ) (h : at + 8 ≤ length s) (e : ys ≡ be_by
 
 -- ---- a doubt as a number
 
-pub clear_by : (n : ℕ) → n ≡ 0 → Clear ≡ doubt_by n
+pub clear_by : (n : ℕ) → n ≡ 0 → None ≡ doubt_by n
 unfolding doubt_by
 clear_by n e = rw (eq-eqb n 0 e)
 
-pub at_by : (n : ℕ) → (n ≡ 0 → ⊥) → At (record { 0 = n - 1 }) ≡ doubt_by n
+pub at_by : (n : ℕ) → (n ≡ 0 → ⊥) → Some (record { 0 = n - 1 }) ≡ doubt_by n
 unfolding doubt_by
 at_by n e = rw (ne_eqb n 0 e)
 
-pub clear_number : (d : Doubt) → d ≡ Clear → be_bytes 8 0 ≡ be_bytes 8 (doubt_number d)
-clear_number d e = ap (λ (x : Doubt). be_bytes 8 (doubt_number x)) (sym e)
+pub clear_number : (d : Optional SectorNumber) → d ≡ None → be_bytes 8 0 ≡ be_bytes 8 (doubt_number d)
+clear_number d e = ap (λ (x : Optional SectorNumber). be_bytes 8 (doubt_number x)) (sym e)
 
 -- the successor of the greatest number has the bytes of 0
 around : be_bytes 8 0 ≡ be_bytes 8 18446744073709551616
 unfolding digits
 around = refl
 
-pub greatest_number : (d : Doubt) (n : SectorNumber) → d ≡ At n → n.0 ≡ 18446744073709551615 → be_bytes 8 0 ≡ be_bytes 8 (doubt_number d)
+pub greatest_number : (d : Optional SectorNumber) (n : SectorNumber) → d ≡ Some n → n.0 ≡ 18446744073709551615 → be_bytes 8 0 ≡ be_bytes 8 (doubt_number d)
 greatest_number d n e g =
     let z : n.0 + 1 ≡ 18446744073709551616 = omega (arith, g) in
-    around ∙ ap (be_bytes 8) (sym z) ∙ ap (λ (x : Doubt). be_bytes 8 (doubt_number x)) (sym e)
+    around ∙ ap (be_bytes 8) (sym z) ∙ ap (λ (x : Optional SectorNumber). be_bytes 8 (doubt_number x)) (sym e)
 
-pub at-number : (d : Doubt) (n : SectorNumber) → d ≡ At n → be_bytes 8 (n.0 + 1) ≡ be_bytes 8 (doubt_number d)
-at-number d n e = ap (λ (x : Doubt). be_bytes 8 (doubt_number x)) (sym e)
+pub at-number : (d : Optional SectorNumber) (n : SectorNumber) → d ≡ Some n → be_bytes 8 (n.0 + 1) ≡ be_bytes 8 (doubt_number d)
+at-number d n e = ap (λ (x : Optional SectorNumber). be_bytes 8 (doubt_number x)) (sym e)
 
 pub is-exact : (b : Bool) → b ≡ true → 1 ≡ exact_byte b
 is-exact b e = ap exact_byte (sym e)
@@ -115,7 +114,7 @@ module _ (b b₁ b₂ b₃ : Bytes) (k : Known) (d e : ℕ) (l : length b ≡ 25
   pub written-length : length (set b₃ 24 e) ≡ length b
   written-length = ap length known_written ∙ length-known k ∙ sym l
 
-pub known_read : (s : Bytes) (u w n : ℕ) (d : Doubt) → u ≡ be_number (take 8 (drop 0 s)) → w ≡ be_number (take 8 (drop 8 s)) → n ≡ be_number (take 8 (drop 16 s))
+pub known_read : (s : Bytes) (u w n : ℕ) (d : Optional SectorNumber) → u ≡ be_number (take 8 (drop 0 s)) → w ≡ be_number (take 8 (drop 8 s)) → n ≡ be_number (take 8 (drop 16 s))
     → d ≡ doubt_by n → ◌≡◌ {A = Known} (record { used = record { 0 = u }; waits = record { 0 = w }; doubt = d; exact = eqb (get_or s 24 0) 1 }) (known_of s)
 unfolding known_of
 known_read s u w n d p q r z =

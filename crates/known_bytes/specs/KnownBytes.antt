@@ -1,19 +1,18 @@
 -- What is known, as 25 bytes: how many sectors of the log are used and how many wait, the first doubtful sector, each in eight bytes, and whether the index is
 -- exact.
-use Rattle.std.specs.Prelude.{Bool, true, false, cond, [], ◌∷◌, ◌++◌, ℕ, ◌+◌, ◌-◌, eqb, take, drop, get_or}
-use Rattle.word.specs.Number.{be_bytes, be_number}
+use Rattle.std.specs.Prelude.{Bool, true, false, cond, [], ◌∷◌, ◌++◌, ℕ, ◌+◌, ◌-◌, eqb, take, drop, get_or, Some, None, Option as Optional}
+use Rattle.digits.specs.Number.{be_bytes, be_number}
 use Rattle.buffer.specs.Bytes.{Bytes}
-use Rattle.known.specs.declared.Doubt.{Doubt}
-use Rattle.known.specs.declared.Doubt.TheVariants.{Clear, At}
 use Rattle.known.specs.declared.Known.{Known}
+use Rattle.sector_number.specs.declared.SectorNumber.{SectorNumber}
 
 -- 0 where nothing is doubtful, else the sector's number and one
-abbrev pub doubt_number : Doubt → ℕ
-doubt_number Clear = 0
-doubt_number (At n) = n.0 + 1
+abbrev pub doubt_number : Optional SectorNumber → ℕ
+doubt_number None = 0
+doubt_number (Some n) = n.0 + 1
 
-unfoldable pub doubt_by : ℕ → Doubt
-doubt_by n = cond (eqb n 0) Clear (At (record { 0 = n - 1 }))
+unfoldable pub doubt_by : ℕ → Optional SectorNumber
+doubt_by n = cond (eqb n 0) None (Some (record { 0 = n - 1 }))
 
 abbrev pub exact_byte : Bool → ℕ
 exact_byte true = 1

@@ -2,11 +2,11 @@
 #![tactic(auto)]
 
 ghost use Rattle.std.specs.Prelude.{◌≡◌, ◌+◌, ◌≤◌, length, take, drop};
-ghost use Rattle.word.specs.Number.{be_bytes, be_number};
+ghost use Rattle.digits.specs.Number.{be_bytes, be_number};
 ghost use Rattle.buffer.specs.Bytes.{put};
 ghost use Rattle.known_bytes.specs.KnownBytes.{doubt_number, doubt_by, exact_byte, known_bytes, known_of};
 
-use known::{Doubt, Known};
+use known::Known;
 use known_request::Served;
 use request::Answer;
 use sector_number::SectorNumber;
@@ -23,7 +23,7 @@ fn read_number(bytes: &[u8], at: usize) -> usize
     ensures { result ≡ be_number (take 8 (drop at bytes.now)) }
 {
     let end = at + 8;
-    word::number::be_number(&bytes[at..end]) as usize
+    digits::be_number(&bytes[at..end]) as usize
 }
 
 // Writes a number to the eight bytes from `at` on.
@@ -32,23 +32,23 @@ fn write_number(bytes: &mut [u8], at: usize, n: usize)
     ensures { bytes.new ≡ put bytes.old at (be_bytes 8 n) }
 {
     let end = at + 8;
-    word::number::put_be(&mut bytes[at..end], n as u64);
+    digits::put_be(&mut bytes[at..end], n as u64);
 }
 
-fn doubt_by(n: usize) -> Doubt
+fn doubt_by(n: usize) -> Option<SectorNumber>
     ensures { result ≡ doubt_by n }
 {
     if n == 0 {
-        return Doubt::Clear;
+        return None;
     }
-    Doubt::At(SectorNumber(n - 1))
+    Some(SectorNumber(n - 1))
 }
 
 // A doubt as eight bytes tell it.
-fn doubt_number(doubt: Doubt) -> usize
+fn doubt_number(doubt: Option<SectorNumber>) -> usize
     ensures { be_bytes 8 result ≡ be_bytes 8 (doubt_number doubt) }
 {
-    let Doubt::At(n) = doubt else {
+    let Some(n) = doubt else {
         return 0;
     };
     if n.0 == GREATEST {

@@ -12,7 +12,7 @@ use Rattle.indexed.specs.Indexed.{Indexed, indexed_of}
 use Rattle.known_request.specs.Promises.{learned_of}
 use Rattle.known_request.specs.Quick.{step_known}
 use Rattle.known_request.proofs.Requests.{quick_is-serve}
-use Rattle.results.specs.Serve.{session_of, session_number, served_of}
+use Rattle.session_numbers.specs.Serve.{session_of, session_number, served_of}
 use Rattle.known_bytes.specs.KnownBytes.{known_bytes, known_of}
 use Rattle.known_calls.specs.Calls.{after_learn, learn_asked, served_known, quick_served, serve_asked}
 use Rattle.known_calls.specs.Promises.{CallIsServe}

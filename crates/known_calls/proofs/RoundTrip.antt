@@ -6,22 +6,22 @@ use native.Mathlib.Omega.{arith}
 use lib.Dec.{eqb}
 use lib.ListN.{length, take, drop, get_or}
 use borrow.Author.Tests.{ne_eqb}
-use Rattle.word.specs.Number.{digits, be_bytes, be_number}
-use Rattle.word.proofs.NumberLaws.{value-digits}
+use Rattle.digits.specs.Number.{digits, be_bytes, be_number}
+use Rattle.digits.proofs.NumberLaws.{value-digits}
 use Rattle.refusal.specs.Number.{told_sector}
 use Rattle.block.specs.Log.{sectors, used}
 use Rattle.block.proofs.Used.{used_le_sectors}
 use Rattle.block.proofs.Joined.{sectors-joined}
 use Rattle.sector_log.specs.Parts.{tape}
 use Rattle.results.proofs.Doubts.{absence-told}
-use Rattle.known.specs.declared.Doubt.{Doubt}
-use Rattle.known.specs.declared.Doubt.TheVariants.{Clear, At}
 use Rattle.known.specs.declared.Known.{Known}
 use Rattle.known.specs.Known.{missing, doubt_of, learned}
 use Rattle.known.proofs.Doubts.{missing-is-absence}
 use Rattle.known_bytes.specs.KnownBytes.{doubt_number, doubt_by, exact_byte, known_bytes, known_of}
 use Rattle.known_calls.specs.Promises.{ReadsBack, HasLength, LearnedFits}
 use Rattle.known_bytes.proofs.Numbers.{length-known}
+use Rattle.std.specs.Prelude.{Some, None, Option as Optional}
+use Rattle.sector_number.specs.declared.SectorNumber.{SectorNumber}
 
 pub has-length : HasLength
 has-length k = length-known k
@@ -29,12 +29,12 @@ has-length k = length-known k
 eight_back : (n : ℕ) → n < 2 ^ 64 → be_number (be_bytes 8 n) ≡ n
 eight_back n h = value-digits 256 8 n h
 
-doubt_back : (d : Doubt) → doubt_by (doubt_number d) ≡ d
+doubt_back : (d : Optional SectorNumber) → doubt_by (doubt_number d) ≡ d
 unfolding doubt_by
-doubt_back Clear = refl
-doubt_back (At n) =
+doubt_back None = refl
+doubt_back (Some n) =
     let z : n.0 + 1 - 1 ≡ n.0 = omega arith in
-    rw (ne_eqb (n.0 + 1) 0 (λ e. omega (arith, e))) (ap (λ (k : ℕ). At (record { 0 = k })) z)
+    rw (ne_eqb (n.0 + 1) 0 (λ e. omega (arith, e))) (ap (λ (k : ℕ). Some (record { 0 = k })) z)
 
 exact_back : (b : Bool) → eqb (exact_byte b) 1 ≡ b
 exact_back true = refl
@@ -67,9 +67,9 @@ reads_back k f =
     λ i. record { used = record { 0 = u i }; waits = record { 0 = w i }; doubt = d i; exact = e i }
 
 -- a doubt is told as a refusal tells it
-told : (d : Doubt) → doubt_number d ≤ told_sector (missing d) + 1
-told Clear = omega arith
-told (At n) = omega arith
+told : (d : Optional SectorNumber) → doubt_number d ≤ told_sector (missing d) + 1
+told None = omega arith
+told (Some n) = omega arith
 
 pub learned-fits : LearnedFits
 unfolding learned

@@ -8,7 +8,7 @@ use Rattle.known.specs.Known.{learned}
 use Rattle.request.specs.Step.{silent}
 use Rattle.indexed.specs.Indexed.{keeping}
 use Rattle.known_request.specs.Quick.{Quick, step_known}
-use Rattle.results.specs.Serve.{Served, session_of, served, served_of}
+use Rattle.session_numbers.specs.Serve.{Served, session_of, served, served_of}
 use Rattle.known_bytes.specs.KnownBytes.{known_bytes, known_of}
 
 -- what learning gives: its number, 0 for none, and what the buffer then holds

@@ -1,14 +1,14 @@
 -- What is promised of what is known, as bytes.
 use Rattle.std.specs.Prelude.{◌≡◌, true, ℕ, ◌<◌, ◌^◌, length}
 use Rattle.std.proofs.Math.Option.{some}
-use Rattle.word.specs.Number.{small}
+use Rattle.digits.specs.Number.{small}
 use Rattle.buffer.specs.Bytes.{Bytes}
 use Rattle.sector_log.specs.Parts.{beside}
 use Rattle.known.specs.declared.Known.{Known}
 use Rattle.known.specs.Known.{learned}
 use Rattle.indexed.specs.Indexed.{step_by}
 use Rattle.known_request.specs.Promises.{learned_of}
-use Rattle.results.specs.Serve.{session_of, served_of}
+use Rattle.session_numbers.specs.Serve.{session_of, served_of}
 use Rattle.known_bytes.specs.KnownBytes.{doubt_number, known_bytes, known_of}
 use Rattle.known_calls.specs.Calls.{serve_asked}
 

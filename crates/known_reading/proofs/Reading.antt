@@ -15,8 +15,6 @@ use Rattle.block.specs.Block.{Row}
 use Rattle.block.specs.declared.Block.{Block}
 use Rattle.block.specs.Log.{bytes_of}
 use Rattle.reader.specs.Reader.{placed}
-use Rattle.reader.specs.declared.Place.{Place}
-use Rattle.reader.specs.declared.Place.TheVariants.{At, Nowhere}
 use Rattle.lookup.proofs.Held.{FoundAt, found-size, found-bytes}
 use Rattle.lookup.proofs.Outcomes.{placed-none}
 use Rattle.sector_log.specs.Parts.{Lent, beside}
@@ -29,6 +27,7 @@ use Rattle.request.specs.Step.{Outcome, refused, granted}
 use Rattle.request.specs.declared.Session.TheVariants.{Greeted}
 use Rattle.indexed.specs.Indexed.{keeping}
 use Rattle.known_request.specs.Quick.{Quick, knowing, read_found, read_known}
+use Rattle.std.specs.Prelude.{Some, None, Option as Optional}
 
 module _ (k : Known) (kind count tag : ℕ) (score index log w buffer : Bytes) (o : Outcome) (b : Bool) (e : b ≡ lawful kind) where
   abbrev L : Lent
@@ -47,12 +46,12 @@ module _ (k : Known) (kind count tag : ℕ) (score index log w buffer : Bytes) (
     unfolding read_known
     by_found f h z = rw (sym e ∙ q, h) (ap (λ (x : Outcome). knowing k (keeping index x)) z)
 
-    module _ (p : Place) (f : p ≡ placed (held_known k log w index kind score)) where
-      pub read-missing : (why : Refusal) → p ≡ Nowhere → why ≡ missing k.doubt → o ≡ refused why tag Greeted L buffer → Answers
+    module _ (p : Optional Block) (f : p ≡ placed (held_known k log w index kind score)) where
+      pub read-missing : (why : Refusal) → p ≡ None → why ≡ missing k.doubt → o ≡ refused why tag Greeted L buffer → Answers
       read-missing why z u h =
           by_found none (placed-none (held_known k log w index kind score) p f z) (h ∙ ap (λ (x : Refusal). refused x tag Greeted L buffer) u)
 
-      module _ (x : Block) (z : p ≡ At x) where
+      module _ (x : Block) (z : p ≡ Some x) where
         abbrev found : FoundAt (known_log k log w) (held_known k log w index kind score) x
         found = known-found k log w index kind score f z
 

@@ -10,7 +10,6 @@ ghost use Rattle.indexed.specs.Indexed.{indexed_of};
 ghost use Rattle.known_request.specs.Quick.{knowing, read_known};
 
 use known::Known;
-use reader::Place;
 use refusal::Refusal;
 use request::{Answer, Session};
 
@@ -35,7 +34,7 @@ pub fn serve_read<'a>(
     }
     let score = message::score_of(message);
     let place = known_store::find_known(log, waiting, index, known, kind, score);
-    let Place::At(b) = place else {
+    let Some(b) = place else {
         let doubt = known.doubt;
         let why = known_store::missing_by(doubt);
         return answer::refuse(why, tag, Session::Greeted, reply);

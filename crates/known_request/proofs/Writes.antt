@@ -10,7 +10,7 @@ use borrow.Author.Tests.{ltb-false, not-false}
 use Rattle.bedrock.specs.Choice.{on}
 use Rattle.bedrock.proofs.Choices.{and-true}
 use Rattle.buffer.specs.Bytes.{Bytes, same}
-use Rattle.word.specs.Number.{small}
+use Rattle.digits.specs.Number.{small}
 use Rattle.sha1_digest.specs.Sha1.{sha1_of}
 use Rattle.kind.specs.Kind.{lawful, longest, zero_score}
 use Rattle.sector.specs.Sector.{is_date}
@@ -22,7 +22,7 @@ use Rattle.refusal.specs.declared.Refusal.TheVariants.{Clash}
 use Rattle.sector_log.specs.LookUp.{blocks, first_of, empty_row, held, log_allowed, waiting_allowed, lent_allowed}
 use Rattle.sector_log.specs.Parts.{Lent, tape, beside, room_for, append_row}
 use Rattle.sector_log.specs.Store.{AfterStore, new_row, parts_for, appended, compared, store}
-use Rattle.sector_log.specs.declared.Stored.TheVariants.{Duplicate, Refused}
+use Rattle.sector_log.specs.declared.Stored.TheVariants.{Duplicate}
 use Rattle.sector_log.proofs.Allowed.{row-valid as valid-row, some_bytes}
 use Rattle.sector_log.proofs.Room.{room-reads}
 use Rattle.index.specs.Index.{entered}
@@ -33,6 +33,7 @@ use Rattle.request.specs.Step.{allowed, write}
 use Rattle.indexed.specs.Indexed.{Indexed, index_after, write_by}
 use Rattle.known_request.specs.Quick.{Quick, stored_known, write_known}
 use Rattle.known_request.specs.Promises.{learned_of}
+use Rattle.std.specs.Prelude.{Ok, Err}
 
 -- what is known is what would be learned then
 abbrev pub Knows : Quick → Type 0
@@ -85,8 +86,8 @@ module _ (date index log w buffer : Bytes) (kind tag : ℕ) (d : Bytes) where
     stored none e = new e
     stored (some r) e = go (same r.bytes d)
       where
-        go : (b : Bool) → Done (cond b (record { receipt = record { score = sha1_of d; stored = Duplicate (record { 0 = r.first }) }; lent = L })
-            (record { receipt = record { score = sha1_of d; stored = Refused Clash }; lent = L }))
+        go : (b : Bool) → Done (cond b (record { receipt = record { score = sha1_of d; stored = Ok (Duplicate (record { 0 = r.first })) }; lent = L })
+            (record { receipt = record { score = sha1_of d; stored = Err Clash }; lent = L }))
         go true = refl
         go false = refl
 

@@ -2,7 +2,7 @@
 use Rattle.std.specs.Prelude.{◌≡◌, true, []}
 use Rattle.std.proofs.Math.Option.{some}
 use Rattle.bedrock.specs.Choice.{on}
-use Rattle.word.specs.Number.{small}
+use Rattle.digits.specs.Number.{small}
 use Rattle.buffer.specs.Bytes.{Bytes}
 use Rattle.sector_log.specs.Parts.{Lent, beside}
 use Rattle.known.specs.declared.Known.{Known}

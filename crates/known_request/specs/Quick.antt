@@ -1,6 +1,6 @@
 -- One request by what is known of the log, its waiting part and its index: its outcome, and what is known afterwards. For any bytes and anything that is said
 -- to be known.
-use Rattle.std.specs.Prelude.{cond, not, ℕ, ◌+◌, ltb, length}
+use Rattle.std.specs.Prelude.{cond, not, ℕ, ◌+◌, ltb, length, Option as Optional}
 use Rattle.std.proofs.Math.Option.{Option, some}
 use Rattle.bedrock.specs.Choice.{on}
 use Rattle.buffer.specs.Bytes.{Bytes}
@@ -15,7 +15,6 @@ use Rattle.sector.specs.Sector.{is_date}
 use Rattle.block.specs.Block.{Row}
 use Rattle.sector_log.specs.Parts.{Lent, beside}
 use Rattle.sector_log.specs.Store.{AfterStore, parts_for}
-use Rattle.known.specs.declared.Doubt.{Doubt}
 use Rattle.known.specs.declared.Known.{Known}
 use Rattle.known.specs.Known.{missing, learned, belongs, held_known, store_known, listed, known_after, can_settle_known, settled_known, after_sync}
 use Rattle.request.specs.Step.{Outcome, silent, refused, granted, reply_room, allowed, written}
@@ -23,6 +22,7 @@ use Rattle.request.specs.declared.Session.{Session}
 use Rattle.request.specs.declared.Session.TheVariants.{Fresh, Greeted, Closed as Shut}
 use Rattle.known_request.specs.declared.Served.{Served}
 use Rattle.indexed.specs.Indexed.{Indexed, indexed_of, keeping, entered_by, greeted_by, in_session_by}
+use Rattle.sector_number.specs.declared.SectorNumber.{SectorNumber}
 
 -- the whole outcome of a request by what is known, and what is known then
 pub record Quick : Type 0 where
@@ -38,7 +38,7 @@ abbrev pub knowing : Known → Indexed → Quick
 knowing k x = record { indexed = x; known = k }
 
 -- what a read answers of the block found, or of none: refused by the doubt that is known, nobody looks for it
-abbrev pub read_found : Doubt → Option Row → ℕ → ℕ → Lent → Bytes → Outcome
+abbrev pub read_found : Optional SectorNumber → Option Row → ℕ → ℕ → Lent → Bytes → Outcome
 read_found doubt found count tag L buffer =
     on found (refused (missing doubt) tag Greeted L buffer)
     (λ r. cond (ltb count (length r.bytes)) (refused OverCount tag Greeted L buffer) (granted (read_reply tag r.bytes) Greeted L buffer))

@@ -14,17 +14,14 @@ use Rattle.block.specs.Block.{Row}
 use Rattle.block.specs.declared.Block.{Block}
 use Rattle.block.specs.Log.{sectors}
 use Rattle.reader.specs.Reader.{placed}
-use Rattle.reader.specs.declared.Place.{Place}
-use Rattle.reader.specs.declared.Place.TheVariants.{At, Nowhere}
 use Rattle.sector_log.specs.LookUp.{blocks, first_of, empty_row, held}
 use Rattle.lookup.proofs.Held.{Stands, held-stands, FoundAt, placed-found}
 use Rattle.lookup.proofs.Outcomes.{placed-some, placed-none}
 use Rattle.hint.specs.Hint.{hint, held_by}
 use Rattle.index_lookup.proofs.Held.{held_by_stands}
-use Rattle.known.specs.declared.Doubt.{Doubt}
-use Rattle.known.specs.declared.Doubt.TheVariants.{Clear, At as Doubtful}
 use Rattle.known.specs.declared.Known.{Known}
 use Rattle.known.specs.Known.{doubt_before, belongs, known_log, held_known, owner}
+use Rattle.std.specs.Prelude.{Some, None, Option as Optional}
 
 -- ---- what can belong
 
@@ -43,15 +40,15 @@ module _ (k : Known) (m w : ℕ) where
       unfolding belongs
       by_doubt = rw (le-leb k.used.0 (sectors m) h, le-leb k.waits.0 (sectors w) g)
 
-      pub belongs_clear : k.doubt ≡ Clear → true ≡ belongs k m w
-      belongs_clear e = sym (ap (λ (d : Doubt). doubt_before d (k.used.0 + k.waits.0)) e) ∙ by_doubt
+      pub belongs_clear : k.doubt ≡ None → true ≡ belongs k m w
+      belongs_clear e = sym (ap (λ (d : Optional SectorNumber). doubt_before d (k.used.0 + k.waits.0)) e) ∙ by_doubt
 
-      pub belongs-doubtful : (n : SectorNumber) → k.doubt ≡ Doubtful n → ltb n.0 (k.used.0 + k.waits.0) ≡ belongs k m w
-      belongs-doubtful n e = sym (ap (λ (d : Doubt). doubt_before d (k.used.0 + k.waits.0)) e) ∙ by_doubt
+      pub belongs-doubtful : (n : SectorNumber) → k.doubt ≡ Some n → ltb n.0 (k.used.0 + k.waits.0) ≡ belongs k m w
+      belongs-doubtful n e = sym (ap (λ (d : Optional SectorNumber). doubt_before d (k.used.0 + k.waits.0)) e) ∙ by_doubt
 
 -- ---- what is found
 
-module _ (k : Known) (log w index : Bytes) (t : ℕ) (s : Bytes) (x : Place) where
+module _ (k : Known) (log w index : Bytes) (t : ℕ) (s : Bytes) (x : Optional Block) where
   abbrev both : Bytes
   both = known_log k log w
 
@@ -60,14 +57,14 @@ module _ (k : Known) (log w index : Bytes) (t : ℕ) (s : Bytes) (x : Place) whe
   by_zero a b p q u v e = let z : (lawful t && same s zero_score) ≡ true = rw (sym p ∙ q, sym u ∙ v) in e ∙ rw z
 
   module _ (z : (lawful t && same s zero_score) ≡ false) where
-    pub by_hint : (b : Block) → x ≡ placed (hint both index t s) → x ≡ At b → x ≡ placed (held_known k log w index t s)
+    pub by_hint : (b : Block) → x ≡ placed (hint both index t s) → x ≡ Some b → x ≡ placed (held_known k log w index t s)
     unfolding held_known
     by_hint b e q =
         let r = placed-some (hint both index t s) x b e q in
         e ∙ ap placed (r.1 ∙ sym (ap₂ (λ (c : Bool) (o : Option Row). cond c (some (empty_row t)) (on o (cond k.exact none (first_of t s (blocks both))) some)) z r.1))
 
-    module _ (y : Place) (e : y ≡ placed (hint both index t s)) (q : y ≡ Nowhere) where
-      pub by_nothing : k.exact ≡ true → Nowhere ≡ placed (held_known k log w index t s)
+    module _ (y : Optional Block) (e : y ≡ placed (hint both index t s)) (q : y ≡ None) where
+      pub by_nothing : k.exact ≡ true → None ≡ placed (held_known k log w index t s)
       unfolding held_known
       by_nothing h = rw (z, placed-none (hint both index t s) y e q, h)
 
@@ -112,8 +109,8 @@ module _ (k : Known) (log w index : Bytes) (t : ℕ) (s : Bytes) where
       go true q = known-stands r q
       go false q = held-stands one t s r q
 
-  pub known-found : {p : Place} {b : Block} → p ≡ placed (held_known k log w index t s) → p ≡ At b → FoundAt one (held_known k log w index t s) b
+  pub known-found : {p : Optional Block} {b : Block} → p ≡ placed (held_known k log w index t s) → p ≡ Some b → FoundAt one (held_known k log w index t s) b
   known-found e z = placed-found known-stands e z
 
-  pub owner-found : {p : Place} {b : Block} → p ≡ placed (owner k log w index t s) → p ≡ At b → FoundAt one (owner k log w index t s) b
+  pub owner-found : {p : Optional Block} {b : Block} → p ≡ placed (owner k log w index t s) → p ≡ Some b → FoundAt one (owner k log w index t s) b
   owner-found e z = placed-found owner-stands e z

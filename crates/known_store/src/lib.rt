@@ -10,8 +10,8 @@ ghost use Rattle.reader.specs.Reader.{placed};
 ghost use Rattle.known.specs.Known.{missing, held_known, owner, store_known, listed, known_after, can_settle_known, settled_known, after_sync};
 ghost use Rattle.known.specs.Known.{belongs as belongsOf};
 
-use known::{Doubt, Known};
-use reader::Place;
+use block::Block;
+use known::Known;
 use refusal::Refusal;
 use sector::SECTOR;
 use sector_log::{Receipt, Stored};
@@ -30,19 +30,19 @@ pub fn belongs(known: Known, log: usize, waiting: usize) -> bool
         return false;
     }
     let doubt = known.doubt;
-    let Doubt::At(n) = doubt else {
+    let Some(n) = doubt else {
         return true;
     };
     n.0 < used.0 + waits.0
 }
 
 // The refusal of a block that is not found.
-pub fn missing_by(doubt: Doubt) -> Refusal
+pub fn missing_by(doubt: Option<SectorNumber>) -> Refusal
     ensures { result ≡ missing doubt }
 {
     match doubt {
-        Doubt::Clear => Refusal::NotHeld,
-        Doubt::At(n) => Refusal::NotKnown(n),
+        None => Refusal::NotHeld,
+        Some(n) => Refusal::NotKnown(n),
     }
 }
 
@@ -55,7 +55,7 @@ pub fn find_known<'a>(
     known: Known,
     kind: u8,
     score: &[u8],
-) -> Place
+) -> Option<Block>
     requires { (known.used.0 ≤ sectors (length log.now)) × (length score.now ≡ 20) }
     ensures { result ≡ placed (held_known known log.now waiting.now index.now kind score.now) }
 {
@@ -66,11 +66,11 @@ pub fn find_known<'a>(
         }
     }
     let place = index_lookup::find_hint(log, end, waiting, index, kind, score);
-    let Place::Nowhere = place else {
-        return place;
-    };
+    if let Some(b) = place {
+        return Some(b);
+    }
     if known.exact {
-        return Place::Nowhere;
+        return None;
     }
     lookup::find_held(log, end, waiting, kind, score)
 }
@@ -83,7 +83,7 @@ fn find_owner<'a>(
     known: Known,
     kind: u8,
     score: &[u8],
-) -> Place
+) -> Option<Block>
     requires { (known.used.0 ≤ sectors (length log.now)) × (length score.now ≡ 20) }
     ensures { result ≡ placed (owner known log.now waiting.now index.now kind score.now) }
 {
@@ -110,7 +110,7 @@ pub fn store_known(
 {
     let score = sha1_digest::sha1(data);
     let place = find_owner(log, waiting, index, known, kind, &score);
-    let Place::At(b) = place else {
+    let Some(b) = place else {
         let used = known.used;
         let waits = known.waits;
         let stored = insert::append_behind(
@@ -153,7 +153,7 @@ fn still_exact(index: &[u8], score: &[u8], kind: u8, known: Known) -> bool
 // What is known after a store of `count` sectors, by the index that it left.
 pub fn known_after(
     index: &[u8],
-    stored: Stored,
+    stored: Result<Stored, Refusal>,
     score: &[u8],
     kind: u8,
     count: usize,
@@ -162,7 +162,7 @@ pub fn known_after(
     requires { (length score.now ≡ 20) × (known.used.0 + known.waits.0 < 2 ^ 64) × (known.waits.0 + count < 2 ^ 64) }
     ensures { result ≡ known_after known stored count (listed index.now score.now kind (known.used.0 + known.waits.0)) }
 {
-    let Stored::New(_) = stored else {
+    let Ok(Stored::New(_)) = stored else {
         return known;
     };
     let exact = still_exact(index, score, kind, known);

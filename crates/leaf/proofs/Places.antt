@@ -11,12 +11,12 @@ use Rattle.block.specs.Block.{Inside}
 use Rattle.block.specs.Log.{addressable, sectors, bytes_of}
 use Rattle.block.proofs.At.{at_piece}
 use Rattle.block.proofs.Facts.{part_of}
-use Rattle.sector_log.specs.declared.Look.{Look}
-use Rattle.sector_log.specs.declared.Look.TheVariants as look
 use Rattle.sector_log.specs.LookUp.{most_sectors, most_waiting}
 use Rattle.tree.proofs.Pieces.{byte_in}
 use Rattle.leaf.specs.Leaf.{payload_in, place_in}
 use Rattle.leaf.specs.Fetch.{LiesIn}
+use Rattle.std.specs.Prelude.{Ok, Err, Result}
+use Rattle.refusal.specs.declared.Refusal.{Refusal}
 
 -- a byte of the block at a place among n sectors: up to the end of its payload
 module _ (n : ℕ) (b : Block) (h : Inside n b) (j : ℕ) (g : j < b.size) where
@@ -55,9 +55,9 @@ pub place_by : (b : Block) (k p : ℕ) → p ≡ payload_in b → 512 * (b.first
 place_by b k p e = ap (λ (x : ℕ). 512 * (b.first.0 + k / x) + (b.label + k % x)) e
 
 -- among more sectors
-pub lies_more : (n m : ℕ) (l : Look) → n ≤ m → LiesIn n l → LiesIn m l
-lies_more n m (look.Found b) e h = (omega (arith, h.0), h.1)
-lies_more n m (look.Refused w) e h = tt
+pub lies_more : (n m : ℕ) (l : Result Block Refusal) → n ≤ m → LiesIn n l → LiesIn m l
+lies_more n m (Ok b) e h = (omega (arith, h.0), h.1)
+lies_more n m (Err w) e h = tt
 
 -- a log and a waiting part that are allowed have few sectors
 pub few_sectors : (u m w : ℕ) → u ≤ sectors m → sectors m ≤ most_sectors → sectors w ≤ most_waiting → u + sectors w ≤ 2 ^ 54

@@ -11,13 +11,14 @@ use Rattle.sector_log.specs.LookUp.{held, absence}
 use Rattle.lookup.proofs.Held.{Stands, held-stands}
 use Rattle.entry.specs.declared.Entry.{Entry}
 use Rattle.leaf.specs.declared.Extent.{Extent}
-use Rattle.leaf.specs.declared.Extent.TheVariants.{Refused}
 use Rattle.leaf.specs.Leaf.{zero_run, leaf_run, fetched, under}
+use Rattle.std.specs.Prelude.{Err, Result}
+use Rattle.refusal.specs.declared.Refusal.{Refusal}
 
-module _ (log : Bytes) (page : ℕ) (e : Entry) (offset : ℕ) (P : Extent → Type 0) (missing : P (Refused (absence log))) (long : P (Refused OverCount)) (uneven : P (Refused Pointers))
+module _ (log : Bytes) (page : ℕ) (e : Entry) (offset : ℕ) (P : Result Extent Refusal → Type 0) (missing : P (Err (absence log))) (long : P (Err OverCount)) (uneven : P (Err Pointers))
     (zeros : P (zero_run page e offset))
     (leaf : (r : Row) → Stands log r → P (leaf_run page e offset (place_of r))) where
-  fetched_ind : (t : ℕ) (s : Bytes) (count : ℕ) (f : Row → Extent) → ((r : Row) → Stands log r → P (f r)) → P (fetched log t s count f)
+  fetched_ind : (t : ℕ) (s : Bytes) (count : ℕ) (f : Row → (Result Extent Refusal)) → ((r : Row) → Stands log r → P (f r)) → P (fetched log t s count f)
   fetched_ind t s count f g =
       on_ind P (held log t s) _ _ (λ _. missing) (λ r q. cond_ind P (leb (length r.bytes) count) _ _ (λ _. g r (held-stands log t s r q)) (λ _. long))
 

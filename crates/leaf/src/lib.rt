@@ -12,14 +12,12 @@ use block::Block;
 use entry::Entry;
 use refusal::Refusal;
 use sector::SECTOR;
-use sector_log::Look;
 
 // Where the run at an offset lies in one log of bytes: at a byte of it, or at the front of the page; or why there is none.
 #[derive(Clone, Copy)]
 pub enum Extent {
     Stored { at: usize, length: usize },
     Zeros { length: usize },
-    Refused(Refusal),
 }
 
 // Where byte k of the block at a place lies in the log.
@@ -32,18 +30,18 @@ fn place_in(b: Block, k: usize) -> usize
 }
 
 // A run of zeros: the page's front, up to the end of page, leaf or file.
-fn zero_run(page: usize, e: Entry, offset: u64) -> Extent
+fn zero_run(page: usize, e: Entry, offset: u64) -> Result<Extent, Refusal>
     requires { (0 < e.dsize) × (offset < e.size) }
     ensures { result ≡ zero_run page e offset }
 {
     let k = (offset % e.dsize as u64) as usize;
-    Extent::Zeros {
+    Ok(Extent::Zeros {
         length: tree::least(page, e.dsize - k, e.size - offset),
-    }
+    })
 }
 
 // The run in the leaf at a place: stored, up to the end of payload, block or file; past the block's end zeros.
-fn leaf_run(page: usize, e: Entry, offset: u64, b: Block) -> Extent
+fn leaf_run(page: usize, e: Entry, offset: u64, b: Block) -> Result<Extent, Refusal>
     requires { (0 < e.dsize) × (offset < e.size) × Inside addressable b }
     ensures { result ≡ leaf_run page e offset b }
 {
@@ -52,19 +50,21 @@ fn leaf_run(page: usize, e: Entry, offset: u64, b: Block) -> Extent
         return zero_run(page, e, offset);
     }
     let p = block::payload_of(b.label);
-    Extent::Stored {
+    Ok(Extent::Stored {
         at: place_in(b, k),
         length: tree::least(p - k % p, b.size - k, e.size - offset),
-    }
+    })
 }
 
 // The run in the leaf that was found, or why there is none.
-pub fn run_in(look: Look, page: usize, e: Entry, offset: u64) -> Extent
+pub fn run_in(
+    look: Result<Block, Refusal>,
+    page: usize,
+    e: Entry,
+    offset: u64,
+) -> Result<Extent, Refusal>
     requires { (0 < e.dsize) × (offset < e.size) × LiesIn addressable look }
     ensures { result ≡ run_in page e offset look }
 {
-    match look {
-        Look::Found(b) => leaf_run(page, e, offset, b),
-        Look::Refused(why) => Extent::Refused(why),
-    }
+    leaf_run(page, e, offset, look?)
 }

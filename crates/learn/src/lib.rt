@@ -5,20 +5,20 @@ ghost use Rattle.std.specs.Prelude.{◌≡◌, ◌≤◌, length};
 ghost use Rattle.block.specs.Log.{sectors, joined};
 ghost use Rattle.known.specs.Known.{doubt_of, learned};
 
-use known::{Doubt, Known};
+use known::Known;
 use refusal::Refusal;
 use sector_number::SectorNumber;
 
 // The first doubtful sector of both, or none.
-fn find_doubt<'a>(log: &'a [u8], end: SectorNumber, waiting: &'a [u8]) -> Doubt
+fn find_doubt<'a>(log: &'a [u8], end: SectorNumber, waiting: &'a [u8]) -> Option<SectorNumber>
     requires { end.0 ≤ sectors (length log.now) }
     ensures { result ≡ doubt_of (joined end.0 log.now waiting.now) }
 {
     let why = lookup::why_absent(log, end, waiting);
     if let Refusal::NotKnown(n) = why {
-        return Doubt::At(n);
+        return Some(n);
     }
-    Doubt::Clear
+    None
 }
 
 // All that is known, learned from any bytes: what a server does when it opens a log, and after whatever else changed one.

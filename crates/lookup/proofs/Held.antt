@@ -17,12 +17,10 @@ use Rattle.block.proofs.Facts.{valid_facts, inside}
 use Rattle.block.proofs.Sound.{sound-reads, sound-bytes}
 use Rattle.block.proofs.Apart.{sound-used}
 use Rattle.reader.specs.Reader.{placed}
-use Rattle.reader.specs.declared.Place.{Place}
-use Rattle.reader.specs.declared.Place.TheVariants.{At}
 use Rattle.reader.proofs.Placed.{placed-some}
-use Rattle.sector_log.specs.declared.Look.TheVariants.{Found, Refused}
 use Rattle.sector_log.specs.LookUp.{held, absence, look_up, empty_row}
 use Rattle.sector_log.proofs.First.{first-sound}
+use Rattle.std.specs.Prelude.{Some, Ok, Err, Option as Optional}
 
 -- a row's bytes are those in the log at its place, in its used part, and no more than the longest block has
 pub record Stands (log : Bytes) (r : Row) : Type 0 where
@@ -76,7 +74,7 @@ module _ {log : Bytes} {o : Option Row} {b : Block} (F : FoundAt log o b) where
   found-bytes = F.stands.bytes-there ∙ ap (bytes_of log) (sym F.place-of-row)
 
 -- by the place that was told
-pub placed-found : {log : Bytes} {o : Option Row} {p : Place} {b : Block} → ((r : Row) → o ≡ some r → Stands log r) → p ≡ placed o → p ≡ At b → FoundAt log o b
+pub placed-found : {log : Bytes} {o : Option Row} {p : Optional Block} {b : Block} → ((r : Row) → o ≡ some r → Stands log r) → p ≡ placed o → p ≡ Some b → FoundAt log o b
 placed-found {log} {o} {p} {b} f e z = let q = placed-some o p b e z in record { row = q.0; is_held = q.1; place-of-row = q.2; stands = f q.0 q.1 }
 
 -- a row that is held and not longer than a count
@@ -86,26 +84,26 @@ pub record HeldWithin (o : Option Row) (count : ℕ) (r : Row) : Type 0 where
 
 -- the answer of a look-up, by what is held
 module _ (log : Bytes) (o : Option Row) (why : Refusal) where
-  pub answer-found : ((r : Row) → o ≡ some r → Stands log r) → (b : Block) → on o (Refused why) (λ (r : Row). Found (place_of r)) ≡ Found b → FoundAt log o b
+  pub answer-found : ((r : Row) → o ≡ some r → Stands log r) → (b : Block) → on o (Err why) (λ (r : Row). Ok (place_of r)) ≡ Ok b → FoundAt log o b
   answer-found f b e = go o refl e
     where
-      go : (x : Option Row) → o ≡ x → on x (Refused why) (λ (r : Row). Found (place_of r)) ≡ Found b → FoundAt log o b
+      go : (x : Option Row) → o ≡ x → on x (Err why) (λ (r : Row). Ok (place_of r)) ≡ Ok b → FoundAt log o b
       go none q d = let y : ◌≡◌ {A = ℕ} 0 1 = cc in absurd (omega arith)
       go (some r) q d = record { row = r; is_held = q; place-of-row = cc; stands = f r q }
 
-  pub answer-absent : (w : Refusal) → on o (Refused why) (λ (r : Row). Found (place_of r)) ≡ Refused w → (o ≡ none) × (why ≡ w)
+  pub answer-absent : (w : Refusal) → on o (Err why) (λ (r : Row). Ok (place_of r)) ≡ Err w → (o ≡ none) × (why ≡ w)
   answer-absent w e = go o refl e
     where
-      go : (x : Option Row) → o ≡ x → on x (Refused why) (λ (r : Row). Found (place_of r)) ≡ Refused w → (o ≡ none) × (why ≡ w)
+      go : (x : Option Row) → o ≡ x → on x (Err why) (λ (r : Row). Ok (place_of r)) ≡ Err w → (o ≡ none) × (why ≡ w)
       go none q d = (q, cc)
       go (some r) q d = let y : ◌≡◌ {A = ℕ} 0 1 = cc in absurd (omega arith)
 
 -- by scan
 module _ (log : Bytes) (t : ℕ) (s : Bytes) where
-  pub look_found : (b : Block) → look_up log t s ≡ Found b → FoundAt log (held log t s) b
+  pub look_found : (b : Block) → look_up log t s ≡ Ok b → FoundAt log (held log t s) b
   unfolding look_up
   look_found b e = answer-found log (held log t s) (absence log) (held-stands log t s) b e
 
-  pub look_absent : (w : Refusal) → look_up log t s ≡ Refused w → (held log t s ≡ none) × (absence log ≡ w)
+  pub look_absent : (w : Refusal) → look_up log t s ≡ Err w → (held log t s ≡ none) × (absence log ≡ w)
   unfolding look_up
   look_absent w e = answer-absent log (held log t s) (absence log) w e

@@ -6,22 +6,21 @@ ghost use Rattle.block.specs.Log.{sectors, Alike, joined};
 ghost use Rattle.sector_log.specs.Parts.{tape};
 ghost use Rattle.sector_log.specs.LookUp.{look_up, counted, look_number, look_up_asked};
 
+use block::Block;
 pub use doubt::why_absent;
 pub use log_length::{are_allowed, is_allowed};
-use reader::Place;
 use refusal::Refusal;
 pub use score_scan::find_held;
 use sector::SECTOR;
-use sector_log::Look;
 use sector_number::SectorNumber;
 
 // The number of a look-up: 0 for a block that is found.
-pub fn number(look: Look) -> u8
+pub fn number(look: Result<Block, Refusal>) -> u8
     ensures { result ≡ look_number look }
 {
     match look {
-        Look::Found(_) => 0,
-        Look::Refused(why) => refusal::number(why),
+        Ok(_) => 0,
+        Err(why) => refusal::number(why),
     }
 }
 
@@ -45,15 +44,15 @@ pub fn look_up<'a>(
     waiting: &'a [u8],
     kind: u8,
     score: &[u8],
-) -> Look
+) -> Result<Block, Refusal>
     requires { (end.0 ≤ sectors (length log.now)) × (length score.now ≡ 20) }
     ensures { result ≡ look_up (joined end.0 log.now waiting.now) kind score.now }
 {
     let place = find_held(log, end, waiting, kind, score);
-    let Place::At(b) = place else {
-        return Look::Refused(why_absent(log, end, waiting));
+    let Some(b) = place else {
+        return Err(why_absent(log, end, waiting));
     };
-    Look::Found(b)
+    Ok(b)
 }
 
 // Look-up of a block that must not be longer than count. The refusal of a missing one is handed on.
@@ -64,29 +63,31 @@ pub fn fetch<'a>(
     kind: u8,
     score: &[u8],
     count: usize,
-) -> Look
+) -> Result<Block, Refusal>
     requires { (end.0 ≤ sectors (length log.now)) × (length score.now ≡ 20) }
     ensures { result ≡ counted count (look_up (joined end.0 log.now waiting.now) kind score.now) }
 {
-    let look = look_up(log, end, waiting, kind, score);
-    let Look::Found(b) = look else {
-        return look;
-    };
+    let b = look_up(log, end, waiting, kind, score)?;
     if count < b.size {
-        return Look::Refused(Refusal::OverCount);
+        return Err(Refusal::OverCount);
     }
-    Look::Found(b)
+    Ok(b)
 }
 
 // The public look-up: any log, waiting part, type and score.
-pub fn ask<'a>(log: &'a [u8], waiting: &'a [u8], kind: u8, score: &[u8; 20]) -> Look
+pub fn ask<'a>(
+    log: &'a [u8],
+    waiting: &'a [u8],
+    kind: u8,
+    score: &[u8; 20],
+) -> Result<Block, Refusal>
     ensures { result ≡ look_up_asked log.now waiting.now kind score.now }
 {
     if !are_allowed(log.len(), waiting.len()) {
-        return Look::Refused(Refusal::LogLength);
+        return Err(Refusal::LogLength);
     }
     if !kind::is_lawful(kind) {
-        return Look::Refused(Refusal::BlockType);
+        return Err(Refusal::BlockType);
     }
     let end = border(log, waiting);
     look_up(log, end, waiting, kind, score)

@@ -6,16 +6,15 @@ use native.Mathlib.Omega.{arith}
 use lib.ListN.{length, get_or, take, drop, set, length-append}
 use lib.Seq.{drop-cons, length-take-le}
 use Rattle.buffer.specs.Bytes.{Bytes, put}
-use Rattle.word.specs.Number.{digits, be_bytes}
-use Rattle.word.proofs.NumberLaws.{length_digits}
-use Rattle.word.proofs.HexLaws.{hex-length}
+use Rattle.digits.specs.Number.{digits, be_bytes}
+use Rattle.digits.proofs.NumberLaws.{length_digits}
+use Rattle.hexadecimal.proofs.HexLaws.{hex-length}
 use Rattle.sector_number.specs.declared.SectorNumber.{SectorNumber}
 use Rattle.refusal.specs.declared.Refusal.{Refusal}
-use Rattle.refusal.specs.declared.Doubt.{Doubt}
-use Rattle.refusal.specs.declared.Doubt.TheVariants.{At, Nowhere}
 use Rattle.refusal.specs.Number.{number_of, doubt_of}
 use Rattle.message.specs.Reply.{reply, answered, why, place, error_text, error_reply}
 use Rattle.buffer.proofs.Put.{put-front-put}
+use Rattle.std.specs.Prelude.{Some, None, Option as Optional}
 
 -- size, type and tag of a reply whose body has n bytes
 abbrev pub head : ℕ → ℕ → ℕ → Bytes
@@ -48,23 +47,23 @@ size_type_tag buffer x n type tag h e =
 
 -- ---- the text of an error
 
-module _ (buffer : Bytes) (tag n : ℕ) (w : Refusal) (d : Doubt) (number : n ≡ number_of w) (doubt : d ≡ doubt_of w) where
-  text-told : (x : Doubt) → d ≡ x → why n ++ place x ≡ error_text w
-  text-told x e = ap₂ (λ (k : ℕ) (y : Doubt). why k ++ place y) number (sym e ∙ doubt)
+module _ (buffer : Bytes) (tag n : ℕ) (w : Refusal) (d : Optional SectorNumber) (number : n ≡ number_of w) (doubt : d ≡ doubt_of w) where
+  text-told : (x : Optional SectorNumber) → d ≡ x → why n ++ place x ≡ error_text w
+  text-told x e = ap₂ (λ (k : ℕ) (y : Optional SectorNumber). why k ++ place y) number (sym e ∙ doubt)
 
-  body_told : (k : ℕ) (x : Doubt) → d ≡ x → k ≡ length (why n ++ place x)
+  body_told : (k : ℕ) (x : Optional SectorNumber) → d ≡ x → k ≡ length (why n ++ place x)
       → answered buffer (reply 1 tag (0 ∷ k ∷ (why n ++ place x))) ≡ answered buffer (error_reply tag w)
   body_told k x e l =
       ap (λ (i : ℕ). answered buffer (reply 1 tag (0 ∷ i ∷ (why n ++ place x)))) l
       ∙ ap (λ (t : Bytes). answered buffer (reply 1 tag (0 ∷ length t ∷ t))) (text-told x e)
 
   -- with a sector
-  pub error_doubt : (s : SectorNumber) (body : Bytes) → d ≡ At s → body ≡ 0 ∷ 18 ∷ (why n ++ place (At s))
+  pub error_doubt : (s : SectorNumber) (body : Bytes) → d ≡ Some s → body ≡ 0 ∷ 18 ∷ (why n ++ place (Some s))
       → answered buffer (reply 1 tag body) ≡ answered buffer (error_reply tag w)
   error_doubt s body e b =
       ap (λ (x : Bytes). answered buffer (reply 1 tag x)) b
-      ∙ body_told 18 (At s) e (omega (arith, hex-length 8 s.0))
+      ∙ body_told 18 (Some s) e (omega (arith, hex-length 8 s.0))
 
   -- without one
-  pub error_plain : d ≡ Nowhere → answered buffer (reply 1 tag (0 ∷ 6 ∷ why n)) ≡ answered buffer (error_reply tag w)
-  error_plain e = body_told 6 Nowhere e refl
+  pub error_plain : d ≡ None → answered buffer (reply 1 tag (0 ∷ 6 ∷ why n)) ≡ answered buffer (error_reply tag w)
+  error_plain e = body_told 6 None e refl

@@ -7,15 +7,14 @@ use native.Mathlib.Omega.{arith}
 use lib.Dec.{leb, eqb}
 use borrow.Author.Tests.{leb-true, eqb-true}
 use lib.ListN.{length, get_or, take, drop, length-take, length-drop}
+use Rattle.std.specs.Prelude.{Option, Some, None}
 use Rattle.bedrock.proofs.Choices.{and-true, cond_ind}
 use Rattle.buffer.specs.Bytes.{Bytes, zeros}
 use Rattle.buffer.proofs.Bytes.{small_get_d, small-take, small-drop}
-use Rattle.word.specs.Number.{be_number, small}
-use Rattle.word.proofs.NumberLaws.{value_lt}
+use Rattle.digits.specs.Number.{be_number, small}
+use Rattle.digits.proofs.NumberLaws.{value_lt}
 use Rattle.message.specs.declared.Request.{Request}
 use Rattle.message.specs.declared.Request.TheVariants.{Ping, Hello, Goodbye, Read, Write, Sync, Unknown, Ill}
-use Rattle.field.specs.declared.Next.{Next}
-use Rattle.field.specs.declared.Next.TheVariants.{At, Bad}
 use Rattle.field.specs.Field.{hello_end}
 use Rattle.message.specs.Message.{framed, type_of, exactly, score_of, read_of, write_of, request_of}
 
@@ -41,7 +40,7 @@ framed-head m e =
 -- what a message that asks q looks like
 abbrev pub Asks : Bytes → Request → Type 0
 Asks m Ping = length m ≡ 4
-Asks m Hello = hello_end m ≡ At (length m)
+Asks m Hello = hello_end m ≡ Some (length m)
 Asks m Goodbye = length m ≡ 4
 Asks m (Read k c) = (length m ≡ 28) × (k ≡ get_or m 24 0) × (c ≡ be_number (take 2 (drop 26 m)))
 Asks m (Write k) = (8 ≤ length m) × (k ≡ get_or m 4 0)
@@ -49,12 +48,12 @@ Asks m Sync = length m ≡ 4
 Asks m Unknown = Unit
 Asks m Ill = Unit
 
-exactly-asks : (m : Bytes) (n : Next) (q : Request) → (n ≡ At (length m) → Asks m q) → Asks m (exactly m n q)
+exactly-asks : (m : Bytes) (n : Option ℕ) (q : Request) → (n ≡ Some (length m) → Asks m q) → Asks m (exactly m n q)
 unfolding exactly
-exactly-asks m Bad q f = tt
-exactly-asks m (At at) q f = cond_ind (Asks m) (eqb at (length m)) q Ill (λ t. f (ap At (eqb-true at (length m) t))) (λ _. tt)
+exactly-asks m None q f = tt
+exactly-asks m (Some at) q f = cond_ind (Asks m) (eqb at (length m)) q Ill (λ t. f (ap Some (eqb-true at (length m) t))) (λ _. tt)
 
-empty : (m : Bytes) → At 4 ≡ At (length m) → length m ≡ 4
+empty : (m : Bytes) → Some 4 ≡ Some (length m) → length m ≡ 4
 empty m e = cc
 
 read-asks : (m : Bytes) → Asks m (read_of m)
@@ -72,12 +71,12 @@ write-asks m =
 pub request-asks : (m : Bytes) → Asks m (request_of m)
 unfolding request_of
 request-asks m =
-    cond_ind (Asks m) (eqb (type_of m) 2) _ _ (λ _. exactly-asks m (At 4) Ping (empty m))
+    cond_ind (Asks m) (eqb (type_of m) 2) _ _ (λ _. exactly-asks m (Some 4) Ping (empty m))
     (λ _. cond_ind (Asks m) (eqb (type_of m) 4) _ _ (λ _. exactly-asks m (hello_end m) Hello (λ e. e))
-    (λ _. cond_ind (Asks m) (eqb (type_of m) 6) _ _ (λ _. exactly-asks m (At 4) Goodbye (empty m))
+    (λ _. cond_ind (Asks m) (eqb (type_of m) 6) _ _ (λ _. exactly-asks m (Some 4) Goodbye (empty m))
     (λ _. cond_ind (Asks m) (eqb (type_of m) 12) _ _ (λ _. read-asks m)
     (λ _. cond_ind (Asks m) (eqb (type_of m) 14) _ _ (λ _. write-asks m)
-    (λ _. cond_ind (Asks m) (eqb (type_of m) 16) _ _ (λ _. exactly-asks m (At 4) Sync (empty m)) (λ _. tt))))))
+    (λ _. cond_ind (Asks m) (eqb (type_of m) 16) _ _ (λ _. exactly-asks m (Some 4) Sync (empty m)) (λ _. tt))))))
 
 pub asks : (m : Bytes) (q : Request) → request_of m ≡ q → Asks m q
 asks m q e = rw e at (request-asks m)

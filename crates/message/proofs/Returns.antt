@@ -8,13 +8,12 @@ use lib.Dec.{eqb}
 use borrow.Author.Tests.{le-leb, lt-leb, eq-eqb, ne_eqb}
 use lib.ListN.{length, get_or, take, drop, length-drop, drop_of_length-le}
 use lib.Seq.{take-nil}
+use Rattle.std.specs.Prelude.{Option, Some, None}
 use Rattle.buffer.specs.Bytes.{Bytes, same, zeros}
 use Rattle.buffer.proofs.Parts.{take_upto}
-use Rattle.word.specs.Number.{be_number}
+use Rattle.digits.specs.Number.{be_number}
 use Rattle.message.specs.declared.Request.{Request}
 use Rattle.message.specs.declared.Request.TheVariants.{Read, Write, Unknown, Ill}
-use Rattle.field.specs.declared.Next.{Next}
-use Rattle.field.specs.declared.Next.TheVariants.{At, Bad}
 use Rattle.message.specs.Message.{framed, type_of, version_of, exactly, read_of, write_of, request_of}
 
 -- ---- the head
@@ -29,16 +28,16 @@ framed-test m n h e = rw (e, le-leb 4 (length m) h)
 
 -- ---- used up exactly
 
-module _ (m : Bytes) (end : Next) (q : Request) where
-  pub exactly-bad : end ≡ Bad → Ill ≡ exactly m end q
+module _ (m : Bytes) (end : Option ℕ) (q : Request) where
+  pub exactly-bad : end ≡ None → Ill ≡ exactly m end q
   unfolding exactly
   exactly-bad e = rw e
 
-  pub exactly-good : (at : ℕ) → end ≡ At at → at ≡ length m → q ≡ exactly m end q
+  pub exactly-good : (at : ℕ) → end ≡ Some at → at ≡ length m → q ≡ exactly m end q
   unfolding exactly
   exactly-good at e l = rw (e, eq-eqb at (length m) l)
 
-  pub exactly-left : (at : ℕ) → end ≡ At at → (at ≡ length m → ⊥) → Ill ≡ exactly m end q
+  pub exactly-left : (at : ℕ) → end ≡ Some at → (at ≡ length m → ⊥) → Ill ≡ exactly m end q
   unfolding exactly
   exactly-left at e l = rw (e, ne_eqb at (length m) l)
 

@@ -1,11 +1,9 @@
 -- "Messages": how a message's bytes are taken apart.
-use Rattle.std.specs.Prelude.{Bool, cond, ◌&&◌, ℕ, ◌-◌, leb, eqb, length, get_or, take, drop}
+use Rattle.std.specs.Prelude.{Bool, cond, ◌&&◌, Option, Some, None, ℕ, ◌-◌, leb, eqb, length, get_or, take, drop}
 use Rattle.buffer.specs.Bytes.{Bytes, zeros}
-use Rattle.word.specs.Number.{be_number}
+use Rattle.digits.specs.Number.{be_number}
 use Rattle.message.specs.declared.Request.{Request}
 use Rattle.message.specs.declared.Request.TheVariants.{Ping, Hello, Goodbye, Read, Write, Sync, Unknown, Ill}
-use Rattle.field.specs.declared.Next.{Next}
-use Rattle.field.specs.declared.Next.TheVariants.{At, Bad}
 use Rattle.field.specs.Field.{hello_end}
 pub use Rattle.field.specs.Field.{head_length}
 
@@ -24,9 +22,9 @@ abbrev pub pad_allowed : Bytes → Bool
 pad_allowed p = zeros p
 
 -- "A body must be used up exactly"
-unfoldable pub exactly : Bytes → Next → Request → Request
-exactly m Bad q = Ill
-exactly m (At at) q = cond (eqb at (length m)) q Ill
+unfoldable pub exactly : Bytes → Option ℕ → Request → Request
+exactly m None q = Ill
+exactly m (Some at) q = cond (eqb at (length m)) q Ill
 
 abbrev pub version_of : Bytes → Bytes
 version_of m = take (be_number (take 2 (drop head_length m))) (drop 6 m)
@@ -49,9 +47,9 @@ write_of m = cond (leb 8 (length m) && pad_allowed (take 3 (drop 5 m))) (Write (
 -- "ping 2; hello 4; goodbye 6; read 12; write 14; sync 16"; "ping, sync, goodbye: no body"
 unfoldable pub request_of : Bytes → Request
 request_of m =
-    cond (eqb (type_of m) 2) (exactly m (At head_length) Ping)
+    cond (eqb (type_of m) 2) (exactly m (Some head_length) Ping)
     (cond (eqb (type_of m) 4) (exactly m (hello_end m) Hello)
-    (cond (eqb (type_of m) 6) (exactly m (At head_length) Goodbye)
+    (cond (eqb (type_of m) 6) (exactly m (Some head_length) Goodbye)
     (cond (eqb (type_of m) 12) (read_of m)
     (cond (eqb (type_of m) 14) (write_of m)
-    (cond (eqb (type_of m) 16) (exactly m (At head_length) Sync) Unknown)))))
+    (cond (eqb (type_of m) 16) (exactly m (Some head_length) Sync) Unknown)))))

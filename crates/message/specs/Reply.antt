@@ -1,12 +1,11 @@
 -- How replies are put together.
-use Rattle.std.specs.Prelude.{[], ◌∷◌, ◌++◌, ℕ, ◌+◌, ◌/◌, ◌%◌, length}
+use Rattle.std.specs.Prelude.{[], ◌∷◌, ◌++◌, ℕ, ◌+◌, ◌/◌, ◌%◌, length, Some, None, Option as Optional}
 use Rattle.buffer.specs.Bytes.{Bytes, put}
-use Rattle.word.specs.Number.{be_bytes}
-use Rattle.word.specs.Hex.{hex}
+use Rattle.digits.specs.Number.{be_bytes}
+use Rattle.hexadecimal.specs.Hex.{hex}
 use Rattle.refusal.specs.Number.{number_of, doubt_of}
-use Rattle.refusal.specs.declared.Doubt.{Doubt}
-use Rattle.refusal.specs.declared.Doubt.TheVariants.{At, Nowhere}
 use Rattle.refusal.specs.declared.Refusal.{Refusal}
+use Rattle.sector_number.specs.declared.SectorNumber.{SectorNumber}
 
 -- "size[2], type[1], tag[1], body", "Replies echo the tag"
 unfoldable pub reply : ℕ → ℕ → Bytes → Bytes
@@ -17,9 +16,9 @@ abbrev pub why : ℕ → Bytes
 why n = 119 ∷ 104 ∷ 121 ∷ 61 ∷ (48 + n / 10) ∷ (48 + n % 10) ∷ []
 
 -- "The error text for 12 becomes why=12 at= and eight lower-case hex digits, as in why=12 at=0000002a ... All other texts stay"
-abbrev pub place : Doubt → Bytes
-place (At sector) = 32 ∷ 97 ∷ 116 ∷ 61 ∷ hex 8 sector.0
-place Nowhere = []
+abbrev pub place : Optional SectorNumber → Bytes
+place (Some sector) = 32 ∷ 97 ∷ 116 ∷ 61 ∷ hex 8 sector.0
+place None = []
 
 abbrev pub error_text : Refusal → Bytes
 error_text w = why (number_of w) ++ place (doubt_of w)

@@ -1,7 +1,7 @@
 -- Requests put together, with the tag 0.
 use Rattle.std.specs.Prelude.{[], ◌∷◌, ◌++◌, ℕ, ◌+◌, length}
 use Rattle.buffer.specs.Bytes.{Bytes}
-use Rattle.word.specs.Number.{be_bytes}
+use Rattle.digits.specs.Number.{be_bytes}
 
 -- "hello: version[s] uid[s] strength[1] crypto[n] codec[n]": of version "02", all else empty
 abbrev pub hello_message : Bytes

@@ -6,7 +6,6 @@ ghost use Rattle.buffer.specs.Bytes.{same};
 ghost use Rattle.message.specs.Message.{head_length, framed, tag_of, exactly, score_of, read_of, data_of, write_of, request_of, version_of};
 
 pub use field::HEAD;
-use field::Next;
 
 // Where the type and the tag of a message stand, behind its size.
 pub const TYPE: usize = 2;
@@ -48,7 +47,7 @@ pub fn is_framed(m: &[u8]) -> bool
     if m.len() < HEAD {
         return false;
     }
-    let size = word::number::be_number(&m[..TYPE]);
+    let size = digits::be_number(&m[..TYPE]);
     size == (m.len() - 2) as u64
 }
 
@@ -77,10 +76,10 @@ pub fn data_of(m: &[u8]) -> &[u8]
 }
 
 // The request q, if the message ends where its body does.
-fn exactly(m: &[u8], end: Next, q: Request) -> Request
+fn exactly(m: &[u8], end: Option<usize>, q: Request) -> Request
     ensures { result ≡ exactly m.now end q }
 {
-    let Next::At(at) = end else {
+    let Some(at) = end else {
         return Request::Ill;
     };
     if at == m.len() { q } else { Request::Ill }
@@ -98,7 +97,7 @@ fn read_of(m: &[u8]) -> Request
     }
     Request::Read {
         kind: m[24],
-        count: word::number::be_number(&m[26..28]) as usize,
+        count: digits::be_number(&m[26..28]) as usize,
     }
 }
 
@@ -122,12 +121,12 @@ pub fn parse(m: &[u8]) -> Request
 {
     let kind = m[TYPE];
     match kind {
-        2 => exactly(m, Next::At(HEAD), Request::Ping),
+        2 => exactly(m, Some(HEAD), Request::Ping),
         4 => exactly(m, field::hello_end(m), Request::Hello),
-        6 => exactly(m, Next::At(HEAD), Request::Goodbye),
+        6 => exactly(m, Some(HEAD), Request::Goodbye),
         12 => read_of(m),
         14 => write_of(m),
-        16 => exactly(m, Next::At(HEAD), Request::Sync),
+        16 => exactly(m, Some(HEAD), Request::Sync),
         _ => Request::Unknown,
     }
 }
@@ -139,7 +138,7 @@ pub fn is_version(m: &[u8]) -> bool
     if m.len() < 6 {
         return false;
     }
-    let n = word::number::be_number(&m[HEAD..6]) as usize;
+    let n = digits::be_number(&m[HEAD..6]) as usize;
     let end = if m.len() - 6 < n { m.len() } else { 6 + n };
     buffer::equal(&m[6..end], b"02")
 }

@@ -10,7 +10,6 @@ use Rattle.refusal.specs.declared.Refusal.{Refusal}
 use Rattle.refusal.specs.declared.Refusal.TheVariants.{Nest, Spent}
 use Rattle.block.specs.declared.Block.{Block}
 use Rattle.block.specs.Log.{sectors, joined, bytes_of}
-use Rattle.sector_log.specs.declared.Look.TheVariants as look
 use Rattle.entry.specs.declared.Entry.{Entry}
 use Rattle.visit.proofs.Visits.{in_both}
 use Rattle.pair.specs.Opened.{opened, place_at}
@@ -20,6 +19,7 @@ use Rattle.comparison.specs.Compared.{none, refused, one_unit}
 use Rattle.comparison.specs.Compare.{spending, pair_by, compare_blocks, compare_below}
 use Rattle.open_pair.specs.Lies.{Lies}
 use Rattle.open_pair.specs.Opens.{OfBlocks}
+use Rattle.std.specs.Prelude.{Err}
 
 -- ---- what is spent
 
@@ -60,11 +60,11 @@ module _ (log : Bytes) (e : Entry) (level nest : ℕ) (s t : Bytes) (left : ℕ)
             → OfBlocks log e level nest s t left (one_unit v)
         spends v k = by_pair (one_unit v) (λ g h. rw q (ap one_unit (k g h) ∙ sym (one-spent nest left _ n p)))
 
-        pub first-not-read : (w : Refusal) → place_at log e level s ≡ look.Refused w → OfBlocks log e level nest s t left (one_unit (refused w))
+        pub first-not-read : (w : Refusal) → place_at log e level s ≡ Err w → OfBlocks log e level nest s t left (one_unit (refused w))
         first-not-read w d = spends (refused w) (λ g h. refused-at log e level s w d refused _)
 
         module _ {x : Block} (O : OpenedAt log e level s x) where
-          pub second-not-read : (w : Refusal) → place_at log e level t ≡ look.Refused w → OfBlocks log e level nest s t left (one_unit (refused w))
+          pub second-not-read : (w : Refusal) → place_at log e level t ≡ Err w → OfBlocks log e level nest s t left (one_unit (refused w))
           second-not-read w d =
               spends (refused w)
               (λ g h. refused-at log e level t w d refused _ ∙ goes_on_lem O refused (λ b. opened log e level t refused (λ c. compare_below g log e level nest b c (left - 1))))

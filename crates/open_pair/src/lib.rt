@@ -12,9 +12,7 @@ use block::Block;
 use comparison::Compared;
 use entry::Entry;
 use refusal::Refusal;
-use sector_log::Look;
 use sector_number::SectorNumber;
-use visit::End;
 
 // What opening a pair gives: what the comparison of the pair is, or where its two blocks are.
 #[derive(Clone, Copy)]
@@ -30,7 +28,7 @@ pub fn refused(why: Refusal) -> Compared
     Compared {
         count: 0,
         units: 0,
-        end: End::Refused(why),
+        end: Err(why),
     }
 }
 
@@ -67,7 +65,7 @@ pub fn open<'a>(
         return Pair::Ended(Compared {
             count: 0,
             units: 0,
-            end: End::Done,
+            end: Ok(()),
         });
     }
     if 16 < nest {
@@ -78,13 +76,13 @@ pub fn open<'a>(
     }
     let one = pair::read_block(log, end, waiting, e, s, level);
     match one {
-        Look::Found(b) => {
+        Ok(b) => {
             let other = pair::read_block(log, end, waiting, e, t, level);
             match other {
-                Look::Found(c) => Pair::Both(b, c),
-                Look::Refused(why) => Pair::Ended(one_unit(refused(why))),
+                Ok(c) => Pair::Both(b, c),
+                Err(why) => Pair::Ended(one_unit(refused(why))),
             }
         }
-        Look::Refused(why) => Pair::Ended(one_unit(refused(why))),
+        Err(why) => Pair::Ended(one_unit(refused(why))),
     }
 }

@@ -1,14 +1,13 @@
 -- One block of a pair, "read and checked .. as in the walk".
-use Rattle.std.specs.Prelude.{Bool, not, cond, ◌&&◌, ℕ, ◌%◌, eqb, ltb, length}
+use Rattle.std.specs.Prelude.{Bool, not, cond, ◌&&◌, ℕ, ◌%◌, eqb, ltb, length, Ok, Err, Result}
 use Rattle.bedrock.specs.Choice.{on}
 use Rattle.buffer.specs.Bytes.{Bytes}
 use Rattle.refusal.specs.declared.Refusal.{Refusal}
 use Rattle.refusal.specs.declared.Refusal.TheVariants.{OverCount, Pointers}
-use Rattle.sector_log.specs.declared.Look.{Look}
-use Rattle.sector_log.specs.declared.Look.TheVariants.{Found, Refused}
 use Rattle.sector_log.specs.LookUp.{held, absence, look_up, counted}
 use Rattle.entry.specs.declared.Entry.{Entry}
 use Rattle.tree.specs.Tree.{type_at, count_at}
+use Rattle.block.specs.declared.Block.{Block}
 
 -- 18 is "pointer block not a multiple of 20"
 abbrev pub ragged : ℕ → ℕ → Bool
@@ -22,9 +21,9 @@ opened log e level score refused next =
     (cond (ragged level (length r.bytes)) (refused Pointers) (next r.bytes)))
 
 -- what it hands back in the program: its place, or the refusal
-abbrev pub whole_scores : ℕ → Look → Look
-whole_scores level (Found b) = cond (ragged level b.size) (Refused Pointers) (Found b)
-whole_scores level (Refused w) = Refused w
+abbrev pub whole_scores : ℕ → Result Block Refusal → Result Block Refusal
+whole_scores level (Ok b) = cond (ragged level b.size) (Err Pointers) (Ok b)
+whole_scores level (Err w) = Err w
 
-unfoldable pub place_at : Bytes → Entry → ℕ → Bytes → Look
+unfoldable pub place_at : Bytes → Entry → ℕ → Bytes → Result Block Refusal
 place_at log e level score = whole_scores level (counted (count_at e level) (look_up log (type_at e level) score))

@@ -5,9 +5,9 @@ ghost use Rattle.std.specs.Prelude.{◌≡◌, ◌≤◌, length};
 ghost use Rattle.block.specs.Log.{sectors, joined};
 ghost use Rattle.pair.specs.Opened.{place_at};
 
+use block::Block;
 use entry::Entry;
 use refusal::Refusal;
-use sector_log::Look;
 use sector_number::SectorNumber;
 
 // A block of an entry at a level: look-up with its count, and whole scores in a pointer block.
@@ -18,25 +18,22 @@ pub fn read_block<'a>(
     e: Entry,
     score: &[u8],
     level: usize,
-) -> Look
+) -> Result<Block, Refusal>
     requires { (end.0 ≤ sectors (length log.now)) × (length score.now ≡ 20) × (level ≤ 7) }
     ensures { result ≡ place_at (joined end.0 log.now waiting.now) e level score.now }
 {
-    let look = lookup::fetch(
+    let b = lookup::fetch(
         log,
         end,
         waiting,
         tree::type_at(e, level),
         score,
         tree::count_at(e, level),
-    );
-    let Look::Found(b) = look else {
-        return look;
-    };
+    )?;
     if level != 0 {
         if b.size % 20 != 0 {
-            return Look::Refused(Refusal::Pointers);
+            return Err(Refusal::Pointers);
         }
     }
-    look
+    Ok(b)
 }

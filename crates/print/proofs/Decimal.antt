@@ -8,8 +8,8 @@ use lib.Dec.{ltb}
 use borrow.Author.Tests.{ltb-false, lt-ltb, le-ltb}
 use lib.ListN.{length, get_or, length-append, get_or-append}
 use Rattle.buffer.specs.Bytes.{Bytes}
-use Rattle.word.specs.Number.{value_from}
-use Rattle.word.proofs.NumberLaws.{value-append}
+use Rattle.digits.specs.Number.{value_from}
+use Rattle.digits.proofs.NumberLaws.{value-append}
 use Rattle.print.specs.Text.{digits, decimal}
 
 -- places beyond enough change nothing

@@ -11,7 +11,7 @@ use Rattle.bedrock.proofs.Choices.{cond_ind}
 use Rattle.buffer.specs.Bytes.{Bytes}
 use Rattle.buffer.proofs.Bytes.{same_refl}
 use Rattle.sha1_digest.specs.Sha1.{sha1_of}
-use Rattle.word.specs.Number.{small}
+use Rattle.digits.specs.Number.{small}
 use Rattle.message.specs.Message.{data_of, request_of}
 use Rattle.message.specs.declared.Request.TheVariants.{Write}
 use Rattle.block.specs.Block.{Row}

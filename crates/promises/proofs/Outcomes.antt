@@ -12,7 +12,7 @@ use borrow.Author.Tests.{ltb-false, eqb-true, not-false}
 use Rattle.bedrock.proofs.Choices.{cond_ind, on_ind}
 use Rattle.buffer.specs.Bytes.{Bytes, same}
 use Rattle.buffer.proofs.Bytes.{small-drop}
-use Rattle.word.specs.Number.{small}
+use Rattle.digits.specs.Number.{small}
 use Rattle.sha1_digest.specs.Sha1.{sha1_of}
 use Rattle.refusal.specs.Number.{number_of}
 use Rattle.refusal.specs.declared.Refusal.TheVariants.{NotHeld, NotKnown, Clash}
@@ -25,7 +25,7 @@ use Rattle.block.specs.Log.{used}
 use Rattle.sector_log.specs.LookUp as look
 use Rattle.sector_log.specs.Store as stores
 use Rattle.sector_log.specs.declared.Stored.{Stored}
-use Rattle.sector_log.specs.declared.Stored.TheVariants.{Duplicate, Refused}
+use Rattle.sector_log.specs.declared.Stored.TheVariants.{Duplicate}
 use Rattle.sector_log.specs.Parts.{Lent, one_log, room_for, can_settle}
 use Rattle.sector_log.proofs.Allowed.{row-valid}
 use Rattle.request.specs.Step as steps
@@ -35,6 +35,8 @@ use Rattle.promises.specs.Corollaries.{AtMostOne, alike, adds, settles, AppendsA
 use Rattle.demands.proofs.LentLaws.{room-one}
 use Rattle.demands.proofs.TellAdds.{row_of, date_or_none, log-allowed-of}
 use Rattle.demands.proofs.Seen.{stored_as, kept, held-zero, empty-score}
+use Rattle.std.specs.Prelude.{Ok, Err, Result}
+use Rattle.refusal.specs.declared.Refusal.{Refusal}
 
 module _ {L : Lent} where
   plain : {o : steps.Outcome} → o.lent ≡ L → (o.number ≡ 11 → ⊥) → AtMostOne L o
@@ -71,10 +73,10 @@ module _ (L : Lent) (m : Bytes) (date : Option Bytes) (buffer : Bytes) where
   held_ways : (t : ℕ) (d : Bytes) (r : Row) → AtMostOne L (kept m buffer (stored_as L (steps.date_of date) t d (some r)))
   held_ways t d r = go (same r.bytes d)
     where
-      unchanged : Stored → stores.AfterStore
+      unchanged : Result Stored Refusal → stores.AfterStore
       unchanged s = stores.after_store (stores.receipt (sha1_of d) s) L
 
-      go : (b : Bool) → AtMostOne L (kept m buffer (cond b (unchanged (Duplicate (record { 0 = r.first }))) (unchanged (Refused Clash))))
+      go : (b : Bool) → AtMostOne L (kept m buffer (cond b (unchanged (Ok (Duplicate (record { 0 = r.first })))) (unchanged (Err Clash))))
       go true = plain refl (λ e. omega arith)
       go false = plain refl (λ e. omega arith)
 

@@ -10,21 +10,20 @@ use Rattle.block.specs.Log.{sound}
 use Rattle.block.proofs.Facts.{valid_facts, label-bounds}
 use Rattle.block.proofs.Sound.{sound-reads}
 use Rattle.reader.specs.Reader.{placed}
-use Rattle.reader.specs.declared.Place.{Place}
-use Rattle.reader.specs.declared.Place.TheVariants.{At, Nowhere}
 use Rattle.kind.specs.Kind.{longest}
+use Rattle.std.specs.Prelude.{Some, None, Option as Optional}
 
 -- where a block stands
-pub placed-some : (o : Option Row) (p : Place) (b : Block) → p ≡ placed o → p ≡ At b → (r : Row) × (o ≡ some r) × (b ≡ place_of r)
-placed-some none p b e z = let q : Nowhere ≡ At b = sym e ∙ z in let y : ◌≡◌ {A = ℕ} 0 1 = cc in absurd (omega arith)
-placed-some (some r) p b e z = let q : At (place_of r) ≡ At b = sym e ∙ z in (r, refl, cc)
+pub placed-some : (o : Option Row) (p : Optional Block) (b : Block) → p ≡ placed o → p ≡ Some b → (r : Row) × (o ≡ some r) × (b ≡ place_of r)
+placed-some none p b e z = let q : None ≡ Some b = sym e ∙ z in let y : ◌≡◌ {A = ℕ} 0 1 = cc in absurd (omega arith)
+placed-some (some r) p b e z = let q : Some (place_of r) ≡ Some b = sym e ∙ z in (r, refl, cc)
 
-pub placed-none : (o : Option Row) (p : Place) → p ≡ placed o → p ≡ Nowhere → o ≡ none
+pub placed-none : (o : Option Row) (p : Optional Block) → p ≡ placed o → p ≡ None → o ≡ none
 placed-none none p e z = refl
-placed-none (some r) p e z = let q : At (place_of r) ≡ Nowhere = sym e ∙ z in let y : ◌≡◌ {A = ℕ} 0 1 = cc in absurd (omega arith)
+placed-none (some r) p e z = let q : Some (place_of r) ≡ None = sym e ∙ z in let y : ◌≡◌ {A = ℕ} 0 1 = cc in absurd (omega arith)
 
 -- the label of a sound block leaves room for a payload, and the block is not longer than the longest
-pub block-bounds : (log : Bytes) (n : ℕ) (p : Place) (b : Block) → p ≡ placed (sound log n) → p ≡ At b → (b.label < 499) × (b.size ≤ longest)
+pub block-bounds : (log : Bytes) (n : ℕ) (p : Optional Block) (b : Block) → p ≡ placed (sound log n) → p ≡ Some b → (b.label < 499) × (b.size ≤ longest)
 block-bounds log n p b e z =
     let r = placed-some (sound log n) p b e z in
     let v = (sound-reads log n r.0 r.1).0 in

@@ -8,18 +8,10 @@ ghost use Rattle.block.specs.Log.{sectors, at, joined, sound_as, sound};
 ghost use Rattle.reader.specs.Reader.{placed};
 
 use block::Block;
-pub use block_bytes::{copy_out, same_bytes};
+pub use block_tested::{copy_out, same_bytes, sector_at, used_part};
 use kind::LONGEST;
 use sector::{KIND, KIND_WIDTH, LABEL, SCORE, SCORE_WIDTH, SECTOR, SIZE, SIZE_WIDTH};
 use sector_number::SectorNumber;
-pub use two_runs::{sector_at, used_part};
-
-// Where a block stands, if one does.
-#[derive(Clone, Copy)]
-pub enum Place {
-    At(Block),
-    Nowhere,
-}
 
 // How many sectors the eight digits of a label's place can name.
 const PLACES: usize = 4294967296;
@@ -34,36 +26,36 @@ fn sound_behind<'a>(
     first: SectorNumber,
     kind: u8,
     score: &[u8],
-) -> Place
+) -> Option<Block>
     requires { (end.0 ≤ sectors (length log.now)) × (first.0 < end.0 + sectors (length waiting.now))
         × (front.now ≡ front_of (date_field (at (joined end.0 log.now waiting.now) first.0))) × (length score.now ≡ 20) }
     ensures { result ≡ placed (sound_as (joined end.0 log.now waiting.now) first.0 kind score.now) }
 {
     let k = front.len();
-    let size = block_tests::field_number(log, end, waiting, first, k, SIZE, SIZE_WIDTH);
+    let size = block_tested::field_number(log, end, waiting, first, k, SIZE, SIZE_WIDTH);
     if size < 1 {
-        return Place::Nowhere;
+        return None;
     }
     if LONGEST < size {
-        return Place::Nowhere;
+        return None;
     }
     if !kind::is_lawful(kind) {
-        return Place::Nowhere;
+        return None;
     }
     let label = k + LABEL;
     let of = block::parts_of(label, size);
     let after = first.0 + of;
     if end.0 + waiting.len() / SECTOR < after {
-        return Place::Nowhere;
+        return None;
     }
     if PLACES < after {
-        return Place::Nowhere;
+        return None;
     }
     let b = Block { first, size, label };
     if !block_tested::passes(log, end, waiting, front, b, kind, score) {
-        return Place::Nowhere;
+        return None;
     }
-    Place::At(b)
+    Some(b)
 }
 
 // Where the block that starts at a sector stands, if it is sound and has this type and score.
@@ -74,11 +66,11 @@ pub fn sound_as<'a>(
     first: SectorNumber,
     kind: u8,
     score: &[u8],
-) -> Place
+) -> Option<Block>
     requires { (end.0 ≤ sectors (length log.now)) × (first.0 < end.0 + sectors (length waiting.now)) × (length score.now ≡ 20) }
     ensures { result ≡ placed (sound_as (joined end.0 log.now waiting.now) first.0 kind score.now) }
 {
-    let s = two_runs::sector_at(log, end, waiting, first);
+    let s = block_tested::sector_at(log, end, waiting, first);
     let k = sector::front_length(s);
     sound_behind(log, end, waiting, &s[..k], first, kind, score)
 }
@@ -89,21 +81,21 @@ pub fn sound_at<'a>(
     end: SectorNumber,
     waiting: &'a [u8],
     first: SectorNumber,
-) -> Place
+) -> Option<Block>
     requires { (end.0 ≤ sectors (length log.now)) × (first.0 < end.0 + sectors (length waiting.now)) }
     ensures { result ≡ placed (sound (joined end.0 log.now waiting.now) first.0) }
 {
-    let s = two_runs::sector_at(log, end, waiting, first);
+    let s = block_tested::sector_at(log, end, waiting, first);
     let k = sector::front_length(s);
-    let kind = block_tests::field_number(log, end, waiting, first, k, KIND, KIND_WIDTH);
+    let kind = block_tested::field_number(log, end, waiting, first, k, KIND, KIND_WIDTH);
     if kind < 1 {
-        return Place::Nowhere;
+        return None;
     }
     let from = k + SCORE;
     let to = from + SCORE_WIDTH;
     let mut score = [0u8; 20];
-    if !word::hex::read_hex_bytes(&mut score, &s[from..to]) {
-        return Place::Nowhere;
+    if !hexadecimal::read_hex_bytes(&mut score, &s[from..to]) {
+        return None;
     }
     sound_behind(log, end, waiting, &s[..k], first, kind as u8, &score)
 }

@@ -18,8 +18,6 @@ use Rattle.block.specs.Log.{sectors, Alike, joined, used, bytes_of}
 use Rattle.block.proofs.Alike.{bytes-alike}
 use Rattle.block.proofs.Joined.{sectors-joined}
 use Rattle.block.proofs.Used.{used_le_sectors}
-use Rattle.sector_log.specs.declared.Look.{Look}
-use Rattle.sector_log.specs.declared.Look.TheVariants.{Found, Refused}
 use Rattle.sector_log.specs.LookUp.{counted}
 use Rattle.sector_log.specs.Parts.{Lent, tape, beside, one_log}
 use Rattle.sector_log.proofs.Counted.{Over, counted-found, counted-refused}
@@ -35,6 +33,7 @@ use Rattle.request.specs.declared.Session.TheVariants.{Greeted}
 use Rattle.request.specs.Step.{Outcome, outcome_of, refused, granted}
 use Rattle.indexed.specs.Indexed.{keeping, read_by}
 use Rattle.reading.specs.Settled.{settled_read}
+use Rattle.std.specs.Prelude.{Ok, Err, Result}
 
 -- ---- a read, by index
 
@@ -44,7 +43,7 @@ module _ (kind count tag : ℕ) (score index : Bytes) (L : Lent) (buffer : Bytes
   read-kind q = rw (sym e ∙ q)
 
   module _ (q : b ≡ true) where
-    read-absent : (w : Refusal) → look_up_by (one_log L) index kind score ≡ Refused w → refused w tag Greeted L buffer ≡ (read_by kind count tag score index L buffer).outcome
+    read-absent : (w : Refusal) → look_up_by (one_log L) index kind score ≡ Err w → refused w tag Greeted L buffer ≡ (read_by kind count tag score index L buffer).outcome
     unfolding read_by
     read-absent w d =
         let a = look_by_absent (one_log L) index kind score w d in
@@ -58,14 +57,14 @@ module _ (kind count tag : ℕ) (score index : Bytes) (L : Lent) (buffer : Bytes
         ap (λ (x : Refusal). refused x tag Greeted L buffer) o.why ∙ rw (sym e ∙ q, s.is_held, z)
 
     -- J is a log with the same sectors, in which the code looks
-    module _ (J : Bytes) (f : Alike J (one_log L)) (l : Look) (g : l ≡ counted count (look_up_by J index kind score)) where
+    module _ (J : Bytes) (f : Alike J (one_log L)) (l : Result Block Refusal) (g : l ≡ counted count (look_up_by J index kind score)) where
       same_look : l ≡ counted count (look_up_by (one_log L) index kind score)
       same_look = g ∙ ap (counted count) (look_up_by_alike J (one_log L) f index kind score)
 
-      pub read-refused : (w : Refusal) → l ≡ Refused w → refused w tag Greeted L buffer ≡ (read_by kind count tag score index L buffer).outcome
+      pub read-refused : (w : Refusal) → l ≡ Err w → refused w tag Greeted L buffer ≡ (read_by kind count tag score index L buffer).outcome
       read-refused w d = ⊎_elim (read-absent w) (read-over w) (counted-refused count (look_up_by (one_log L) index kind score) w (sym same_look ∙ d))
 
-      pub read_found_lem : (b : Block) → l ≡ Found b → granted (read_reply tag (bytes_of J b)) Greeted L buffer ≡ (read_by kind count tag score index L buffer).outcome
+      pub read_found_lem : (b : Block) → l ≡ Ok b → granted (read_reply tag (bytes_of J b)) Greeted L buffer ≡ (read_by kind count tag score index L buffer).outcome
       unfolding read_by
       read_found_lem b d =
           let c = counted-found count (look_up_by (one_log L) index kind score) b (sym same_look ∙ d) in

@@ -15,11 +15,9 @@ ghost use Rattle.reading.specs.Settled.{settled_read};
 ghost use Rattle.indexed.specs.Indexed.{indexed_of, read_by};
 
 use block::Block;
-use reader::Place;
 use refusal::Refusal;
 use request::{Answer, Session};
 use sector::SECTOR;
-use sector_log::Look;
 use sector_number::SectorNumber;
 
 // A read: test 9, the look-up by index among the log's sectors and those that wait, test 13.
@@ -44,8 +42,8 @@ fn read_anywhere<'a>(
     let score = message::score_of(message);
     let look = index_lookup::fetch_by(log, end, waiting, index, kind, score, count);
     match look {
-        Look::Found(b) => answer::answer_read(log, end, waiting, b, tag, reply),
-        Look::Refused(why) => answer::refuse(why, tag, Session::Greeted, reply),
+        Ok(b) => answer::answer_read(log, end, waiting, b, tag, reply),
+        Err(why) => answer::refuse(why, tag, Session::Greeted, reply),
     }
 }
 
@@ -79,7 +77,7 @@ pub fn serve_read<'a>(
     if kind::is_lawful(kind) {
         let score = message::score_of(message);
         let place = settled_lookup::find_settled(log, index, kind, score);
-        if let Place::At(b) = place {
+        if let Some(b) = place {
             return answer_settled(log, b, count, message::tag_of(message), reply);
         }
     }

@@ -12,9 +12,9 @@ use lib.Seq.{drop-drop}
 use Rattle.bedrock.specs.Places.{found_from}
 use Rattle.buffer.specs.Bytes.{Bytes}
 use Rattle.buffer.proofs.Bytes.{same_true}
-use Rattle.word.specs.Hex.{is_hex, hex_value, hex_bytes, read_hex, read_from, read_bytes, Reading, reading, read_hex_bytes}
-use Rattle.hexadecimal.specs.declared.Hex.TheVariants.{Value, Bad}
-use Rattle.word.proofs.HexLaws.{is_hex-hex, is_hex-hex_bytes, hex_value_lt}
+use Rattle.hexadecimal.specs.Hex.{is_hex, hex_value, hex_bytes, read_hex, read_from, read_bytes, Reading, reading, read_hex_bytes}
+use Rattle.std.specs.Option.{unwrap_or}
+use Rattle.hexadecimal.proofs.HexLaws.{is_hex-hex, is_hex-hex_bytes, hex_value_lt}
 use Rattle.sector.specs.Sector.{front_of, date_field, behind, kind_field, score_digits, score_field}
 use Rattle.sector.proofs.Dates.{front-most}
 use Rattle.block.specs.Block.{Row}
@@ -25,26 +25,20 @@ use Rattle.block.proofs.Alike.{sound-alike}
 use Rattle.block.proofs.At.{length_at}
 use Rattle.block.proofs.Sound.{sound-reads, as_reads, as_finds, as_digits, kind-digits}
 use Rattle.reader.specs.Reader.{placed}
-use Rattle.reader.specs.declared.Place.{Place}
-use Rattle.reader.specs.declared.Place.TheVariants.{At, Nowhere}
 use Rattle.sector_log.specs.LookUp.{blocks, log_allowed}
 use Rattle.sector_log.proofs.Blocks.{step-none, one-some}
 use Rattle.lookup.proofs.Outcomes.{placed-some, placed-none}
 use Rattle.refusal.specs.declared.Refusal.TheVariants.{LogLength}
 use Rattle.index.specs.Index.{entered, cleared}
-use Rattle.hint.specs.declared.Rebuilding.TheVariants.{Done, Refused}
 use Rattle.hint.specs.Rebuilt.{entered_all, rebuilt, after_rebuild, rebuilt_asked}
 use Rattle.rebuild.specs.Rebuild.{entered_found}
+use Rattle.std.specs.Prelude.{Some, None, Ok, Err, Option as Optional}
 
 -- ---- digits that are hex
 
-pub kind-read : (s : Bytes) (v : ℕ) → is_hex s ≡ true → Value v ≡ read_hex s → v ≡ hex_value s
+pub kind-read : (s : Bytes) → is_hex s ≡ true → unwrap_or (read_hex s) 0 ≡ hex_value s
 unfolding read_from
-kind-read s v h e = let f : Value v ≡ Value (hex_value s) = rw h at e in cc
-
-pub kind-bad : (s : Bytes) → is_hex s ≡ true → Bad ≡ read_hex s → 0 ≡ hex_value s
-unfolding read_from
-kind-bad s h e = let f : Bad ≡ Value (hex_value s) = rw h at e in let z : ◌≡◌ {A = ℕ} 0 1 = cc in absurd (omega arith)
+kind-read s h = rw h
 
 pub kind_lt : (s : Bytes) → length s ≡ 2 → is_hex s ≡ true → hex_value s < 256
 kind_lt s l h = let e : hex_value s < 16 ^ 2 = rw l at (hex_value_lt s h) in omega arith
@@ -90,14 +84,14 @@ module _ (log : Bytes) (n : ℕ) (r : Row) (e : sound log n ≡ some r) where
 abbrev whole : Bytes → Bytes
 whole log = joined (sectors (length log)) log []
 
-module _ (log : Bytes) (n : ℕ) (p : Place) (e : p ≡ placed (sound (whole log) n)) where
+module _ (log : Bytes) (n : ℕ) (p : Optional Block) (e : p ≡ placed (sound (whole log) n)) where
   place_is : p ≡ placed (sound log n)
   place_is = e ∙ ap placed (sound-alike (whole log) log (alike-whole log) n)
 
-  pub entered-none : (index : Bytes) → p ≡ Nowhere → index ≡ entered_found index (sound log n)
+  pub entered-none : (index : Bytes) → p ≡ None → index ≡ entered_found index (sound log n)
   entered-none index z = let q : sound log n ≡ none = placed-none (sound log n) p place_is z in rw q
 
-  module _ (b : Block) (h : p ≡ At b) (x : Bytes) (w : x ≡ at (whole log) n) where
+  module _ (b : Block) (h : p ≡ Some b) (x : Bytes) (w : x ≡ at (whole log) n) where
     q : x ≡ at log n
     q = w ∙ alike-whole log n
 
@@ -151,10 +145,10 @@ pass_ends log index n m h = let z : m - n ≡ 0 = omega arith in ap (λ (k : ℕ
 -- ---- rebuilding
 
 module _ (log index : Bytes) (a : Bool) (p : a ≡ log_allowed (length log)) where
-  pub rebuild_refused : a ≡ false → after_rebuild (Refused LogLength) index ≡ rebuilt_asked log index
+  pub rebuild_refused : a ≡ false → after_rebuild (Err LogLength) index ≡ rebuilt_asked log index
   unfolding rebuilt_asked
   rebuild_refused q = rw (sym p ∙ q)
 
-  pub rebuild_done : (x y : Bytes) → a ≡ true → x ≡ cleared index → y ≡ entered_all x (blocks log) → after_rebuild Done y ≡ rebuilt_asked log index
+  pub rebuild_done : (x y : Bytes) → a ≡ true → x ≡ cleared index → y ≡ entered_all x (blocks log) → after_rebuild (Ok tt) y ≡ rebuilt_asked log index
   unfolding rebuilt_asked rebuilt
-  rebuild_done x y q e f = ap (after_rebuild Done) (f ∙ ap (λ (z : Bytes). entered_all z (blocks log)) e) ∙ rw (sym p ∙ q)
+  rebuild_done x y q e f = ap (after_rebuild (Ok tt)) (f ∙ ap (λ (z : Bytes). entered_all z (blocks log)) e) ∙ rw (sym p ∙ q)

@@ -2,7 +2,7 @@
 #![tactic(auto)]
 
 ghost use Rattle.std.specs.Prelude.{◌≡◌, true, ◌<◌, length};
-ghost use Rattle.word.specs.Hex.{is_hex, hex_value};
+ghost use Rattle.hexadecimal.specs.Hex.{is_hex, hex_value};
 ghost use Rattle.sector.specs.Sector.{behind, kind_field, score_digits, score_field, sector_length, kind_digits, kind_width};
 ghost use Rattle.block.specs.Log.{sectors, sound};
 ghost use Rattle.sector_log.specs.LookUp.{blocks};
@@ -10,23 +10,16 @@ ghost use Rattle.index.specs.Index.{entered};
 ghost use Rattle.hint.specs.Rebuilt.{entered_all, after_rebuild, rebuilt_asked};
 ghost use Rattle.rebuild.specs.Rebuild.{entered_found};
 
-use hint::Rebuilding;
-use reader::Place;
 use refusal::Refusal;
 use sector::{KIND, KIND_WIDTH, SCORE, SCORE_WIDTH, SECTOR};
 use sector_number::SectorNumber;
-use word::hex::Hex;
 
 // The type that two hex digits name.
 pub fn read_kind(digits: &[u8]) -> u8
     requires { (length digits.now ≡ kind_width) × (is_hex digits.now ≡ true) }
     ensures { result ≡ hex_value digits.now }
 {
-    let h = word::hex::read_hex(digits);
-    match h {
-        Hex::Value(v) => v as u8,
-        Hex::Bad => 0,
-    }
+    hexadecimal::read_hex(digits).unwrap_or(0) as u8
 }
 
 // Enters the block whose first sector is s: its label has the score and the type.
@@ -41,7 +34,7 @@ fn enter_label(s: &[u8], first: SectorNumber, index: &mut [u8])
     let from = k + SCORE;
     let to = from + SCORE_WIDTH;
     let mut score = [0u8; 20];
-    let _ = word::hex::read_hex_bytes(&mut score, &s[from..to]);
+    let _ = hexadecimal::read_hex_bytes(&mut score, &s[from..to]);
     index::enter(index, &score, kind, first);
 }
 
@@ -53,7 +46,7 @@ fn enter_at(log: &[u8], n: SectorNumber, index: &mut [u8])
     let none = [0u8; 0];
     let whole = SectorNumber(log.len() / SECTOR);
     let place = reader::sound_at(log, whole, &none, n);
-    let Place::At(_) = place else {
+    let Some(_) = place else {
         return;
     };
     enter_label(reader::sector_at(log, whole, &none, n), n, index);
@@ -64,21 +57,19 @@ fn enter_all(log: &[u8], index: &mut [u8])
     ensures { index.new ≡ entered_all index.old (blocks log.now) }
 {
     let count = log.len() / SECTOR;
-    let mut n: usize = 0;
-    while n < count {
+    for n in 0..count {
         enter_at(log, SectorNumber(n), index);
-        n += 1;
     }
 }
 
 // Clears the buckets and enters each sound block of any log; on a refusal the index stays.
-pub fn rebuild(log: &[u8], index: &mut [u8]) -> Rebuilding
+pub fn rebuild(log: &[u8], index: &mut [u8]) -> Result<(), Refusal>
     ensures { after_rebuild result index.new ≡ rebuilt_asked log.now index.old }
 {
     if !lookup::is_allowed(log.len()) {
-        return Rebuilding::Refused(Refusal::LogLength);
+        return Err(Refusal::LogLength);
     }
     index::clear(index);
     enter_all(log, index);
-    Rebuilding::Done
+    Ok(())
 }

@@ -7,15 +7,15 @@ use denote.Enum.Declared.{tag_of as variant}
 use Rattle.refusal.specs.declared.Refusal.{Refusal}
 use Rattle.refusal.specs.declared.Refusal.TheVariants.{Frame, Buffer, LogLength, Closed, MessageType, Body, NoHello, Hello, BlockType, DataLength, NotHeld, NotKnown}
 use Rattle.refusal.specs.declared.Refusal.TheVariants.{OverCount, NoRoom, Clash, Entry, Offset, Pointers, Page, Nest, Spent, Pad, Allowance, Date, Card, Query}
-use Rattle.refusal.specs.declared.Doubt.TheVariants.{Nowhere}
 use Rattle.refusal.specs.Number.{doubt_of}
 use Rattle.refusal.specs.contracts.Refusal.{the_type}
+use Rattle.std.specs.Prelude.{None}
 
 -- the places of all variants but the twelfth
 abbrev pub others : List ℕ
 others = 0 ∷ 1 ∷ 2 ∷ 3 ∷ 4 ∷ 5 ∷ 6 ∷ 7 ∷ 8 ∷ 9 ∷ 10 ∷ 12 ∷ 13 ∷ 14 ∷ 15 ∷ 16 ∷ 17 ∷ 18 ∷ 19 ∷ 20 ∷ 21 ∷ 22 ∷ 23 ∷ 24 ∷ 25 ∷ []
 
-pub nowhere : (w : Refusal) → OneOf others (variant the_type w) → Nowhere ≡ doubt_of w
+pub nowhere : (w : Refusal) → OneOf others (variant the_type w) → None ≡ doubt_of w
 nowhere Frame k = refl
 nowhere Buffer k = refl
 nowhere LogLength k = refl

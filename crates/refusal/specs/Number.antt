@@ -1,10 +1,9 @@
 -- The number of each refusal, by the table "When the desk says no".
-use Rattle.std.specs.Prelude.{ℕ}
+use Rattle.std.specs.Prelude.{ℕ, Some, None, Option as Optional}
 use Rattle.refusal.specs.declared.Refusal.{Refusal}
-use Rattle.refusal.specs.declared.Doubt.{Doubt}
-use Rattle.refusal.specs.declared.Doubt.TheVariants.{At, Nowhere}
 use Rattle.refusal.specs.declared.Refusal.TheVariants.{Frame, Buffer, LogLength, Closed, MessageType, Body, NoHello, Hello, BlockType, DataLength, NotHeld, NotKnown}
 use Rattle.refusal.specs.declared.Refusal.TheVariants.{OverCount, NoRoom, Clash, Entry, Offset, Pointers, Page, Nest, Spent, Pad, Allowance, Date, Card, Query}
+use Rattle.sector_number.specs.declared.SectorNumber.{SectorNumber}
 
 abbrev pub number_of : Refusal → ℕ
 number_of Frame = 1
@@ -36,38 +35,38 @@ number_of Card = 25
 number_of Query = 26
 
 -- "Look-up's refusal 12 must also carry the first doubtful sector's number"; no other carries one
-abbrev pub doubt_of : Refusal → Doubt
-doubt_of Frame = Nowhere
-doubt_of Buffer = Nowhere
-doubt_of LogLength = Nowhere
-doubt_of Closed = Nowhere
-doubt_of MessageType = Nowhere
-doubt_of Body = Nowhere
-doubt_of NoHello = Nowhere
-doubt_of Hello = Nowhere
-doubt_of BlockType = Nowhere
-doubt_of DataLength = Nowhere
-doubt_of NotHeld = Nowhere
-doubt_of (NotKnown sector) = At sector
-doubt_of OverCount = Nowhere
-doubt_of NoRoom = Nowhere
-doubt_of Clash = Nowhere
-doubt_of Entry = Nowhere
-doubt_of Offset = Nowhere
-doubt_of Pointers = Nowhere
-doubt_of Page = Nowhere
-doubt_of Nest = Nowhere
-doubt_of Spent = Nowhere
-doubt_of Pad = Nowhere
-doubt_of Allowance = Nowhere
-doubt_of Date = Nowhere
-doubt_of Card = Nowhere
-doubt_of Query = Nowhere
+abbrev pub doubt_of : Refusal → Optional SectorNumber
+doubt_of Frame = None
+doubt_of Buffer = None
+doubt_of LogLength = None
+doubt_of Closed = None
+doubt_of MessageType = None
+doubt_of Body = None
+doubt_of NoHello = None
+doubt_of Hello = None
+doubt_of BlockType = None
+doubt_of DataLength = None
+doubt_of NotHeld = None
+doubt_of (NotKnown sector) = Some sector
+doubt_of OverCount = None
+doubt_of NoRoom = None
+doubt_of Clash = None
+doubt_of Entry = None
+doubt_of Offset = None
+doubt_of Pointers = None
+doubt_of Page = None
+doubt_of Nest = None
+doubt_of Spent = None
+doubt_of Pad = None
+doubt_of Allowance = None
+doubt_of Date = None
+doubt_of Card = None
+doubt_of Query = None
 
 -- the sector that is told, 0 where none is
-abbrev pub sector_at : Doubt → ℕ
-sector_at (At sector) = sector.0
-sector_at Nowhere = 0
+abbrev pub sector_at : Optional SectorNumber → ℕ
+sector_at (Some sector) = sector.0
+sector_at None = 0
 
 abbrev pub told_sector : Refusal → ℕ
 told_sector w = sector_at (doubt_of w)

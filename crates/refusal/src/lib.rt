@@ -62,19 +62,12 @@ pub enum Refusal {
     Query,
 }
 
-// Where the doubt is that a refusal tells of: the first doubtful sector for 12, and nowhere for all others.
-#[derive(Clone, Copy)]
-pub enum Doubt {
-    At(SectorNumber),
-    Nowhere,
-}
-
 // Where the doubt is.
-pub fn doubt_of(why: Refusal) -> Doubt
+pub fn doubt_of(why: Refusal) -> Option<SectorNumber>
     ensures { result ≡ doubt_of why }
 {
     match why {
-        Refusal::NotKnown(sector) => Doubt::At(sector),
+        Refusal::NotKnown(sector) => Some(sector),
         Refusal::Frame
         | Refusal::Buffer
         | Refusal::LogLength
@@ -99,7 +92,7 @@ pub fn doubt_of(why: Refusal) -> Doubt
         | Refusal::Allowance
         | Refusal::Date
         | Refusal::Card
-        | Refusal::Query => Doubt::Nowhere,
+        | Refusal::Query => None,
     }
 }
 
@@ -109,8 +102,8 @@ pub fn told_sector(why: Refusal) -> usize
 {
     let doubt = doubt_of(why);
     match doubt {
-        Doubt::At(sector) => sector.0,
-        Doubt::Nowhere => 0,
+        Some(sector) => sector.0,
+        None => 0,
     }
 }
 

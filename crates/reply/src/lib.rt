@@ -3,13 +3,12 @@
 
 ghost use Rattle.std.specs.Prelude.{◌≡◌, [], ◌∷◌, ◌++◌, ◌+◌, ◌≤◌, length};
 ghost use Rattle.buffer.specs.Bytes.{put};
-ghost use Rattle.word.specs.Number.{be_bytes};
-ghost use Rattle.refusal.specs.declared.Doubt.TheVariants.{At};
+ghost use Rattle.digits.specs.Number.{be_bytes};
 ghost use Rattle.message.specs.Message.{head_length};
 ghost use Rattle.message.specs.Reply.{reply, answered, why, place, error_reply, hello_reply};
 
 use message::{ERROR_REPLY, HEAD, HELLO_REPLY, TAG, TYPE};
-use refusal::{Doubt, Refusal};
+use refusal::Refusal;
 use sector_number::SectorNumber;
 
 // Writes the head of a reply with `count` bytes of body: size, type, tag.
@@ -17,7 +16,7 @@ pub fn write_head(buffer: &mut [u8], kind: u8, tag: u8, count: usize)
     requires { (head_length ≤ length buffer.old) × (count ≤ 65533) }
     ensures { buffer.new ≡ put buffer.old 0 (be_bytes 2 (2 + count) ++ (kind ∷ tag ∷ [])) }
 {
-    word::number::put_be(&mut buffer[..TYPE], (2 + count) as u64);
+    digits::put_be(&mut buffer[..TYPE], (2 + count) as u64);
     buffer[TYPE] = kind;
     buffer[TAG] = tag;
 }
@@ -42,14 +41,14 @@ pub fn write_hello(buffer: &mut [u8], tag: u8)
 
 // The body of an error reply that tells of a doubtful sector: the length of its text, and the text, which ends with the sector.
 fn doubt_text(n: u8, sector: SectorNumber) -> [u8; 20]
-    ensures { result ≡ 0 ∷ 18 ∷ (why n ++ place (At sector)) }
+    ensures { result ≡ 0 ∷ 18 ∷ (why n ++ place (Some sector)) }
 {
     let tens = b'0' + n / 10;
     let ones = b'0' + n % 10;
     let mut body = [
         0, 18, b'w', b'h', b'y', b'=', tens, ones, b' ', b'a', b't', b'=', 0, 0, 0, 0, 0, 0, 0, 0,
     ];
-    word::hex::put_hex(&mut body[12..20], sector.0 as u64);
+    hexadecimal::put_hex(&mut body[12..20], sector.0 as u64);
     body
 }
 
@@ -60,7 +59,7 @@ pub fn write_error(buffer: &mut [u8], tag: u8, why: Refusal)
 {
     let n = refusal::number(why);
     let doubt = refusal::doubt_of(why);
-    if let Doubt::At(sector) = doubt {
+    if let Some(sector) = doubt {
         let body = doubt_text(n, sector);
         write_reply(buffer, ERROR_REPLY, tag, &body);
         return;

@@ -4,8 +4,8 @@ use mathlib.Core.List.{[], ◌∷◌}
 use lib.ListN.{replicate}
 use Rattle.bedrock.specs.Places.{found_from}
 use Rattle.sector.specs.Sector.{is_date, is_dated, date_field}
-use Rattle.word.specs.Hex.{char_digit, read_bytes}
-use Rattle.word.specs.Number.{value_from}
+use Rattle.hexadecimal.specs.Hex.{char_digit, read_bytes}
+use Rattle.digits.specs.Number.{value_from}
 use Rattle.block.specs.Log.{at, used_of, used, sound_as, sound}
 use Rattle.sector_log.specs.LookUp.{blocks, outside, doubtful}
 use Rattle.print.specs.Text.{digits, decimal, verdict, text_of}

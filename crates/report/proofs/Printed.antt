@@ -18,8 +18,8 @@ use Rattle.sector_log.proofs.Allowed.{allowed-sectors}
 use Rattle.survey.specs.declared.Survey.{Survey}
 use Rattle.survey.specs.Survey.{survey_of}
 use Rattle.print.specs.Text.{text_of}
-use Rattle.report.specs.declared.Reported.TheVariants.{Written, Refused}
 use Rattle.report.specs.Report.{report_text, report_outcome, report_of}
+use Rattle.std.specs.Prelude.{Ok, Err}
 
 -- no more blocks and no more doubtful sectors than sectors
 few_blocks : (log : Bytes) (k n : ℕ) → length (found_from (sound log) k n) ≤ k
@@ -43,12 +43,12 @@ few_outside rows (suc k) = go (in_block rows k) refl (few_outside rows k)
 -- ---- the call
 
 module _ (log b : Bytes) where
-  pub report_buffer : length b < 128 → report_outcome (Refused Buffer) b ≡ report_of log b
+  pub report_buffer : length b < 128 → report_outcome (Err Buffer) b ≡ report_of log b
   unfolding report_of
   report_buffer h = rw (lt-ltb (length b) 128 h)
 
   module _ (h : 128 ≤ length b) (a : Bool) (p : a ≡ log_allowed (length log)) where
-    pub report_log : a ≡ false → report_outcome (Refused LogLength) b ≡ report_of log b
+    pub report_log : a ≡ false → report_outcome (Err LogLength) b ≡ report_of log b
     unfolding report_of
     report_log q = rw (le-ltb (length b) 128 h, sym p ∙ q)
 
@@ -64,8 +64,8 @@ module _ (log b : Bytes) where
         (h, omega arith, omega arith, omega (arith, few_blocks log (sectors (length log)) 0), omega (arith, few_outside (blocks log) (used log)))
 
     pub report_written : (c : Bytes) (end : ℕ) (s : Survey) (r : ℕ) → a ≡ true → end ≡ used log → s ≡ survey_of log
-        → (c ≡ put b 0 (text_of (length log / 512) end s)) × (r ≡ length (text_of (length log / 512) end s)) → report_outcome (Written r) c ≡ report_of log b
+        → (c ≡ put b 0 (text_of (length log / 512) end s)) × (r ≡ length (text_of (length log / 512) end s)) → report_outcome (Ok r) c ≡ report_of log b
     unfolding report_of report_text
     report_written c end s r q e f w =
         let t : text_of (length log / 512) end s ≡ report_text log = ap₂ (text_of (length log / 512)) e f in
-        rw (le-ltb (length b) 128 h, sym p ∙ q) (λ i. report_outcome (Written ((w.1 ∙ ap length t) i)) ((w.0 ∙ ap (put b 0) t) i))
+        rw (le-ltb (length b) 128 h, sym p ∙ q) (λ i. report_outcome (Ok ((w.1 ∙ ap length t) i)) ((w.0 ∙ ap (put b 0) t) i))

@@ -1,14 +1,13 @@
 // Prints the report of a blank log of two sectors.
 #![tactic(auto)]
 
-use report::Reported;
 use std::io;
 
 fn main(rt: HostRuntime) -> io::Result<()> {
     let log = [0u8; 1024];
     let mut text = [0u8; 128];
     let told = report::report(&log, &mut text);
-    let Reported::Written(n) = told else {
+    let Ok(n) = told else {
         return Ok(());
     };
     rt.write_all(&text[..n])

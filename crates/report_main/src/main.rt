@@ -5,7 +5,6 @@ ghost use Rattle.std.specs.Prelude.{◌≡◌, ◌≤◌, length};
 ghost use Rattle.buffer.specs.Bytes.{put};
 ghost use Rattle.report_main.specs.Printed.{why, printed};
 
-use report::Reported;
 use std::io;
 use std::io::Read;
 
@@ -27,7 +26,7 @@ fn answer(log: &[u8], d: &mut [u8]) -> usize
         return refuse(d);
     }
     let told = report::report(log, d);
-    let Reported::Written(n) = told else {
+    let Ok(n) = told else {
         return refuse(d);
     };
     n

@@ -1,5 +1,5 @@
 -- One request: session, message, date, log with its waiting part, and reply buffer -> number, session, both parts and reply buffer. "When the desk says no".
-use Rattle.std.specs.Prelude.{Bool, true, cond, not, [], ◌∷◌, ℕ, ltb, length}
+use Rattle.std.specs.Prelude.{Bool, true, cond, not, [], ◌∷◌, ℕ, ltb, length, Ok, Err, Result}
 use Rattle.std.proofs.Math.Option.{Option, none, some}
 use Rattle.bedrock.specs.Choice.{on}
 use Rattle.buffer.specs.Bytes.{Bytes, same}
@@ -17,7 +17,7 @@ use Rattle.sector_log.specs.LookUp.{log_allowed, lent_allowed, held, absence}
 use Rattle.sector_log.specs.Parts.{Lent, beside, one_log, can_settle, settled}
 use Rattle.sector_log.specs.Store.{store}
 use Rattle.sector_log.specs.declared.Stored.{Stored}
-use Rattle.sector_log.specs.declared.Stored.TheVariants.{New, Duplicate, Refused}
+use Rattle.sector_log.specs.declared.Stored.TheVariants.{New, Duplicate}
 use Rattle.request.specs.declared.Session.{Session}
 use Rattle.request.specs.declared.Answer.{Answer}
 use Rattle.request.specs.declared.Session.TheVariants.{Fresh, Greeted, Closed as Shut}
@@ -79,10 +79,10 @@ date_of none = []
 date_of (some d) = d
 
 -- what a write answers of what the store did
-abbrev pub written : Stored → ℕ → Bytes → Lent → Bytes → Outcome
-written (New at) tag score L buffer = granted (write_reply tag score) Greeted L buffer
-written (Duplicate at) tag score L buffer = granted (write_reply tag score) Greeted L buffer
-written (Refused w) tag score L buffer = refused w tag Greeted L buffer
+abbrev pub written : Result Stored Refusal → ℕ → Bytes → Lent → Bytes → Outcome
+written (Ok (New at)) tag score L buffer = granted (write_reply tag score) Greeted L buffer
+written (Ok (Duplicate at)) tag score L buffer = granted (write_reply tag score) Greeted L buffer
+written (Err w) tag score L buffer = refused w tag Greeted L buffer
 
 -- "a write then takes empty data (nothing stored), a duplicate, 15, 14", after tests 9 and 10
 unfoldable pub write : Bytes → ℕ → ℕ → Bytes → Lent → Bytes → Outcome

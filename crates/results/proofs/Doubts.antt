@@ -17,7 +17,7 @@ use Rattle.block.proofs.Joined.{sectors-joined}
 use Rattle.sector_log.specs.Parts.{tape}
 use Rattle.lookup.proofs.Outcomes.{lent-sectors}
 use Rattle.sector_log.specs.LookUp.{blocks, in_block, first_outside, first_doubtful, doubtful, absence, lent_allowed}
-use Rattle.results.specs.Tree.{most_both}
+use Rattle.results.specs.Sizes.{most_both}
 
 first-outside_le : (rows : List Row) (k n : ℕ) → first_outside rows k n ≤ n + k
 unfolding first_outside

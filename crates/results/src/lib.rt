@@ -1,2 +1,2 @@
-// What each call of the boundary answers, packed into one number: specs/ has the definitions, proofs/ that a caller reads back what was packed. Nothing runs here.
+// What the numbers that the calls of the boundary answer with have in common: their parts and bounds. Each call's own answer stands in the crate of its subject. Nothing runs here.
 #![tactic(auto)]

@@ -10,7 +10,7 @@ use lib.Seq.{drop-drop, drop_at, take-add, take_all, length-take-le}
 use Rattle.bedrock.specs.Places.{found_from}
 use Rattle.bedrock.proofs.Choices.{and-false, or_right}
 use Rattle.buffer.specs.Bytes.{Bytes, same}
-use Rattle.word.specs.Hex.{hex_bytes}
+use Rattle.hexadecimal.specs.Hex.{hex_bytes}
 use Rattle.buffer.proofs.Bytes.{same_true, same_refl}
 use Rattle.sector.specs.Sector.{front_of, is_dated, behind, score_digits}
 use Rattle.sector.proofs.Dates.{front-some, undated}
@@ -21,12 +21,11 @@ use Rattle.block.specs.declared.Block.{Block}
 use Rattle.block.specs.Log.{sectors, at, sound, sound_as}
 use Rattle.block.proofs.Sound.{as_digits}
 use Rattle.reader.specs.Reader.{placed}
-use Rattle.reader.specs.declared.Place.{Place}
-use Rattle.reader.specs.declared.Place.TheVariants.{At, Nowhere}
 use Rattle.kind.specs.Kind.{lawful, zero_score}
 use Rattle.sector_log.specs.LookUp.{blocks, first_of, held}
 use Rattle.sector_log.proofs.First.{first-none, first_some}
 use Rattle.reader.proofs.Placed.{placed-some}
+use Rattle.std.specs.Prelude.{Some, None, Option as Optional}
 
 -- the digits in either edition's place
 tail_of : (x : Bytes) → 64 ≤ length x → take 31 (drop 64 x) ≡ drop 9 (score_digits x)
@@ -83,26 +82,26 @@ module _ (log : Bytes) (n t : ℕ) (s : Bytes) (h : n < sectors (length log)) (i
       ∙ sym (first-none log (sectors (length log) - (n + 1)) n t s e)
       ∙ ap (λ (x : ℕ). first_of t s (found_from (sound log) x n)) (sym more) ∙ inv
 
-  pub find_found : (p : Place) (b : Block) → p ≡ placed (sound_as log n t s) → p ≡ At b → p ≡ placed (first_of t s (blocks log))
+  pub find_found : (p : Optional Block) (b : Block) → p ≡ placed (sound_as log n t s) → p ≡ Some b → p ≡ placed (first_of t s (blocks log))
   find_found p b e z =
       let r = placed-some (sound_as log n t s) p b e z in
       let f : first_of t s (blocks log) ≡ some r.0 = sym inv ∙ ap (λ (x : ℕ). first_of t s (found_from (sound log) x n)) more ∙ first_some log (sectors (length log) - (n + 1)) n t s r.0 r.1 in
       e ∙ ap placed (r.1 ∙ sym f)
 
 pub find_nowhere : (log : Bytes) (n t : ℕ) (s : Bytes) → n ≤ sectors (length log) → sectors (length log) ≤ n
-    → first_of t s (found_from (sound log) (sectors (length log) - n) n) ≡ first_of t s (blocks log) → Nowhere ≡ placed (first_of t s (blocks log))
+    → first_of t s (found_from (sound log) (sectors (length log) - n) n) ≡ first_of t s (blocks log) → None ≡ placed (first_of t s (blocks log))
 unfolding found_from first_of
 find_nowhere log n t s a b inv =
     let z : sectors (length log) - n ≡ 0 = omega arith in
     ap placed (sym (ap (λ (x : ℕ). first_of t s (found_from (sound log) x n)) z) ∙ inv)
 
 -- what look-up finds
-pub held-zero : (log : Bytes) (t : ℕ) (s : Bytes) (a b : Bool) → a ≡ lawful t → a ≡ true → b ≡ same s zero_score → b ≡ true → At
+pub held-zero : (log : Bytes) (t : ℕ) (s : Bytes) (a b : Bool) → a ≡ lawful t → a ≡ true → b ≡ same s zero_score → b ≡ true → Some
     (record { first = record { 0 = 0 }; size = 0; label = 96 }) ≡ placed (held log t s)
 unfolding held
 held-zero log t s a b p q u v = rw (sym p ∙ q, sym u ∙ v)
 
-pub held_scan : (log : Bytes) (t : ℕ) (s : Bytes) (r : Place) → (lawful t && same s zero_score) ≡ false → r ≡ placed (first_of t s (blocks log)) → r ≡ placed (held log t s)
+pub held_scan : (log : Bytes) (t : ℕ) (s : Bytes) (r : Optional Block) → (lawful t && same s zero_score) ≡ false → r ≡ placed (first_of t s (blocks log)) → r ≡ placed (held log t s)
 unfolding held
 held_scan log t s r e p = rw e p
 

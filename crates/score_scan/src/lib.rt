@@ -9,7 +9,6 @@ ghost use Rattle.score_scan.specs.Digits.{may_hold};
 ghost use Rattle.sector.specs.Sector.{sector_length, score_width};
 
 use block::Block;
-use reader::Place;
 use sector::{FRONT, LABEL, SCORE, SCORE_WIDTH, SECTOR};
 use sector_number::SectorNumber;
 
@@ -38,25 +37,29 @@ fn may_hold(s: &[u8], digits: &[u8]) -> bool
 }
 
 // The first sound block of a type and score. Only a block whose label has the score is looked at.
-fn find<'a>(log: &'a [u8], end: SectorNumber, waiting: &'a [u8], kind: u8, score: &[u8]) -> Place
+fn find<'a>(
+    log: &'a [u8],
+    end: SectorNumber,
+    waiting: &'a [u8],
+    kind: u8,
+    score: &[u8],
+) -> Option<Block>
     requires { (end.0 ≤ sectors (length log.now)) × (length score.now ≡ 20) }
     ensures { result ≡ placed (first_of kind score.now (blocks (joined end.0 log.now waiting.now))) }
 {
     let mut digits = [0u8; SCORE_WIDTH];
-    word::hex::put_hex_bytes(&mut digits, score);
+    hexadecimal::put_hex_bytes(&mut digits, score);
     let count = end.0 + waiting.len() / SECTOR;
-    let mut n: usize = 0;
-    while n < count {
+    for n in 0..count {
         let s = reader::sector_at(log, end, waiting, SectorNumber(n));
         if may_hold(s, &digits) {
             let place = reader::sound_as(log, end, waiting, SectorNumber(n), kind, score);
-            let Place::Nowhere = place else {
-                return place;
-            };
+            if let Some(b) = place {
+                return Some(b);
+            }
         }
-        n += 1;
     }
-    Place::Nowhere
+    None
 }
 
 // What look-up finds: the empty block for the zero score, else the first sound block.
@@ -66,13 +69,13 @@ pub fn find_held<'a>(
     waiting: &'a [u8],
     kind: u8,
     score: &[u8],
-) -> Place
+) -> Option<Block>
     requires { (end.0 ≤ sectors (length log.now)) × (length score.now ≡ 20) }
     ensures { result ≡ placed (held (joined end.0 log.now waiting.now) kind score.now) }
 {
     if kind::is_lawful(kind) {
         if kind::is_zero_score(score) {
-            return Place::At(Block {
+            return Some(Block {
                 first: SectorNumber(0),
                 size: 0,
                 label: LABEL,

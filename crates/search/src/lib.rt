@@ -9,7 +9,7 @@ ghost use Rattle.card_answer.specs.CardAnswer.{once_read};
 ghost use Rattle.search.specs.Search.{card_of, search_of};
 
 pub use card_answer::number;
-use evaluate::Answer;
+use kleene::Value;
 use refusal::Refusal;
 
 // Reads a file of `size` bytes into d, which has room for it, and judges it once it is read whole. A file of no bytes isn't read.
@@ -20,7 +20,7 @@ fn read_and_judge<'a>(
     size: u64,
     query: &[u8],
     d: &mut [u8],
-) -> Answer
+) -> Result<Value, Refusal>
     requires { (lent_allowed (length log.now) (length waiting.now) ≡ true) × (entry_readable entry.now ≡ true) × (size ≡ (entry_of entry.now).size) × (size ≤ length d.old) }
     ensures { result
         ≡ once_read (card_of log.now waiting.now entry.now).stop (card_of log.now waiting.now entry.now).bytes query.now }
@@ -41,21 +41,21 @@ pub fn search<'a>(
     page: &[u8],
     entry: &[u8],
     query: &[u8],
-) -> Answer
+) -> Result<Value, Refusal>
     ensures { result ≡ search_of log.now waiting.now page.now entry.now query.now }
 {
     if !lookup::are_allowed(log.len(), waiting.len()) {
-        return Answer::Refused(Refusal::LogLength);
+        return Err(Refusal::LogLength);
     }
     if !file::is_page(page) {
-        return Answer::Refused(Refusal::Page);
+        return Err(Refusal::Page);
     }
     if !file::is_readable(entry) {
-        return Answer::Refused(Refusal::Entry);
+        return Err(Refusal::Entry);
     }
     let e = entry::entry_at(entry, 0);
     if 4096 < e.size {
-        return Answer::Refused(Refusal::Card);
+        return Err(Refusal::Card);
     }
     let mut card = [0u8; 4096];
     read_and_judge(log, waiting, entry, e.size, query, &mut card)

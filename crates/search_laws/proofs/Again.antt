@@ -27,18 +27,20 @@ use Rattle.search.specs.Search.{card_of}
 use Rattle.search_laws.specs.Promises.{AgainAfterAny}
 use Rattle.search_laws.proofs.Course.{Open, past-tests, opened}
 use Rattle.search_laws.proofs.Whole.{done-answers, answers-done, only-of-a-card}
+use Rattle.std.specs.Prelude.{Ok, Err, Result}
+use Rattle.refusal.specs.declared.Refusal.{Refusal}
 
 -- the first byte of one run in two logs
-same_first : (log later : Bytes) (x : Extent) → Reads x → 1 ≤ length (extent_bytes log (0 ∷ []) x) → extent_bytes later (0 ∷ []) x ≡ extent_bytes log (0 ∷ []) x
+same_first : (log later : Bytes) (x : Result Extent Refusal) → Reads x → 1 ≤ length (extent_bytes log (0 ∷ []) x) → extent_bytes later (0 ∷ []) x ≡ extent_bytes log (0 ∷ []) x
     → byte_of later x ≡ byte_of log x
-same_first log later (run.Stored at n) a h e =
+same_first log later (Ok (run.Stored at n)) a h e =
     let k : 0 < n = omega (arith, length-take n (drop at log)) in
     let z : at + 0 ≡ at = omega arith in
     let first : (s : Bytes) → get_or s at 0 ≡ get_or (take n (drop at s)) 0 0 =
     λ s. sym (get_or-take n (drop at s) 0 0 k ∙ get_or-drop at s 0 0 ∙ ap (λ (i : ℕ). get_or s i 0) z) in
     ap byte (first later ∙ ap (λ (s : Bytes). get_or s 0 0) e ∙ sym (first log))
-same_first log later (run.Zeros n) a h e = refl
-same_first log later (run.Refused w) a h e = absurd a
+same_first log later (Ok (run.Zeros n)) a h e = refl
+same_first log later (Err w) a h e = absurd a
 
 module _ (L later : Lent) (entry : Bytes) (alike : ReadsAlike L later) where
   abbrev lent_in : Lent → Bool

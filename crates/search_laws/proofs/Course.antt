@@ -6,6 +6,7 @@ use native.Mathlib.Omega.{arith}
 use lib.Dec.{leb}
 use borrow.Author.Tests.{leb-true, leb-false, le-leb}
 use lib.ListN.{length}
+use Rattle.std.specs.Prelude.{Result, Ok, Err}
 use Rattle.buffer.specs.Bytes.{Bytes}
 use Rattle.refusal.specs.declared.Refusal.{Refusal}
 use Rattle.refusal.specs.declared.Refusal.TheVariants as why
@@ -13,8 +14,6 @@ use Rattle.sector_log.specs.LookUp.{lent_allowed}
 use Rattle.entry.specs.Entry.{entry_of}
 use Rattle.file.specs.File.{page_allowed, entry_readable}
 use Rattle.kleene.specs.declared.Value.{Value}
-use Rattle.evaluate.specs.declared.Answer.{Answer}
-use Rattle.evaluate.specs.declared.Answer.TheVariants.{Told, Refused}
 use Rattle.card_answer.specs.CardAnswer.{once_read}
 use Rattle.search.specs.Search.{longest_card, card_of, search_of}
 
@@ -25,11 +24,11 @@ pub record Open (log waiting page entry : Bytes) : Type 0 where
   pub entry-readable : entry_readable entry ≡ true
   pub short : (entry_of entry).size ≤ longest_card
 
-abbrev pub at_last : Bytes → Bytes → Bytes → Bytes → Answer
+abbrev pub at_last : Bytes → Bytes → Bytes → Bytes → Result Value Refusal
 at_last log waiting entry query = once_read (card_of log waiting entry).stop (card_of log waiting entry).bytes query
 
 -- a refusal is no value
-no_value : (w : Refusal) (v : Value) (x : Answer) → x ≡ Refused w → x ≡ Told v → ⊥
+no_value : (w : Refusal) (v : Value) (x : Result Value Refusal) → x ≡ Err w → x ≡ Ok v → ⊥
 no_value w v x e f = let z : ◌≡◌ {A = ℕ} 0 1 = cc in omega arith
 
 module _ (log waiting page entry query : Bytes) where
@@ -39,11 +38,11 @@ module _ (log waiting page entry query : Bytes) where
   opened p = rw (p.log-allowed, p.page-allowed, p.entry-readable, le-leb (entry_of entry).size longest_card p.short) refl
 
   pub data Course : Type 0 where
-    bad-log : lent_allowed (length log) (length waiting) ≡ false → search_of log waiting page entry query ≡ Refused why.LogLength → Course
-    bad-page : lent_allowed (length log) (length waiting) ≡ true → page_allowed page ≡ false → search_of log waiting page entry query ≡ Refused why.Page → Course
-    bad-entry : lent_allowed (length log) (length waiting) ≡ true → page_allowed page ≡ true → entry_readable entry ≡ false → search_of log waiting page entry query ≡ Refused why.Entry → Course
+    bad-log : lent_allowed (length log) (length waiting) ≡ false → search_of log waiting page entry query ≡ Err why.LogLength → Course
+    bad-page : lent_allowed (length log) (length waiting) ≡ true → page_allowed page ≡ false → search_of log waiting page entry query ≡ Err why.Page → Course
+    bad-entry : lent_allowed (length log) (length waiting) ≡ true → page_allowed page ≡ true → entry_readable entry ≡ false → search_of log waiting page entry query ≡ Err why.Entry → Course
     long : lent_allowed (length log) (length waiting) ≡ true → page_allowed page ≡ true → entry_readable entry ≡ true → longest_card < (entry_of entry).size
-        → search_of log waiting page entry query ≡ Refused why.Card → Course
+        → search_of log waiting page entry query ≡ Err why.Card → Course
     through : Open log waiting page entry → Course
 
   pub course : Course
@@ -58,7 +57,7 @@ module _ (log waiting page entry query : Bytes) where
       go true true true true p q u e = through (record { log-allowed = p; page-allowed = q; entry-readable = u; short = leb-true (entry_of entry).size longest_card e })
 
   -- a value comes only past the tests
-  pub past-tests : (v : Value) → search_of log waiting page entry query ≡ Told v → Open log waiting page entry
+  pub past-tests : (v : Value) → search_of log waiting page entry query ≡ Ok v → Open log waiting page entry
   past-tests v e = go course
     where
       go : Course → Open log waiting page entry

@@ -7,6 +7,7 @@ use Prim.Native.Nat.{ℕ, ◌≤◌, ◌<◌}
 use native.Mathlib.Omega.{arith}
 use lib.ListN.{length, get_or}
 use lib.Seq.{ext_get_or}
+use Rattle.std.specs.Prelude.{Err, Ok, Result, ⊤}
 use Rattle.bedrock.proofs.Choices.{some_same}
 use Rattle.buffer.specs.Bytes.{Bytes}
 use Rattle.refusal.specs.declared.Refusal.{Refusal}
@@ -20,9 +21,6 @@ use Rattle.file_laws.specs.Path.{Answers}
 use Rattle.file_laws.specs.Bytes.{file_byte}
 use Rattle.file_laws.proofs.Elsewhere.{reads_elsewhere}
 use Rattle.file_laws.proofs.Reasons.{readings_reasons}
-use Rattle.fill.specs.declared.Stop.{Stop}
-use Rattle.fill.specs.declared.Stop.TheVariants as stop
-use Rattle.evaluate.specs.declared.Answer.TheVariants.{Refused}
 use Rattle.card_answer.specs.CardAnswer.{judged, once_read}
 use Rattle.search.specs.Search.{longest_card, card_of, search_of}
 use Rattle.search.proofs.Tests.{search_page, search_entry, search_long}
@@ -34,7 +32,7 @@ use Rattle.search_laws.proofs.Whole.{stop-refused, done-answers, read_done, read
 module _ (log waiting page entry : Bytes) (p : Open log waiting page entry) (reads : (o : ℕ) → o < (entry_of entry).size → Answers (located log waiting page entry o)) where
   read-judged : (query : Bytes) → search_of log waiting page entry query ≡ judged (card_of log waiting entry).bytes query
   read-judged query =
-      opened log waiting page entry query p ∙ ap (λ (s : Stop). once_read s (card_of log waiting entry).bytes query) (read_done log waiting page entry p reads)
+      opened log waiting page entry query p ∙ ap (λ (s : Result ⊤ Refusal). once_read s (card_of log waiting entry).bytes query) (read_done log waiting page entry p reads)
 
   -- bytes that are the file's are those that are judged
   read_as : (card : Bytes) → (entry_of entry).size ≡ length card
@@ -58,13 +56,13 @@ module _ (log waiting log' waiting' page entry query : Bytes) (a' : lent_allowed
   Alike = search_of log' waiting' page entry query ≡ search_of log waiting page entry query
 
   -- the tests before the card is read ask nothing else of a log
-  page-alike : page_allowed page ≡ false → search_of log waiting page entry query ≡ Refused why.Page → Alike
+  page-alike : page_allowed page ≡ false → search_of log waiting page entry query ≡ Err why.Page → Alike
   page-alike g q = sym (q ∙ search_page log' waiting' page entry query true (sym a') refl false (sym g) refl)
 
-  entry-alike : page_allowed page ≡ true → entry_readable entry ≡ false → search_of log waiting page entry query ≡ Refused why.Entry → Alike
+  entry-alike : page_allowed page ≡ true → entry_readable entry ≡ false → search_of log waiting page entry query ≡ Err why.Entry → Alike
   entry-alike g r q = sym (q ∙ search_entry log' waiting' page entry query true (sym a') refl true (sym g) refl false (sym r) refl)
 
-  long-alike : page_allowed page ≡ true → entry_readable entry ≡ true → longest_card < (entry_of entry).size → search_of log waiting page entry query ≡ Refused why.Card → Alike
+  long-alike : page_allowed page ≡ true → entry_readable entry ≡ true → longest_card < (entry_of entry).size → search_of log waiting page entry query ≡ Err why.Card → Alike
   long-alike g r l q = sym (q ∙ search_long log' waiting' page entry query true (sym a') refl true (sym g) refl true (sym r) refl (entry_of entry) refl l)
 
   abbrev SameBytes : Type 0
@@ -95,12 +93,12 @@ same-bytes-same-answer log waiting log' waiting' page entry query a a' S = go (c
 -- ---- a log that holds the card's blocks
 
 -- the reason for which a card is not read whole is reading's
-stop_reason : (log waiting page entry : Bytes) → Open log waiting page entry → (w : Refusal) → (card_of log waiting entry).stop ≡ stop.Refused w → number_of w ≤ 19
+stop_reason : (log waiting page entry : Bytes) → Open log waiting page entry → (w : Refusal) → (card_of log waiting entry).stop ≡ Err w → number_of w ≤ 19
 stop_reason log waiting page entry p w e =
     readings_reasons log waiting page entry (length (card_of log waiting entry).bytes) w (stop-refused log waiting entry page p.page-allowed w e).1
 
 -- and none of a card or a query
-no_card : (w : Refusal) → number_of w ≤ 19 → OfTheCard (Refused w) → ⊥
+no_card : (w : Refusal) → number_of w ≤ 19 → OfTheCard (Err w) → ⊥
 no_card w h (inl e) = let z : number_of w ≡ 25 = ap number_of e in omega arith
 no_card w h (inr e) = let z : number_of w ≡ 26 = ap number_of e in omega arith
 
@@ -108,16 +106,16 @@ pub answered_elsewhere : AnsweredElsewhere
 answered_elsewhere log waiting log' waiting' page entry query a' more c = go (course log waiting page entry query)
   where
     -- a test or a reading refused it
-    not_so : (w : Refusal) → search_of log waiting page entry query ≡ Refused w → number_of w ≤ 19 → ⊥
+    not_so : (w : Refusal) → search_of log waiting page entry query ≡ Err w → number_of w ≤ 19 → ⊥
     not_so w q h = no_card w h (subst OfTheCard q c)
 
-    read : Open log waiting page entry → (s : Stop) → (card_of log waiting entry).stop ≡ s → Alike log waiting log' waiting' page entry query a'
-    read p stop.Done e =
+    read : Open log waiting page entry → (s : Result ⊤ Refusal) → (card_of log waiting entry).stop ≡ s → Alike log waiting log' waiting' page entry query a'
+    read p (Ok tt) e =
         read_alike log waiting log' waiting' page entry query a' p
         (λ o h. let here = done-answers log waiting entry page p.page-allowed e o h in
         let there = reads_elsewhere log waiting log' waiting' page entry o a' more here in (here, there.0, there.1))
-    read p (stop.Refused w) e =
-        absurd (not_so w (opened log waiting page entry query p ∙ ap (λ (s : Stop). once_read s (card_of log waiting entry).bytes query) e) (stop_reason log waiting page entry p w e))
+    read p (Err w) e =
+        absurd (not_so w (opened log waiting page entry query p ∙ ap (λ (s : Result ⊤ Refusal). once_read s (card_of log waiting entry).bytes query) e) (stop_reason log waiting page entry p w e))
 
     go : Course log waiting page entry query → Alike log waiting log' waiting' page entry query a'
     go (bad-log b q) = absurd (not_so why.LogLength q (omega arith))

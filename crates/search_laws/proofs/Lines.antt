@@ -9,6 +9,7 @@ use native.Mathlib.Omega.{arith}
 use lib.Dec.{leb}
 use borrow.Author.Tests.{leb-true}
 use lib.ListN.{length}
+use Rattle.std.specs.Prelude.{Ok, Err}
 use Rattle.bedrock.specs.Choice.{on}
 use Rattle.bedrock.proofs.Choices.{and-true}
 use Rattle.buffer.specs.Bytes.{Bytes}
@@ -25,7 +26,6 @@ use Rattle.query.specs.Grammar.{reading_of}
 use Rattle.query.specs.Value.{value_of, choice_value, term_value}
 use Rattle.query.proofs.OneToOne.{every_reading-one-text}
 use Rattle.query.proofs.Monotone.{monotone}
-use Rattle.evaluate.specs.declared.Answer.TheVariants.{Told, Refused}
 use Rattle.evaluate.specs.Evaluate.{evaluate_of}
 use Rattle.search.specs.Search.{card_of}
 use Rattle.search_laws.specs.Promises.{NeverTestedNeverAbsent, NeverTestedNeverByNot, LinesAddedToACard, LinesAddedOverLogs}
@@ -65,7 +65,7 @@ pub never_tested_never_absent : NeverTestedNeverAbsent
 never_tested_never_absent log waiting page entry n ls r e f =
     let card = (card_of log waiting entry).bytes in
     read_answer log waiting page entry n ls r
-    ∙ rw (just-read n e) (ap (λ (v : Value). Told v) (just-value (value_in card) n ∙ (says card ls r.lines).silent n f))
+    ∙ rw (just-read n e) (ap (λ (v : Value). Ok v) (just-value (value_in card) n ∙ (says card ls r.lines).silent n f))
 
 -- ---- and one that is not and a name
 
@@ -95,7 +95,7 @@ pub never_tested_never_by_not : NeverTestedNeverByNot
 never_tested_never_by_not log waiting page entry n ls r e f =
     let card = (card_of log waiting entry).bytes in
     read_answer log waiting page entry (not_word ++ (0x20 ∷ n)) ls r
-    ∙ rw (opposite-read n e) (ap (λ (v : Value). Told v) (opposite-value (value_in card) n ((says card ls r.lines).silent n f)))
+    ∙ rw (opposite-read n e) (ap (λ (v : Value). Ok v) (opposite-value (value_in card) n ((says card ls r.lines).silent n f)))
 
 -- ---- lines added
 
@@ -103,10 +103,10 @@ never_tested_never_by_not log waiting page entry n ls r e f =
 pub data Asked (card query : Bytes) (v : Value) : Type 0 where
   asked : (q : Reading) → reading_of query ≡ some q → value_of (value_in card) q ≡ v → Asked card query v
 
-ask : (card query : Bytes) (v : Value) → evaluate_of card query ≡ Told v → Asked card query v
+ask : (card query : Bytes) (v : Value) → evaluate_of card query ≡ Ok v → Asked card query v
 ask card query v = go (reading_of query) refl
   where
-    go : (o : Option Reading) → reading_of query ≡ o → on o (Refused why.Query) (λ q. Told (value_of (value_in card) q)) ≡ Told v → Asked card query v
+    go : (o : Option Reading) → reading_of query ≡ o → on o (Err why.Query) (λ q. Ok (value_of (value_in card) q)) ≡ Ok v → Asked card query v
     go none p e = let z : ◌≡◌ {A = ℕ} 0 1 = cc in absurd (omega arith)
     go (some q) p e = asked q p (cc)
 
@@ -118,9 +118,9 @@ lines-added-to-a-card card card' query ls ms v r r' more n e = go (ask card quer
     stays q f (inl g) = absurd (n (sym f ∙ g))
     stays q f (inr g) = sym g ∙ f
 
-    go : Asked card query v → evaluate_of card' query ≡ Told v
+    go : Asked card query v → evaluate_of card' query ≡ Ok v
     go (asked q p f) =
-        rw p (ap (λ (x : Value). Told x) (stays q f (monotone (value_in card) (value_in card') (lines-added card card' ls ms r r' more) q)))
+        rw p (ap (λ (x : Value). Ok x) (stays q f (monotone (value_in card) (value_in card') (lines-added card card' ls ms r r' more) q)))
 
 pub lines-added-over_logs : LinesAddedOverLogs
 lines-added-over_logs log waiting page entry log' waiting' page' entry' query ls ms v r r' more n e =

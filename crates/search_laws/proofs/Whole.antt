@@ -7,6 +7,7 @@ use Prim.Native.Nat.{ℕ, ◌+◌, ◌≤◌, ◌<◌}
 use native.Mathlib.Nat.{zero-add}
 use native.Mathlib.Omega.{arith}
 use lib.ListN.{length, get_or, drop, replicate, length-replicate, get_or-append}
+use Rattle.std.specs.Prelude.{Ok, Err, Result, ⊤}
 use Rattle.buffer.specs.Bytes.{Bytes}
 use Rattle.refusal.specs.declared.Refusal.{Refusal}
 use Rattle.refusal.specs.declared.Refusal.TheVariants as why
@@ -17,8 +18,6 @@ use Rattle.file.specs.File.{page_allowed, located}
 use Rattle.leaf.specs.declared.Extent.TheVariants as extent
 use Rattle.file.specs.declared.Located.TheVariants as run
 use Rattle.file.proofs.Tests.{shown}
-use Rattle.fill.specs.declared.Stop.{Stop}
-use Rattle.fill.specs.declared.Stop.TheVariants as stop
 use Rattle.fill.specs.Fill.{Read, byte_at, byte, FillOutcome}
 use Rattle.file_laws.specs.Path.{Answers}
 use Rattle.file_laws.specs.Bytes.{file_byte}
@@ -29,7 +28,6 @@ use Rattle.file_laws.proofs.Whole.{fill_whole}
 use Rattle.kleene.specs.declared.Value.{Value}
 use Rattle.card.specs.Card.{Line, front_lines, well_formed, lines_of}
 use Rattle.card.proofs.Pinned.{lines_are}
-use Rattle.evaluate.specs.declared.Answer.TheVariants.{Told, Refused}
 use Rattle.evaluate.specs.Evaluate.{evaluate_of}
 use Rattle.card_answer.specs.CardAnswer.{judged, once_read}
 use Rattle.search.specs.Search.{card_of, search_of}
@@ -58,34 +56,34 @@ module _ (log waiting entry : Bytes) where
     front-answers o h = shown-answers log waiting page entry o (byte-answers lent (tape log waiting) entry page p o _ (nth o h))
 
     -- the offset that stops it is refused
-    pub stop-refused : (w : Refusal) → (card_of log waiting entry).stop ≡ stop.Refused w
-        → (length (card_of log waiting entry).bytes < (entry_of entry).size) × (located log waiting page entry (length (card_of log waiting entry).bytes) ≡ run.Refused w)
+    pub stop-refused : (w : Refusal) → (card_of log waiting entry).stop ≡ Err w
+        → (length (card_of log waiting entry).bytes < (entry_of entry).size) × (located log waiting page entry (length (card_of log waiting entry).bytes) ≡ Err w)
     stop-refused w e =
         let n = length (card_of log waiting entry).bytes in
         let q = G.ends w e in
-        (q.0, sym (shown log waiting page entry n (extent.Refused w) (sym (byte-refused lent (tape log waiting) entry page p n w (ap read_at (sym (zero-add n)) ∙ q.1)))))
+        (q.0, sym (shown log waiting page entry n (Err w) (sym (byte-refused lent (tape log waiting) entry page p n w (ap read_at (sym (zero-add n)) ∙ q.1)))))
 
     -- read to its end, every offset answers
-    pub done-answers : (card_of log waiting entry).stop ≡ stop.Done → (o : ℕ) → o < (entry_of entry).size → Answers (located log waiting page entry o)
+    pub done-answers : (card_of log waiting entry).stop ≡ Ok tt → (o : ℕ) → o < (entry_of entry).size → Answers (located log waiting page entry o)
     done-answers e o h = front-answers o (omega (arith, G.done e))
 
     -- and the other way round
-    pub answers-done : ((o : ℕ) → o < (entry_of entry).size → Answers (located log waiting page entry o)) → (card_of log waiting entry).stop ≡ stop.Done
+    pub answers-done : ((o : ℕ) → o < (entry_of entry).size → Answers (located log waiting page entry o)) → (card_of log waiting entry).stop ≡ Ok tt
     answers-done f = go (card_of log waiting entry).stop refl
       where
-        go : (s : Stop) → (card_of log waiting entry).stop ≡ s → s ≡ stop.Done
-        go stop.Done e = refl
-        go (stop.Refused w) e =
+        go : (s : Result ⊤ Refusal) → (card_of log waiting entry).stop ≡ s → s ≡ Ok tt
+        go (Ok tt) e = refl
+        go (Err w) e =
             let q = stop-refused w e in
             absurd (rw q.1 at (f (length (card_of log waiting entry).bytes) q.0))
 
 -- ---- a card
 
-judged-lines : (card query : Bytes) (v : Value) → judged card query ≡ Told v → lines_of card ≡ some (front_lines card)
+judged-lines : (card query : Bytes) (v : Value) → judged card query ≡ Ok v → lines_of card ≡ some (front_lines card)
 unfolding judged
 judged-lines card query v = go (well_formed card) refl
   where
-    go : (t : Bool) → well_formed card ≡ t → cond t (evaluate_of card query) (Refused why.Card) ≡ Told v → lines_of card ≡ some (front_lines card)
+    go : (t : Bool) → well_formed card ≡ t → cond t (evaluate_of card query) (Err why.Card) ≡ Ok v → lines_of card ≡ some (front_lines card)
     go true q e = rw q
     go false q e = let z : ◌≡◌ {A = ℕ} 0 1 = cc in absurd (omega arith)
 
@@ -95,8 +93,8 @@ only-of-a-card log waiting page entry query v e = go (card_of log waiting entry)
     p : Open log waiting page entry
     p = past-tests log waiting page entry query v e
 
-    go : (s : Stop) → (card_of log waiting entry).stop ≡ s → once_read s (card_of log waiting entry).bytes query ≡ Told v → (ls : List Line) × ReadAs log waiting page entry ls
-    go stop.Done q f = (
+    go : (s : Result ⊤ Refusal) → (card_of log waiting entry).stop ≡ s → once_read s (card_of log waiting entry).bytes query ≡ Ok v → (ls : List Line) × ReadAs log waiting page entry ls
+    go (Ok tt) q f = (
       front_lines (card_of log waiting entry).bytes,
       record {
         log-allowed = p.log-allowed;
@@ -107,7 +105,7 @@ only-of-a-card log waiting page entry query v e = go (card_of log waiting entry)
         lines = judged-lines (card_of log waiting entry).bytes query v f;
       },
     )
-    go (stop.Refused w) q f = let z : ◌≡◌ {A = ℕ} 0 1 = cc in absurd (omega arith)
+    go (Err w) q f = let z : ◌≡◌ {A = ℕ} 0 1 = cc in absurd (omega arith)
 
 -- what is answered of a card that reads
 pub read_as_open : (log waiting page entry : Bytes) (ls : List Line) → ReadAs log waiting page entry ls → Open log waiting page entry
@@ -119,12 +117,12 @@ unfolding judged
 read_answer log waiting page entry query ls r =
     let card = (card_of log waiting entry).bytes in
     opened log waiting page entry query (read_as_open log waiting page entry ls r)
-    ∙ ap (λ (s : Stop). once_read s card query) (answers-done log waiting entry page r.page-allowed r.reads)
+    ∙ ap (λ (s : Result ⊤ Refusal). once_read s card query) (answers-done log waiting entry page r.page-allowed r.reads)
     ∙ rw (lines_are card ls r.lines).0
 
 -- its bytes are the file's
 module _ (log waiting page entry : Bytes) (p : Open log waiting page entry) (reads : (o : ℕ) → o < (entry_of entry).size → Answers (located log waiting page entry o)) where
-  pub read_done : (card_of log waiting entry).stop ≡ stop.Done
+  pub read_done : (card_of log waiting entry).stop ≡ Ok tt
   read_done = answers-done log waiting entry page p.page-allowed reads
 
   pub read_length : length (card_of log waiting entry).bytes ≡ (entry_of entry).size

@@ -13,7 +13,7 @@ use Rattle.bedrock.proofs.Choices.{and-true}
 use Rattle.buffer.specs.Bytes.{Bytes, zeros}
 use Rattle.buffer.proofs.Bytes.{same_refl, small-append}
 use Rattle.buffer.proofs.Parts.{part_within}
-use Rattle.word.specs.Number.{small}
+use Rattle.digits.specs.Number.{small}
 use Rattle.sector.specs.Sector.{line, date_name, label_of, is_date, is_date_or_none, front_of, dated_label, label_length, is_dated, date_field, behind}
 use Rattle.sector.specs.declared.Label.{Label}
 use Rattle.date.specs.Date.{decimals}

@@ -8,9 +8,9 @@ use lib.ListN.{length, take, drop, replicate, length-append, length-take, length
 use lib.Seq.{take_at, drop_at}
 use Rattle.buffer.specs.Bytes.{Bytes}
 use Rattle.buffer.proofs.Bytes.{same_refl, small-append, small-take, small-replicate}
-use Rattle.word.specs.Number.{small}
-use Rattle.word.specs.Hex.{hex}
-use Rattle.word.proofs.HexLaws.{hex-length, small-hex}
+use Rattle.digits.specs.Number.{small}
+use Rattle.hexadecimal.specs.Hex.{hex}
+use Rattle.hexadecimal.proofs.HexLaws.{hex-length, small-hex}
 use Rattle.crc32_rule.specs.Crc32.{crc32_of}
 use Rattle.sector.specs.Sector.{check, fits, filled, encode}
 

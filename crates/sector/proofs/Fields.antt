@@ -9,9 +9,9 @@ use lib.Seq.{take_at}
 use Rattle.buffer.specs.Bytes.{Bytes, zeros}
 use Rattle.buffer.proofs.Bytes.{small-append}
 use Rattle.buffer.proofs.Parts.{part_within}
-use Rattle.word.specs.Number.{small}
-use Rattle.word.specs.Hex.{hex, hex_bytes}
-use Rattle.word.proofs.HexLaws.{hex_bytes-length, small-hex, small-hex_bytes}
+use Rattle.digits.specs.Number.{small}
+use Rattle.hexadecimal.specs.Hex.{hex, hex_bytes}
+use Rattle.hexadecimal.proofs.HexLaws.{hex_bytes-length, small-hex, small-hex_bytes}
 use Rattle.sector.specs.Sector.{line, lines, label_lines, rec_name, part_name, of_name, type_name, size_name, score_name, label_of, score_digits}
 use Rattle.sector.specs.declared.Label.{Label}
 

@@ -11,9 +11,9 @@ use lib.Seq.{ext_get_or, get_or-take, get_or-drop, drop-drop}
 use Rattle.bedrock.proofs.Choices.{false_unless}
 use Rattle.buffer.specs.Bytes.{Bytes, zeros}
 use Rattle.buffer.proofs.Bytes.{same_true, zeros_get_d, small_get_d, small-take}
-use Rattle.word.specs.Number.{small}
-use Rattle.word.specs.Hex.{hex}
-use Rattle.word.proofs.HexLaws.{hex_injective}
+use Rattle.digits.specs.Number.{small}
+use Rattle.hexadecimal.specs.Hex.{hex}
+use Rattle.hexadecimal.proofs.HexLaws.{hex_injective}
 use Rattle.crc32_rule.specs.Crc32.{crc32_of}
 use Rattle.crc32_rule.specs.Burst.{ByteBurst}
 use Rattle.crc32_rule.proofs.Bound.{crc32_lt}

@@ -1,7 +1,7 @@
 -- Damage to one sector: bytes that differ only within four neighbouring places.
 use Rattle.std.specs.Prelude.{◌≡◌, true, false, ◌≢◌, length}
 use Rattle.buffer.specs.Bytes.{Bytes, zeros}
-use Rattle.word.specs.Number.{small}
+use Rattle.digits.specs.Number.{small}
 use Rattle.crc32_rule.specs.Burst.{ByteBurst}
 use Rattle.sector.specs.Sector.{fits, blank, sector_length}
 

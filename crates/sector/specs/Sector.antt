@@ -2,7 +2,7 @@
 -- 96 bytes; in the second edition the line of a date stands before them.
 use Rattle.std.specs.Prelude.{Bool, true, cond, ◌&&◌, List, [], ◌∷◌, ◌++◌, ℕ, ◌+◌, ◌-◌, length, take, drop, replicate}
 use Rattle.buffer.specs.Bytes.{Bytes, same}
-use Rattle.word.specs.Hex.{hex, hex_bytes, hex_value, read_bytes}
+use Rattle.hexadecimal.specs.Hex.{hex, hex_bytes, hex_value, read_bytes}
 use Rattle.crc32_rule.specs.Crc32.{crc32_of}
 use Rattle.sector.specs.declared.Label.{Label}
 unfoldable pub use Rattle.date.specs.Date.{is_date}

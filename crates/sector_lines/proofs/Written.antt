@@ -10,7 +10,7 @@ use Rattle.buffer.specs.Bytes.{Bytes, same, put}
 use Rattle.buffer.proofs.Bytes.{same-append}
 use Rattle.buffer.proofs.Parts.{part_length, part_size}
 use Rattle.buffer.proofs.Put.{length-put, put_next, put_mid_lem, put_one, put_whole, put-none, put-tail}
-use Rattle.word.specs.Hex.{hex, hex_bytes}
+use Rattle.hexadecimal.specs.Hex.{hex, hex_bytes}
 use Rattle.sector.specs.Sector.{line, lines, label_lines, date_name, rec_name, part_name, of_name, type_name, size_name, score_name, crc_name, label_of, check, filled, encode}
 use Rattle.crc32_rule.specs.Crc32.{crc32_of}
 use Rattle.sector.proofs.Encode.{length-check, length-filled}

@@ -3,7 +3,7 @@
 
 ghost use Rattle.std.specs.Prelude.{◌≡◌, ◌++◌, ◌+◌, ◌≤◌, length, take};
 ghost use Rattle.buffer.specs.Bytes.{same, put};
-ghost use Rattle.word.specs.Hex.{hex, hex_bytes};
+ghost use Rattle.hexadecimal.specs.Hex.{hex, hex_bytes};
 ghost use Rattle.crc32_tables.specs.Digits.{rows};
 ghost use Rattle.sector.specs.Sector.{line, date_name, score_name, label_of, fits, encode, sector_length, body_length, lines_length, front_length, score_line_length};
 
@@ -38,7 +38,7 @@ pub fn write_line(d: &mut [u8], at: usize, name: &[u8], width: usize, n: usize)
     buffer::copy_at(d, at, name);
     let from = at + name.len();
     let end = from + width;
-    word::hex::put_hex(&mut d[from..end], n as u64);
+    hexadecimal::put_hex(&mut d[from..end], n as u64);
     d[end] = 10;
 }
 
@@ -50,7 +50,7 @@ fn write_score(d: &mut [u8], at: usize, score: &[u8])
     buffer::copy_at(d, at, b"score=");
     let from = at + SCORE_NAME;
     let end = from + SCORE_WIDTH;
-    word::hex::put_hex_bytes(&mut d[from..end], score);
+    hexadecimal::put_hex_bytes(&mut d[from..end], score);
     d[end] = 10;
 }
 

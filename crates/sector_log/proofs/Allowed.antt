@@ -11,7 +11,7 @@ use lib.ListN.{length}
 use Rattle.bedrock.proofs.Choices.{cond-first}
 use Rattle.buffer.specs.Bytes.{Bytes, same}
 use Rattle.buffer.proofs.Bytes.{same_refl}
-use Rattle.word.specs.Number.{small}
+use Rattle.digits.specs.Number.{small}
 use Rattle.sha1_digest.specs.Sha1.{sha1_of}
 use Rattle.kind.specs.Kind.{lawful, longest, zero_score}
 use Rattle.sector.specs.Sector.{sector_length, is_date_or_none}

@@ -20,11 +20,11 @@ use Rattle.block.proofs.Joined.{at-log, at-waiting, at-alone}
 use Rattle.block.proofs.Alike.{used-alike}
 use Rattle.kind.specs.Kind.{lawful}
 use Rattle.refusal.specs.declared.Refusal.TheVariants.{LogLength, BlockType}
-use Rattle.sector_log.specs.declared.Look.TheVariants.{Refused}
 use Rattle.sector_log.specs.LookUp.{held, absence, look_up, first_doubtful, log_allowed, waiting_allowed, lent_allowed, look_up_asked}
 use Rattle.sector_log.specs.Parts.{tape, written_from, moved}
 use Rattle.sector_log.specs.Promises.{LookUpAlone, WrittenBehindBoth, MovedAlike}
 use Rattle.sector_log.proofs.Alike.{held-alike, absence-alike, first-doubtful-alike, look_up_alike}
+use Rattle.std.specs.Prelude.{Err}
 
 module _ (log waiting : Bytes) where
   front : Bytes
@@ -142,7 +142,7 @@ module _ (log : Bytes) where
   look_up_alone = look_up_alike (tape log []) log none
 
   pub look_up_asked-alone : (t : ℕ) (s : Bytes)
-      → look_up_asked log [] t s ≡ cond (log_allowed (length log)) (cond (lawful t) (look_up log t s) (Refused BlockType)) (Refused LogLength)
+      → look_up_asked log [] t s ≡ cond (log_allowed (length log)) (cond (lawful t) (look_up log t s) (Err BlockType)) (Err LogLength)
   unfolding look_up_asked
   look_up_asked-alone t s = rw (lent-alone (length log), look_up_alone t s)
 

@@ -14,7 +14,8 @@ use Rattle.block.proofs.Joined.{used-joined}
 use Rattle.sector_log.specs.Parts.{written_from, moved, beside, room_for, append_row, can_settle, settled}
 use Rattle.sector_log.specs.Store.{after_store, receipt, parts_for, appended}
 use Rattle.sector_log.specs.Behind.{moved_behind, room_behind, appended_behind}
-use Rattle.sector_log.specs.declared.Stored.TheVariants.{New, Refused}
+use Rattle.sector_log.specs.declared.Stored.TheVariants.{New}
+use Rattle.std.specs.Prelude.{Ok, Err}
 
 module _ (log w : Bytes) (k : ℕ) where
   pub room-there : used log + used w + k ≤ sectors (length log) → used w + k ≤ sectors (length w) → room_for (beside log w) k ≡ true
@@ -60,8 +61,8 @@ pub appended-behind : (log w date : Bytes) (t : ℕ) (d : Bytes) → appended_be
 unfolding room_behind room_for append_row
 appended-behind log w date t d =
     ap (λ (n : ℕ). cond (leb (used log + used w + parts_for date d) (sectors (length log)) && leb (used w + parts_for date d) (sectors (length w)))
-    (after_store (receipt (sha1_of d) (New (record { 0 = n }))) (beside log (written_from (used log) w (record { kind = t; score = sha1_of d; bytes = d; first = n; date = date }))))
-    (after_store (receipt (sha1_of d) (Refused NoRoom)) (beside log w)))
+    (after_store (receipt (sha1_of d) (Ok (New (record { 0 = n })))) (beside log (written_from (used log) w (record { kind = t; score = sha1_of d; bytes = d; first = n; date = date }))))
+    (after_store (receipt (sha1_of d) (Err NoRoom)) (beside log w)))
     (sym (used-joined log w))
 
 pub moved-behind : (log w : Bytes) → moved_behind (used log) (used w) log w ≡ settled (beside log w)

@@ -1,5 +1,5 @@
 -- Look-up of a score and type in any log, and what is doubtful there.
-use Rattle.std.specs.Prelude.{Bool, false, cond, ◌&&◌, ◌||◌, List, [], ◌∷◌, ℕ, zero, suc, ◌%◌, leb, ltb, eqb, length}
+use Rattle.std.specs.Prelude.{Bool, false, cond, ◌&&◌, ◌||◌, List, [], ◌∷◌, ℕ, zero, suc, ◌%◌, leb, ltb, eqb, length, Ok, Err, Result}
 use Rattle.std.proofs.Math.Option.{Option, none, some}
 use Rattle.bedrock.specs.Choice.{on}
 use Rattle.bedrock.specs.Places.{found_from, within}
@@ -12,8 +12,6 @@ use Rattle.block.specs.Block.{Row, parts, place_of}
 use Rattle.block.specs.declared.Block.{Block}
 use Rattle.block.specs.Log.{sectors, used, sound}
 use Rattle.sector_log.specs.Parts.{tape}
-use Rattle.sector_log.specs.declared.Look.{Look}
-use Rattle.sector_log.specs.declared.Look.TheVariants.{Found, Refused}
 use Rattle.sector.specs.Sector.{sector_length}
 
 -- the sound blocks, in the log's order
@@ -58,28 +56,28 @@ held log t s = cond (lawful t && same s zero_score) (some (empty_row t)) (first_
 unfoldable pub absence : Bytes → Refusal
 absence log = cond (eqb (doubtful log) 0) NotHeld (NotKnown (record { 0 = first_doubtful log }))
 
-unfoldable pub look_up : Bytes → ℕ → Bytes → Look
-look_up log t s = on (held log t s) (Refused (absence log)) (λ r. Found (place_of r))
+unfoldable pub look_up : Bytes → ℕ → Bytes → Result Block Refusal
+look_up log t s = on (held log t s) (Err (absence log)) (λ r. Ok (place_of r))
 
 -- 13 is "block longer than count"
-abbrev pub counted : ℕ → Look → Look
-counted count (Found b) = cond (ltb count b.size) (Refused OverCount) (Found b)
-counted count (Refused w) = Refused w
+abbrev pub counted : ℕ → Result Block Refusal → Result Block Refusal
+counted count (Ok b) = cond (ltb count b.size) (Err OverCount) (Ok b)
+counted count (Err w) = Err w
 
 -- "gives this paper's number and values": a look-up's number, 0 where it finds a block; the values are then its first sector and size, and how long its labels are
-abbrev pub look_number : Look → ℕ
-look_number (Found b) = 0
-look_number (Refused w) = number_of w
+abbrev pub look_number : Result Block Refusal → ℕ
+look_number (Ok b) = 0
+look_number (Err w) = number_of w
 
 -- the block's place, where it finds one
-abbrev pub look_place : Look → Option Block
-look_place (Found b) = some b
-look_place (Refused w) = none
+abbrev pub look_place : Result Block Refusal → Option Block
+look_place (Ok b) = some b
+look_place (Err w) = none
 
 -- the doubtful sector that it tells, 0 where it tells none
-abbrev pub look_sector : Look → ℕ
-look_sector (Found b) = 0
-look_sector (Refused w) = told_sector w
+abbrev pub look_sector : Result Block Refusal → ℕ
+look_sector (Ok b) = 0
+look_sector (Err w) = told_sector w
 
 -- "The limit of 131,072 sectors becomes 1,048,576, with refusal 3 beyond it"
 abbrev pub most_sectors : ℕ
@@ -101,6 +99,6 @@ unfoldable pub lent_allowed : ℕ → ℕ → Bool
 lent_allowed m w = log_allowed m && waiting_allowed w
 
 -- look-up asked outside messages: tests 3, 9, then the look-up in the log and what waits behind its used part
-unfoldable pub look_up_asked : Bytes → Bytes → ℕ → Bytes → Look
+unfoldable pub look_up_asked : Bytes → Bytes → ℕ → Bytes → Result Block Refusal
 look_up_asked log waiting t s =
-    cond (lent_allowed (length log) (length waiting)) (cond (lawful t) (look_up (tape log waiting) t s) (Refused BlockType)) (Refused LogLength)
+    cond (lent_allowed (length log) (length waiting)) (cond (lawful t) (look_up (tape log waiting) t s) (Err BlockType)) (Err LogLength)

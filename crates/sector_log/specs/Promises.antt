@@ -1,5 +1,5 @@
 -- What is promised of look-up and doubt, for any log.
-use Rattle.std.specs.Prelude.{◌≡◌, true, false, cond, [], ◌∷◌, ◌++◌, ℕ, suc, ◌+◌, ◌≤◌, ◌<◌, length}
+use Rattle.std.specs.Prelude.{◌≡◌, true, false, cond, [], ◌∷◌, ◌++◌, ℕ, suc, ◌+◌, ◌≤◌, ◌<◌, length, Err}
 use Rattle.std.proofs.Math.Option.{none, some}
 use Rattle.buffer.specs.Bytes.{Bytes}
 use Rattle.sector_number.specs.declared.SectorNumber.{SectorNumber}
@@ -9,7 +9,6 @@ use Rattle.kind.specs.Kind.{lawful}
 use Rattle.block.specs.Block.{Row, parts, place_of, valid, written}
 use Rattle.block.specs.Log.{sectors, Alike, used, sound}
 use Rattle.sector_log.specs.Parts.{tape, written_from, moved}
-use Rattle.sector_log.specs.declared.Look.TheVariants.{Refused}
 use Rattle.sector_log.specs.LookUp.{blocks, in_block, outside, first_doubtful, held, absence, look_up, look_number, look_place, look_sector, log_allowed, look_up_asked}
 
 -- appending hides nothing: what look-up found it finds again, at the same place
@@ -77,4 +76,4 @@ AlikeAnswers = (a b : Bytes) → Alike a b
 abbrev pub LookUpAlone : Type 0
 LookUpAlone = (log : Bytes) (t : ℕ) (s : Bytes)
     → (look_up (tape log []) t s ≡ look_up log t s)
-    × (look_up_asked log [] t s ≡ cond (log_allowed (length log)) (cond (lawful t) (look_up log t s) (Refused BlockType)) (Refused LogLength))
+    × (look_up_asked log [] t s ≡ cond (log_allowed (length log)) (cond (lawful t) (look_up log t s) (Err BlockType)) (Err LogLength))

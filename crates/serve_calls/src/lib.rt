@@ -5,7 +5,7 @@ ghost use Rattle.std.specs.Prelude.{◌≡◌};
 ghost use Rattle.std.proofs.Math.Option.{some};
 ghost use Rattle.sector_log.specs.Parts.{beside};
 ghost use Rattle.indexed.specs.Indexed.{step_by};
-ghost use Rattle.results.specs.Serve.{session_of, served, served_of};
+ghost use Rattle.session_numbers.specs.Serve.{session_of, served, served_of};
 
 // One request, with a date, the log and its waiting part, and an index of any length; an empty one is the scan.
 // The result is the number of the refusal, 0 for none, and 256 times the session afterwards.

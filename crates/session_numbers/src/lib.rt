@@ -2,7 +2,7 @@
 #![tactic(auto)]
 
 ghost use Rattle.std.specs.Prelude.{◌≡◌, ◌+◌, ◌*◌};
-ghost use Rattle.results.specs.Serve.{session_of, session_number};
+ghost use Rattle.session_numbers.specs.Serve.{session_of, session_number};
 
 use request::{Answer, Session};
 

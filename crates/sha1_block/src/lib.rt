@@ -54,10 +54,8 @@ fn first_rounds(h: Hash, w: &[u32; 16]) -> Hash
     ensures { (m : List ℕ) → Ring m 15 w.now → result ≡ rounds_of 16 (schedule_of 64 m) h }
 {
     let mut s = h;
-    let mut t = 0;
-    while t < 16 {
-        s = round(s, 0, w[t]);
-        t += 1;
+    for x in w {
+        s = round(s, 0, *x);
     }
     s
 }

@@ -6,7 +6,7 @@ use native.Mathlib.Nat.{pow-suc, mul_assoc}
 use native.Mathlib.Numerals.{add-one}
 use native.Mathlib.Omega.{arith}
 use lib.ListN.{length, take, set, replicate, length-append, length-replicate}
-use Rattle.word.specs.Number.{digits, be_bytes}
+use Rattle.digits.specs.Number.{digits, be_bytes}
 use Rattle.sha1_digest.specs.declared.Stream.{Stream}
 use Rattle.sha1_digest.specs.Sha1.{digest_of, zeros_of, pad_of, padded_message, sha1_of}
 use Rattle.sha1_digest.specs.Stream.{Holds}

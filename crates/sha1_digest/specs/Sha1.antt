@@ -2,7 +2,7 @@
 -- FIPS 180-4 defines the hash of messages of fewer than 2 ^ 64 bits, which is 2 ^ 61 bytes. Here a longer list has one too: its length in bits is
 -- padded modulo 2 ^ 64.
 use Rattle.std.specs.Prelude.{List, ◌∷◌, ◌++◌, ℕ, zero, suc, ◌-◌, ◌*◌, ◌/◌, ◌%◌, length, take, drop, replicate}
-use Rattle.word.specs.Number.{be_bytes}
+use Rattle.digits.specs.Number.{be_bytes}
 use Rattle.sha1_block.specs.declared.Hash.{Hash}
 use Rattle.sha1_block.specs.Block.{initial, compress_of}
 

@@ -1,7 +1,7 @@
 // SHA-1 (FIPS 180-4): of a message at once, and of one that comes in pieces.
 #![tactic(auto)]
 
-ghost use Rattle.std.specs.Prelude.{◌≡◌, List, [], ◌++◌, ℕ, min};
+ghost use Rattle.std.specs.Prelude.{◌≡◌, List, [], ◌++◌, ℕ};
 ghost use Rattle.sha1_digest.specs.Sha1.{digest_of, sha1_of};
 ghost use Rattle.sha1_digest.specs.Stream.{Holds};
 
@@ -30,17 +30,7 @@ pub fn start() -> Stream
     }
 }
 
-// How many bytes are taken in at once: as many as have room in a block, or all that are left.
-fn fewer(room: usize, left: usize) -> usize
-    ensures { result ≡ min room left }
-{
-    if left < room {
-        return left;
-    }
-    room
-}
-
-// Takes more bytes in. A whole block that comes where no bytes wait is not copied.
+// Takes more bytes in: at once as many as have room in a block, or all that are left. A whole block that comes where no bytes wait is not copied.
 pub fn absorb(s: Stream, more: &[u8]) -> Stream
     ensures { (m : List ℕ) → Holds s m → Holds result (m ++ more.now) }
 {
@@ -49,7 +39,7 @@ pub fn absorb(s: Stream, more: &[u8]) -> Stream
     let mut n = (s.len % 64) as usize;
     let mut i = 0;
     while i < more.len() {
-        let k = fewer(64 - n, more.len() - i);
+        let k = (64 - n).min(more.len() - i);
         let end = i + k;
         if k == 64 {
             h = sha1_block::compress(h, &more[i..end]);

@@ -20,10 +20,8 @@ pub fn words(b: &[u8]) -> [u32; 16]
     ensures { result ≡ words_of 16 b.now }
 {
     let mut w = [0u32; 16];
-    let mut i = 0;
-    while i < 16 {
-        w[i] = word_at(b, i);
-        i += 1;
+    for (i, x) in w.iter_mut().enumerate() {
+        *x = word_at(b, i);
     }
     w
 }

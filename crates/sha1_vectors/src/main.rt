@@ -5,22 +5,12 @@ ghost use Rattle.std.specs.Prelude.{◌<◌, ◌≤◌};
 
 use std::io;
 
-fn wide(x: u8) -> u64 {
-    x as u64
-}
-
-fn end_line(rt: &impl Print) -> io::Result<()> {
-    println!(rt;)
-}
-
 // A digest as a line of hexadecimal digits.
 fn print_digest(rt: &impl Print, d: [u8; 20]) -> io::Result<()> {
-    let mut i = 0;
-    while i < 20 {
-        print!(rt; "{:02x}", wide(d[i]))?;
-        i += 1;
+    for b in d {
+        print!(rt; "{b:02x}")?;
     }
-    end_line(rt)
+    println!(rt;)
 }
 
 fn print_sha1(rt: &impl Print, m: &[u8]) -> io::Result<()> {
@@ -32,10 +22,8 @@ fn print_counted(rt: &impl Print, n: usize) -> io::Result<()>
     requires { n ≤ 128 }
 {
     let mut m = [0u8; 128];
-    let mut i = 0;
-    while i < 128 {
-        m[i] = i as u8;
-        i += 1;
+    for (i, b) in m.iter_mut().enumerate() {
+        *b = i as u8;
     }
     print_sha1(rt, &m[..n])
 }
@@ -60,8 +48,7 @@ fn next(turn: usize, left: usize) -> usize
     requires { 0 < left }
     ensures { (0 < result) × (result ≤ 1000) × (result ≤ left) }
 {
-    let n = uneven(turn);
-    if n < left { n } else { left }
+    uneven(turn).min(left)
 }
 
 // The digest of a million bytes `a` that come in pieces.

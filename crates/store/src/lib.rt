@@ -12,7 +12,6 @@ ghost use Rattle.sector_log.specs.Store.{after_store, receipt, compared};
 ghost use Rattle.sector_log.specs.Store.{store as store_of};
 
 use block::Block;
-use reader::Place;
 use refusal::Refusal;
 use sector::SECTOR;
 use sector_log::{Receipt, Stored};
@@ -25,19 +24,19 @@ pub fn compare<'a>(
     waiting: &'a [u8],
     b: Block,
     data: &[u8],
-) -> Stored
+) -> Result<Stored, Refusal>
     requires { (end.0 ≤ sectors (length log.now)) × Inside (end.0 + sectors (length waiting.now)) b }
     ensures { (L : Lent) → after_store (receipt (sha1_of «data».now) result) L
         ≡ compared L (bytes_of (joined end.0 log.now waiting.now) b) b.first.0 «data».now }
 {
     if b.size != data.len() {
-        return Stored::Refused(Refusal::Clash);
+        return Err(Refusal::Clash);
     }
     let first = b.first;
     if reader::same_bytes(log, end, waiting, b, data) {
-        return Stored::Duplicate(first);
+        return Ok(Stored::Duplicate(first));
     }
-    Stored::Refused(Refusal::Clash)
+    Err(Refusal::Clash)
 }
 
 // Stores a block of a type, with a date. The end of the used part is looked for only where the block is appended, and then among the sectors before the
@@ -49,7 +48,7 @@ pub fn store(log: &[u8], waiting: &mut [u8], date: &[u8], kind: u8, data: &[u8])
     let score = sha1_digest::sha1(data);
     let end = lookup::border(log, waiting);
     let place = lookup::find_held(log, end, waiting, kind, &score);
-    let Place::At(b) = place else {
+    let Some(b) = place else {
         let to = SECTOR * end.0;
         let used = reader::used_part(&log[..to]);
         let stored = insert::append_new(

@@ -12,14 +12,13 @@ use Rattle.block.proofs.Facts.{parts_pos}
 use Rattle.block.proofs.Sound.{sound-reads}
 use Rattle.block.proofs.Apart.{sound-used}
 use Rattle.reader.specs.Reader.{placed}
-use Rattle.reader.specs.declared.Place.{Place}
-use Rattle.reader.specs.declared.Place.TheVariants.{At, Nowhere}
 use Rattle.sector_log.specs.LookUp.{blocks, outside, doubtful}
 use Rattle.sector_log.proofs.Doubt.{walked-zero, walked_none, walked-some, doubt-none, doubt-some}
 use Rattle.sector_log.specs.Promises.{PassedTo}
 use Rattle.sector_log.proofs.Records.{records_none, records_some, records_used}
 use Rattle.lookup.proofs.Outcomes.{placed-some, placed-none}
 use Rattle.survey.specs.Survey.{survey_of}
+use Rattle.std.specs.Prelude.{Some, None, Option as Optional}
 
 -- the walk stands at n, with what it counted
 pub record Counted (log : Bytes) (n records doubts : ℕ) : Type 0 where
@@ -33,7 +32,7 @@ pub counted-zero : (log : Bytes) → Counted log 0 0 0
 unfolding found_from outside
 counted-zero log = record { walked = walked-zero log; inside = omega arith; blocks-before = refl; doubts_before = refl; few = omega arith }
 
-pub counted_none : (log : Bytes) (n r d : ℕ) (p : Place) → Counted log n r d → n < used log → p ≡ placed (sound log n) → p ≡ Nowhere → Counted log (n + 1) r (d + 1)
+pub counted_none : (log : Bytes) (n r d : ℕ) (p : Optional Block) → Counted log n r d → n < used log → p ≡ placed (sound log n) → p ≡ None → Counted log (n + 1) r (d + 1)
 counted_none log n r d k p h e z =
     let o = placed-none (sound log n) k e z in
     record {
@@ -44,7 +43,7 @@ counted_none log n r d k p h e z =
       few = omega (arith, p.few);
     }
 
-pub counted-some : (log : Bytes) (n r d : ℕ) (p : Place) (b : Block) → Counted log n r d → p ≡ placed (sound log n) → p ≡ At b
+pub counted-some : (log : Bytes) (n r d : ℕ) (p : Optional Block) (b : Block) → Counted log n r d → p ≡ placed (sound log n) → p ≡ Some b
     → (more : ℕ) → more ≡ parts_in b → Counted log (n + more) (r + 1) d
 counted-some log n r d k b p e z more h =
     let s = placed-some (sound log n) k b e z in
@@ -59,7 +58,7 @@ counted-some log n r d k b p e z more h =
     })
 
 -- a sound block takes a sector
-pub parts-some : (log : Bytes) (n : ℕ) (p : Place) (b : Block) → p ≡ placed (sound log n) → p ≡ At b → 0 < parts_in b
+pub parts-some : (log : Bytes) (n : ℕ) (p : Optional Block) (b : Block) → p ≡ placed (sound log n) → p ≡ Some b → 0 < parts_in b
 parts-some log n p b e z =
     let s = placed-some (sound log n) p b e z in
     rw s.2 (parts_pos s.0 (sound-reads log n s.0 s.1).0)

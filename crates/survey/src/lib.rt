@@ -5,7 +5,6 @@ ghost use Rattle.std.specs.Prelude.{◌≡◌};
 ghost use Rattle.block.specs.Log.{used};
 ghost use Rattle.survey.specs.Survey.{survey_of};
 
-use reader::Place;
 use sector::SECTOR;
 use sector_number::SectorNumber;
 
@@ -29,12 +28,12 @@ pub fn scan(log: &[u8], end: SectorNumber) -> Survey
     while n < end.0 {
         let place = reader::sound_at(log, whole, &none, SectorNumber(n));
         match place {
-            Place::At(b) => {
+            Some(b) => {
                 let parts = block::parts_of(b.label, b.size);
                 records += 1;
                 n += parts;
             }
-            Place::Nowhere => {
+            None => {
                 doubtful += 1;
                 n += 1;
             }

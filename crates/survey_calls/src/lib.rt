@@ -3,22 +3,20 @@
 
 ghost use Rattle.std.specs.Prelude.{◌≡◌, ◌≤◌};
 ghost use Rattle.report.specs.Report.{report_of};
-ghost use Rattle.results.specs.Survey.{text_length, report_number, reported, report_result, sound_result};
+ghost use Rattle.survey_calls.specs.Survey.{text_length, report_number, reported, report_result, sound_result};
 
-use reader::Place;
 use refusal::Refusal;
-use report::Reported;
 use sector::SECTOR;
 use sector_number::SectorNumber;
 
 // The result of a report: 256 times the length of its text, or the number of the refusal.
-fn report_number(told: Reported) -> u32
+fn report_number(told: Result<usize, Refusal>) -> u32
     requires { text_length told ≤ 128 }
     ensures { result ≡ report_number told }
 {
     match told {
-        Reported::Written(n) => 256 * (n as u32),
-        Reported::Refused(why) => refusal::number(why) as u32,
+        Ok(n) => 256 * (n as u32),
+        Err(why) => refusal::number(why) as u32,
     }
 }
 
@@ -43,7 +41,7 @@ pub fn sound_at(log: &[u8], n: usize) -> u32
     let none = [0u8; 0];
     let place = reader::sound_at(log, SectorNumber(count), &none, SectorNumber(n));
     match place {
-        Place::At(b) => 256 * (b.size as u32),
-        Place::Nowhere => 0,
+        Some(b) => 256 * (b.size as u32),
+        None => 0,
     }
 }

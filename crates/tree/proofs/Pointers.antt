@@ -13,6 +13,7 @@ use Rattle.kind.specs.Kind.{zero_score}
 use Rattle.sector.specs.Sector.{filled}
 use Rattle.tree.specs.Tree.{piece, pointer}
 use Rattle.tree.proofs.Filled.{part_filled}
+pub use Rattle.reader.proofs.Pieces.{length-bytes}
 
 pub pointer-past : (b : Bytes) (i : ℕ) → length b ≤ 20 * i → zero_score ≡ pointer b i
 unfolding pointer

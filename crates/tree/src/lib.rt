@@ -16,16 +16,7 @@ use sector_number::SectorNumber;
 pub fn least(a: usize, b: usize, c: u64) -> usize
     ensures { result ≡ min a (min b c) }
 {
-    if a <= b {
-        if a as u64 <= c {
-            return a;
-        }
-        return c as usize;
-    }
-    if b as u64 <= c {
-        return b;
-    }
-    c as usize
+    c.min(a.min(b) as u64) as usize
 }
 
 // The bytes of a block from byte k on, where they lie: up to the end of the payload, of the block or of the room.

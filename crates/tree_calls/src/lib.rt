@@ -6,18 +6,17 @@ ghost use Rattle.std.specs.Prelude.{◌≡◌, ◌≤◌};
 ghost use Rattle.file.specs.File.{located};
 ghost use Rattle.fill.specs.Fill.{fill_of};
 ghost use Rattle.refusal.specs.Number.{told_sector};
-ghost use Rattle.file.specs.declared.Located.TheVariants.{Refused};
-ghost use Rattle.results.specs.Tree.{most_both, packed, stop_sector, filled_up, fill_result};
+ghost use Rattle.results.specs.Sizes.{most_both};
+ghost use Rattle.tree_calls.specs.Tree.{packed, stop_sector, filled_up, fill_result};
 
 use file::Located;
-use fill::Stop;
 use index_calls::ABOVE_LENGTH;
 use refusal::Refusal;
 
 // A refusal packed as a run is: its number, and the sector that it tells of in the place of a start.
 fn refused(why: Refusal) -> u64
     requires { told_sector why ≤ most_both }
-    ensures { result ≡ packed (Refused why) }
+    ensures { result ≡ packed (Err why) }
 {
     let number = refusal::number(why);
     let sector = refusal::told_sector(why);
@@ -25,12 +24,12 @@ fn refused(why: Refusal) -> u64
 }
 
 // The sector that the end of filling tells of, 0 where it tells of none.
-fn stop_sector(stop: Stop) -> usize
+fn stop_sector(stop: Result<(), Refusal>) -> usize
     ensures { result ≡ stop_sector stop }
 {
     match stop {
-        Stop::Done => 0,
-        Stop::Refused(why) => refusal::told_sector(why),
+        Ok(()) => 0,
+        Err(why) => refusal::told_sector(why),
     }
 }
 
@@ -40,13 +39,18 @@ fn stop_sector(stop: Stop) -> usize
 pub fn locate<'a>(log: &'a [u8], waiting: &'a [u8], page: &[u8], entry: &[u8], offset: u64) -> u64
     ensures { result ≡ packed (located log.now waiting.now page.now entry.now offset) }
 {
-    let run = file::locate(log, waiting, page, entry, offset);
-    match run {
-        Located::Stored { at, length } => 256 * (4 * (length as u64 + ABOVE_LENGTH * (at as u64))),
-        Located::Waiting { at, length } => 256
-            * (1 + 4 * (length as u64 + ABOVE_LENGTH * (at as u64))),
-        Located::Zeros { length } => 256 * (2 + 4 * (length as u64)),
-        Located::Refused(why) => refused(why),
+    let located = file::locate(log, waiting, page, entry, offset);
+    match located {
+        Ok(run) => match run {
+            Located::Stored { at, length } => {
+                256 * (4 * (length as u64 + ABOVE_LENGTH * (at as u64)))
+            }
+            Located::Waiting { at, length } => {
+                256 * (1 + 4 * (length as u64 + ABOVE_LENGTH * (at as u64)))
+            }
+            Located::Zeros { length } => 256 * (2 + 4 * (length as u64)),
+        },
+        Err(why) => refused(why),
     }
 }
 

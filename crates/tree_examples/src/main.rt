@@ -5,6 +5,7 @@ ghost use Rattle.std.specs.Prelude.{◌≡◌, ◌+◌, ◌*◌, ◌≤◌, ◌<
 
 use file::Located;
 use kind::LONGEST;
+use refusal::Refusal;
 use std::io;
 
 // ---- printing
@@ -188,12 +189,16 @@ fn damage(log: &mut [u8], sector: usize)
 // ---- reading
 
 // Prints which buffer holds a run, and where it starts there.
-fn print_place(rt: &impl Print, run: Located) -> io::Result<()> {
+fn print_place(rt: &impl Print, run: Result<Located, Refusal>) -> io::Result<()> {
     match run {
-        Located::Stored { at, length: _ } => print_number(rt, b" from=log start=", at as u64),
-        Located::Waiting { at, length: _ } => print_number(rt, b" from=waiting start=", at as u64),
-        Located::Zeros { length: _ } => print(rt, b" from=page start=0"),
-        Located::Refused(_) => Ok(()),
+        Ok(Located::Stored { at, length: _ }) => print_number(rt, b" from=log start=", at as u64),
+        Ok(Located::Waiting { at, length: _ }) => print_number(
+            rt,
+            b" from=waiting start=",
+            at as u64,
+        ),
+        Ok(Located::Zeros { length: _ }) => print(rt, b" from=page start=0"),
+        Err(_) => Ok(()),
     }
 }
 

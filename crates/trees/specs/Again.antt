@@ -1,9 +1,9 @@
 -- "reading a file again after appends gives the same run", and so of a walk and of a comparison: what an archive answered about a tree it answers again, on any log.
-use Rattle.std.specs.Prelude.{◌≡◌, true, List, [], ℕ, length}
+use Rattle.std.specs.Prelude.{◌≡◌, true, List, [], ℕ, length, Ok}
 use Rattle.std.proofs.Math.Option.{Option}
 use Rattle.bedrock.specs.Choice.{on}
 use Rattle.buffer.specs.Bytes.{Bytes}
-use Rattle.word.specs.Number.{small}
+use Rattle.digits.specs.Number.{small}
 use Rattle.sector_log.specs.LookUp.{lent_allowed}
 use Rattle.sector_log.specs.Parts.{tape, Lent}
 use Rattle.request.specs.Step.{step}
@@ -15,7 +15,6 @@ use Rattle.file.specs.File.{extent_at, located}
 use Rattle.file_laws.specs.Path.{Answers}
 use Rattle.file_laws.specs.Bytes.{run_bytes}
 use Rattle.walk.specs.Walk.{walk_of}
-use Rattle.visit.specs.declared.End.TheVariants.{Done}
 use Rattle.visit.specs.Visit.{walked}
 use Rattle.comparison.specs.Differences.{differences_of}
 
@@ -35,11 +34,11 @@ ReadsAlike L later =
 -- a walk that ends does so later with as many visits
 abbrev pub WalksAlike : Lent → Lent → Type 0
 WalksAlike L later = (score : Bytes) (allowance visits : ℕ)
-    → walk_of L.log (waiting_of L) score allowance ≡ walked visits Done → walk_of later.log (waiting_of later) score allowance ≡ walked visits Done
+    → walk_of L.log (waiting_of L) score allowance ≡ walked visits (Ok tt) → walk_of later.log (waiting_of later) score allowance ≡ walked visits (Ok tt)
 
 -- a comparison that ends with number 0 does so later with the same count and units
 abbrev pub ComparesAlike : Lent → Lent → Type 0
-ComparesAlike L later = (x y : Bytes) (allowance : ℕ) → (differences_of L.log (waiting_of L) x y allowance).end ≡ Done
+ComparesAlike L later = (x y : Bytes) (allowance : ℕ) → (differences_of L.log (waiting_of L) x y allowance).end ≡ Ok tt
     → differences_of later.log (waiting_of later) x y allowance ≡ differences_of L.log (waiting_of L) x y allowance
 
 -- all four

@@ -4,7 +4,7 @@
 ghost use Rattle.std.specs.Prelude.{◌≡◌, ◌+◌, ◌≤◌, ◌<◌, length};
 ghost use Rattle.block.specs.Log.{sectors, at, joined, used};
 
-use sector::SECTOR;
+use block::SECTOR;
 use sector_number::SectorNumber;
 
 // Sector n of one run.
@@ -38,13 +38,10 @@ pub fn sector_at<'a>(
 pub fn used_part(log: &[u8]) -> SectorNumber
     ensures { result.0 ≡ used log.now }
 {
-    let mut n = log.len() / SECTOR;
-    while 0 < n {
-        let last = n - 1;
-        if !buffer::is_zero(sector_of(log, SectorNumber(last))) {
-            return SectorNumber(n);
+    for n in (0..log.len() / SECTOR).rev() {
+        if !buffer::is_zero(sector_of(log, SectorNumber(n))) {
+            return SectorNumber(n + 1);
         }
-        n = last;
     }
     SectorNumber(0)
 }

@@ -9,12 +9,11 @@ use lib.Dec.{ltb, eqb}
 use borrow.Author.Tests.{ltb-true, ltb-false, eqb-true, eqb-false, ne_eqb}
 use lib.ListN.{length, get_or, drop, replicate, drop_of_length-le}
 use lib.Seq.{drop-cons}
+use Rattle.std.specs.Prelude.{Option, Some, None}
 use Rattle.buffer.specs.Bytes.{Bytes}
 use Rattle.utf8.specs.Grammar.{tail, follows}
 use Rattle.utf8.specs.Scan.{low_after, high_after, wait, due, goes_on, Tells}
 use Rattle.utf8.specs.declared.Due.{Due}
-use Rattle.utf8.specs.declared.After.{After}
-use Rattle.utf8.specs.declared.After.TheVariants.{Wait, Ill}
 use Rattle.utf8.proofs.Rows.{begins, begins-none, inside, under, over}
 
 -- ---- the second octet's range
@@ -46,14 +45,14 @@ high-tail b m n = rw (ne_eqb b 0xED m, ne_eqb b 0xF4 n)
 -- ---- the first octet
 
 module _ (b : ℕ) where
-  pub first_nul : b ≡ 0 → Tells Ill [] b
+  pub first_nul : b ≡ 0 → Tells None [] b
   first_nul e bs = sym (begins-none b bs 0 0 0 refl refl refl (omega arith) (omega arith))
 
   pub first_one : (b ≡ 0 → ⊥) → b < 0x80 → Tells (wait 0 b) [] b
   unfolding due
   first_one n h bs = sym (begins b bs 0 refl refl refl (omega arith) (omega arith))
 
-  pub first_tail : 0x80 ≤ b → b < 0xC2 → Tells Ill [] b
+  pub first_tail : 0x80 ≤ b → b < 0xC2 → Tells None [] b
   first_tail h k bs = sym (begins-none b bs 1 0x80 0xC1 refl refl refl h (omega arith))
 
   pub first_two : 0xC2 ≤ b → b < 0xE0 → Tells (wait 1 b) [] b
@@ -91,25 +90,25 @@ module _ (b : ℕ) where
           rw (p, q, ne_eqb b 0xE0 (λ e. omega arith), ne_eqb b 0xED (λ e. omega arith))
           (sym (begins b bs 7 refl refl refl (omega (arith, m)) (omega (arith, n))))
 
-  pub first_past : 0xF5 ≤ b → Tells Ill [] b
+  pub first_past : 0xF5 ≤ b → Tells None [] b
   first_past h bs = sym (begins-none b bs 9 0xF5 b refl refl refl h (omega arith))
 
 -- ---- an octet that is due
 
 module _ (d : Due) (b : ℕ) where
-  pub due-none : (a : After) → d.left ≡ 0 → Tells a [] b → Tells a (due d) b
+  pub due-none : (a : Option Due) → d.left ≡ 0 → Tells a [] b → Tells a (due d) b
   unfolding due
   due-none a e t bs = rw e (t bs)
 
-  pub due-under : (d.left ≡ 0 → ⊥) → b < d.low → Tells Ill (due d) b
+  pub due-under : (d.left ≡ 0 → ⊥) → b < d.low → Tells None (due d) b
   unfolding due follows
   due-under n h bs = rw (ne_eqb d.left 0 n, under (record { low = d.low; high = d.high }) b h)
 
-  pub due-over : (d.left ≡ 0 → ⊥) → d.high < b → Tells Ill (due d) b
+  pub due-over : (d.left ≡ 0 → ⊥) → d.high < b → Tells None (due d) b
   unfolding due follows
   due-over n h bs = rw (ne_eqb d.left 0 n, over (record { low = d.low; high = d.high }) b h)
 
-  pub due-next : (d.left ≡ 0 → ⊥) → d.low ≤ b → b ≤ d.high → Tells (Wait (record { left = d.left - 1; low = 0x80; high = 0xBF })) (due d) b
+  pub due-next : (d.left ≡ 0 → ⊥) → d.low ≤ b → b ≤ d.high → Tells (Some (record { left = d.left - 1; low = 0x80; high = 0xBF })) (due d) b
   unfolding due follows
   due-next n h k bs = rw (ne_eqb d.left 0 n, inside (record { low = d.low; high = d.high }) b h k) (tails (d.left - 1))
     where
@@ -129,12 +128,12 @@ ends d s i h = rw (drop_of_length-le s h) (go (eqb d.left 0) refl)
     go false e = rw e
 
 -- an octet taken
-module _ (a : After) (d : Due) (s : Bytes) (i : ℕ) (h : i < length s) (t : Tells a (due d) (get_or s i 0)) where
+module _ (a : Option Due) (d : Due) (s : Bytes) (i : ℕ) (h : i < length s) (t : Tells a (due d) (get_or s i 0)) where
   goes : goes_on a (drop (i + 1) s) ≡ follows (due d) (drop i s)
   goes = rw (drop-cons s i 0 h, add-one) (t (drop (suc i) s))
 
-  pub goes_on_lem : (e : Due) → a ≡ Wait e → follows (due e) (drop (i + 1) s) ≡ follows (due d) (drop i s)
+  pub goes_on_lem : (e : Due) → a ≡ Some e → follows (due e) (drop (i + 1) s) ≡ follows (due d) (drop i s)
   goes_on_lem e w = rw w at goes
 
-  pub goes_ill : a ≡ Ill → false ≡ follows (due d) (drop i s)
+  pub goes_ill : a ≡ None → false ≡ follows (due d) (drop i s)
   goes_ill w = rw w at goes

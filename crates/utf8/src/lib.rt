@@ -13,62 +13,51 @@ pub struct Due {
     high: u8,
 }
 
-// What is due after a byte, or that no text goes on so.
-#[derive(Clone, Copy)]
-pub enum After {
-    Wait(Due),
-    Ill,
-}
-
 // The least byte after the first byte b of a character: none has a longer form than it needs.
 fn low_after(b: u8) -> u8
     ensures { result ≡ low_after b }
 {
-    if b == 0xe0 {
-        return 0xa0;
+    match b {
+        0xe0 => 0xa0,
+        0xf0 => 0x90,
+        _ => 0x80,
     }
-    if b == 0xf0 {
-        return 0x90;
-    }
-    0x80
 }
 
 // The greatest: no surrogate, and nothing past the last character.
 fn high_after(b: u8) -> u8
     ensures { result ≡ high_after b }
 {
-    if b == 0xed {
-        return 0x9f;
+    match b {
+        0xed => 0x9f,
+        0xf4 => 0x8f,
+        _ => 0xbf,
     }
-    if b == 0xf4 {
-        return 0x8f;
-    }
-    0xbf
 }
 
 // Waits for `left` bytes after the first byte b.
-fn wait(left: u8, b: u8) -> After
+fn wait(left: u8, b: u8) -> Option<Due>
     ensures { result ≡ wait left b }
 {
-    After::Wait(Due {
+    Some(Due {
         left,
         low: low_after(b),
         high: high_after(b),
     })
 }
 
-// What is due after the first byte b of a character.
-fn after_first(b: u8) -> After
+// What is due after the first byte b of a character; none where no text goes on so.
+fn after_first(b: u8) -> Option<Due>
     ensures { Tells result [] b }
 {
     if b == 0 {
-        return After::Ill;
+        return None;
     }
     if b < 0x80 {
         return wait(0, b);
     }
     if b < 0xc2 {
-        return After::Ill;
+        return None;
     }
     if b < 0xe0 {
         return wait(1, b);
@@ -79,23 +68,23 @@ fn after_first(b: u8) -> After
     if b < 0xf5 {
         return wait(3, b);
     }
-    After::Ill
+    None
 }
 
 // What is due after the byte b where d was due.
-fn after_byte(d: Due, b: u8) -> After
+fn after_byte(d: Due, b: u8) -> Option<Due>
     ensures { Tells result (due d) b }
 {
     if d.left == 0 {
         return after_first(b);
     }
     if b < d.low {
-        return After::Ill;
+        return None;
     }
     if d.high < b {
-        return After::Ill;
+        return None;
     }
-    After::Wait(Due {
+    Some(Due {
         left: d.left - 1,
         low: 0x80,
         high: 0xbf,
@@ -111,14 +100,11 @@ pub fn is_well_formed(s: &[u8]) -> bool
         low: 0x80,
         high: 0xbf,
     };
-    let mut i: usize = 0;
-    while i < s.len() {
-        let next = after_byte(d, s[i]);
-        let After::Wait(more) = next else {
+    for &b in s {
+        let Some(more) = after_byte(d, b) else {
             return false;
         };
         d = more;
-        i += 1;
     }
     d.left == 0
 }

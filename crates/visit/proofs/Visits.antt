@@ -16,17 +16,15 @@ use Rattle.block.specs.Block.{Row, place_of, Inside}
 use Rattle.block.specs.declared.Block.{Block}
 use Rattle.block.specs.Log.{sectors, joined, bytes_of}
 use Rattle.block.proofs.Joined.{sectors-joined}
-use Rattle.sector_log.specs.declared.Look.{Look}
-use Rattle.sector_log.specs.declared.Look.TheVariants.{Found, Refused}
 use Rattle.sector_log.specs.LookUp.{held, absence, look_up, counted}
 use Rattle.lookup.proofs.Held.{held-stands, HeldWithin}
 use Rattle.entry.specs.declared.Entry.{Entry}
 use Rattle.tree.specs.Tree.{type_at, count_at}
 use Rattle.visit.specs.declared.Walked.{Walked}
 use Rattle.visit.specs.declared.Met.{Met}
-use Rattle.visit.specs.declared.End.TheVariants.{Refused as Stopped}
 use Rattle.visit.specs.Visit.{walked, more, visiting}
 use Rattle.visit.specs.Met.{met, met_of, end_of, answer_of}
+use Rattle.std.specs.Prelude.{Ok, Err, Result}
 
 positive : (n : ℕ) → (n ≡ 0 → ⊥) → 0 < n
 positive n h = omega arith
@@ -38,7 +36,7 @@ abbrev pub by_tests : {A : Type 0} → Bool → Bool → Option Row → Refusal 
 by_tests a b o w count refused found = cond a (refused 0 Nest) (cond b (refused 0 Spent) (on o (refused 1 w) (λ r. cond (ltb count (length r.bytes)) (refused 1 OverCount) (found r))))
 
 abbrev pub visit_by : Bool → Bool → Option Row → Refusal → ℕ → (Bytes → Walked) → Walked
-visit_by a b o w count next = by_tests a b o w count (λ n y. walked n (Stopped y)) (λ r. more (next r.bytes))
+visit_by a b o w count next = by_tests a b o w count (λ n y. walked n (Err y)) (λ r. more (next r.bytes))
 
 -- a row that passes them
 pub record FoundByTests (a b : Bool) (o : Option Row) (count : ℕ) (r : Row) : Type 0 where
@@ -66,23 +64,23 @@ by_tests_lem a b o w count f g P u v = by_tests-both a b o w count f g f g (λ x
 
 -- what is met is one
 abbrev refused_met : ℕ → Refusal → Met
-refused_met n y = met n (Refused y)
+refused_met n y = met n (Err y)
 
 abbrev found_met : Row → Met
-found_met r = met 1 (Found (place_of r))
+found_met r = met 1 (Ok (place_of r))
 
 met_by_tests : (a b : Bool) (o : Option Row) (w : Refusal) (count : ℕ)
-    → cond a (met 0 (Refused Nest)) (cond b (met 0 (Refused Spent)) (met 1 (counted count (on o (Refused w) (λ r. Found (place_of r)))))) ≡ by_tests a b o w count refused_met found_met
+    → cond a (met 0 (Err Nest)) (cond b (met 0 (Err Spent)) (met 1 (counted count (on o (Err w) (λ r. Ok (place_of r)))))) ≡ by_tests a b o w count refused_met found_met
 met_by_tests true b o w count = refl
 met_by_tests false true o w count = refl
 met_by_tests false false none w count = refl
 met_by_tests false false (some r) w count = go (ltb count (length r.bytes))
   where
-    go : (c : Bool) → met 1 (cond c (Refused OverCount) (Found (place_of r))) ≡ cond c (refused_met 1 OverCount) (found_met r)
+    go : (c : Bool) → met 1 (cond c (Err OverCount) (Ok (place_of r))) ≡ cond c (refused_met 1 OverCount) (found_met r)
     go true = refl
     go false = refl
 
-spent_by_tests : (a b : Bool) (l : Look) (left : ℕ) → (b ≡ false → 0 < left) → (cond a (met 0 (Refused Nest)) (cond b (met 0 (Refused Spent)) (met 1 l))).spent ≤ left
+spent_by_tests : (a b : Bool) (l : Result Block Refusal) (left : ℕ) → (b ≡ false → 0 < left) → (cond a (met 0 (Err Nest)) (cond b (met 0 (Err Spent)) (met 1 l))).spent ≤ left
 spent_by_tests true b l left h = omega arith
 spent_by_tests false true l left h = omega arith
 spent_by_tests false false l left h = omega (arith, h refl)
@@ -90,16 +88,16 @@ spent_by_tests false false l left h = omega (arith, h refl)
 -- ---- the program's visit
 
 module _ (log : Bytes) (nest left kind count : ℕ) (score : Bytes) where
-  pub met_nest : 16 < nest → met 0 (Refused Nest) ≡ met_of log nest left kind count score
+  pub met_nest : 16 < nest → met 0 (Err Nest) ≡ met_of log nest left kind count score
   unfolding met_of
   met_nest h = rw (lt-ltb 16 nest h)
 
   module _ (h : nest ≤ 16) where
-    pub met-spent : left ≡ 0 → met 0 (Refused Spent) ≡ met_of log nest left kind count score
+    pub met-spent : left ≡ 0 → met 0 (Err Spent) ≡ met_of log nest left kind count score
     unfolding met_of
     met-spent e = rw (le-ltb 16 nest h, eq-eqb left 0 e)
 
-    pub met_looked : (left ≡ 0 → ⊥) → (l : Look) → l ≡ counted count (look_up log kind score) → met 1 l ≡ met_of log nest left kind count score
+    pub met_looked : (left ≡ 0 → ⊥) → (l : Result Block Refusal) → l ≡ counted count (look_up log kind score) → met 1 l ≡ met_of log nest left kind count score
     unfolding met_of
     met_looked k l e = rw (le-ltb 16 nest h, ne_eqb left 0 k) (ap (met 1) e)
 
@@ -136,20 +134,20 @@ module _ (log : Bytes) (nest left kind count : ℕ) (score : Bytes) (m : Met) (e
       subst (λ (x : Met). P x (account f g)) (sym (e ∙ met_by_tests (ltb 16 nest) (eqb left 0) (held log kind score) (absence log) count))
       (by_tests-both (ltb 16 nest) (eqb left 0) (held log kind score) (absence log) count refused_met found_met f g P u v)
 
-  pub any_refused : {A : Type 0} (f : ℕ → Refusal → A) (g : Row → A) (why : Refusal) → m.look ≡ Refused why → account f g ≡ f m.spent why
+  pub any_refused : {A : Type 0} (f : ℕ → Refusal → A) (g : Row → A) (why : Refusal) → m.look ≡ Err why → account f g ≡ f m.spent why
   any_refused f g why =
-      met-and f g (λ x z. x.look ≡ Refused why → z ≡ f x.spent why) (λ n y q. let z : y ≡ why = cc in ap (f n) z)
+      met-and f g (λ x z. x.look ≡ Err why → z ≡ f x.spent why) (λ n y q. let z : y ≡ why = cc in ap (f n) z)
       (λ r F q. let z : ◌≡◌ {A = ℕ} 0 1 = cc in absurd (omega arith))
 
-  pub any_found : {A : Type 0} (f : ℕ → Refusal → A) (next : Bytes → A) (p : Block) → m.look ≡ Found p → account f (λ r. next r.bytes) ≡ next (bytes_of log p)
+  pub any_found : {A : Type 0} (f : ℕ → Refusal → A) (next : Bytes → A) (p : Block) → m.look ≡ Ok p → account f (λ r. next r.bytes) ≡ next (bytes_of log p)
   any_found f next p =
-      met-and f (λ r. next r.bytes) (λ x z. x.look ≡ Found p → z ≡ next (bytes_of log p)) (λ n y q. let z : ◌≡◌ {A = ℕ} 0 1 = cc in absurd (omega arith))
+      met-and f (λ r. next r.bytes) (λ x z. x.look ≡ Ok p → z ≡ next (bytes_of log p)) (λ n y q. let z : ◌≡◌ {A = ℕ} 0 1 = cc in absurd (omega arith))
       (λ r F q. let z : place_of r ≡ p = cc in ap next ((held-stands log kind score r F.passes.row-held).bytes-there ∙ ap (bytes_of log) z))
 
-  pub found-known : (p : Block) → m.look ≡ Found p → Known log nest left kind count score p m.spent
+  pub found-known : (p : Block) → m.look ≡ Ok p → Known log nest left kind count score p m.spent
   unfolding visiting
   found-known p d =
-      met-and {A = ℕ} (λ n y. 0) (λ r. 0) (λ x _. x.look ≡ Found p → Known log nest left kind count score p x.spent) (λ n y q. let z : ◌≡◌ {A = ℕ} 0 1 = cc in absurd (omega arith))
+      met-and {A = ℕ} (λ n y. 0) (λ r. 0) (λ x _. x.look ≡ Ok p → Known log nest left kind count score p x.spent) (λ n y q. let z : ◌≡◌ {A = ℕ} 0 1 = cc in absurd (omega arith))
       (λ r F q. let z : place_of r ≡ p = cc in
       let s = held-stands log kind score r F.passes.row-held in
       let size : length r.bytes ≡ p.size = ap (λ (x : Block). x.size) z in
@@ -163,9 +161,9 @@ module _ (log : Bytes) (nest left kind count : ℕ) (score : Bytes) (m : Met) (e
         goes_on = λ go w h. rw (F.not-deep, F.not-spent, F.passes.row-held, F.passes.within_count) (ap more (h ∙ ap go (sym (s.bytes-there ∙ ap (bytes_of log) z))));
       }) d
 
-  pub refused-known : (why : Refusal) → m.look ≡ Refused why → (go : Bytes → Walked) → answer_of m ≡ visiting log nest left kind count score go
+  pub refused-known : (why : Refusal) → m.look ≡ Err why → (go : Bytes → Walked) → answer_of m ≡ visiting log nest left kind count score go
   unfolding visiting
-  refused-known why d go = ap (λ (l : Look). walked m.spent (end_of l)) d ∙ sym (any_refused (λ n y. walked n (Stopped y)) (λ r. more (go r.bytes)) why d)
+  refused-known why d go = ap (λ (l : Result Block Refusal). walked m.spent (end_of l)) d ∙ sym (any_refused (λ n y. walked n (Err y)) (λ r. more (go r.bytes)) why d)
 
   pub spent-within : m.spent ≤ left
   unfolding met_of look_up

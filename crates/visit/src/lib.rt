@@ -11,29 +11,22 @@ ghost use Rattle.visit.specs.Met.{met_of, answer_of};
 
 use block::Block;
 use entry::Entry;
+pub use lookup::{are_allowed, border};
 use refusal::Refusal;
-use sector_log::Look;
 use sector_number::SectorNumber;
-
-// How a walk ended.
-#[derive(Clone, Copy)]
-pub enum End {
-    Done,
-    Refused(Refusal),
-}
 
 // What a walk answers: the visits spent, and how it ended.
 #[derive(Clone, Copy)]
 pub struct Walked {
     pub visits: usize,
-    pub end: End,
+    pub end: Result<(), Refusal>,
 }
 
 // What a visit meets: the visits spent on it, one or none, and the block or the reason why there is none.
 #[derive(Clone, Copy)]
 pub struct Met {
     pub spent: usize,
-    pub look: Look,
+    pub look: Result<Block, Refusal>,
 }
 
 // Entry i of a directory block.
@@ -79,13 +72,13 @@ pub fn visit<'a>(
     if 16 < nest {
         return Met {
             spent: 0,
-            look: Look::Refused(Refusal::Nest),
+            look: Err(Refusal::Nest),
         };
     }
     if left == 0 {
         return Met {
             spent: 0,
-            look: Look::Refused(Refusal::Spent),
+            look: Err(Refusal::Spent),
         };
     }
     Met {
@@ -126,13 +119,13 @@ pub fn answer(m: Met) -> Walked
 {
     let look = m.look;
     match look {
-        Look::Found(b) => Walked {
+        Ok(b) => Walked {
             visits: m.spent,
-            end: End::Done,
+            end: Ok(()),
         },
-        Look::Refused(why) => Walked {
+        Err(why) => Walked {
             visits: m.spent,
-            end: End::Refused(why),
+            end: Err(why),
         },
     }
 }

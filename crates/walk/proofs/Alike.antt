@@ -14,10 +14,10 @@ use Rattle.entry.specs.Entry.{entry_of, score_of}
 use Rattle.entry.specs.Root.{root_well_formed, root_score}
 use Rattle.tree.specs.Tree.{type_at, count_at}
 use Rattle.visit.specs.declared.Walked.{Walked}
-use Rattle.visit.specs.declared.End.TheVariants.{Done, Refused}
 use Rattle.visit.specs.Visit.{walked, visiting}
 use Rattle.descent.specs.Descent.{padded_to, in_order, nest_of, entries_of, judged, visit_directory, visit_entry}
 use Rattle.walk.specs.Walk.{walk_top, walk_root}
+use Rattle.std.specs.Prelude.{Ok, Err}
 
 module _ (a b : Bytes) (f : Alike a b) where
   looked_alike : (nest left kind count : ℕ) (score : Bytes) (g : Bytes → Walked) → visiting a nest left kind count score g ≡ visiting b nest left kind count score g
@@ -37,9 +37,9 @@ module _ (a b : Bytes) (f : Alike a b) where
     entry-alike (suc n) e level nest score left =
         visiting-alike nest left (type_at e level) (count_at e level) score _ _
         (λ x i. cond (eqb level 0)
-        (cond e.directory (directory-alike n nest x (left - 1) i) (walked 0 Done))
+        (cond e.directory (directory-alike n nest x (left - 1) i) (walked 0 (Ok tt)))
         (cond (eqb (length x % 20) 0) (in_order (λ y c. entry-alike n e (level - 1) nest y c i) 20 x (left - 1) (length x / 20) 0 0)
-        (walked 0 (Refused Pointers))))
+        (walked 0 (Err Pointers))))
 
     directory-alike : (n nest : ℕ) (x : Bytes) (left : ℕ) → visit_directory n a nest x left ≡ visit_directory n b nest x left
     directory-alike zero nest x left = refl
@@ -55,4 +55,4 @@ module _ (a b : Bytes) (f : Alike a b) where
   unfolding walk_root
   root_alike score left =
       visiting-alike 0 left 1 300 score _ _
-      (λ x i. cond (root_well_formed (padded_to 300 x)) (top-alike (root_score (padded_to 300 x)) (left - 1) i) (walked 0 (Refused IllFormed)))
+      (λ x i. cond (root_well_formed (padded_to 300 x)) (top-alike (root_score (padded_to 300 x)) (left - 1) i) (walked 0 (Err IllFormed)))

@@ -9,20 +9,19 @@ ghost use Rattle.walk.specs.Walk.{walk_top, walk_root, walk_of};
 use entry::{ROOT_SCORE, ROOT_SCORE_END};
 use kind::LONGEST;
 use refusal::Refusal;
-use sector_log::Look;
 use sector_number::SectorNumber;
-use visit::{End, Walked};
+use visit::Walked;
 
 // The largest allowance.
 pub const MOST_ALLOWANCE: u64 = 1000000;
 
 // The number of how a walk ended: 0 for done.
-pub fn number(end: End) -> u8
+pub fn number(end: Result<(), Refusal>) -> u8
     ensures { result ≡ end_number end }
 {
     match end {
-        End::Done => 0,
-        End::Refused(why) => refusal::number(why),
+        Ok(()) => 0,
+        Err(why) => refusal::number(why),
     }
 }
 
@@ -40,7 +39,7 @@ fn walk_top<'a>(
 {
     let m = visit::visit(log, end, waiting, 1, left, 2, LONGEST, score);
     let look = m.look;
-    let Look::Found(b) = look else {
+    let Ok(b) = look else {
         return visit::answer(m);
     };
     visit::one_more(descend::visit_directory(log, end, waiting, b, 1, left - 1))
@@ -59,14 +58,14 @@ fn walk_root<'a>(
 {
     let m = visit::visit(log, end, waiting, 0, left, 1, 300, score);
     let look = m.look;
-    let Look::Found(b) = look else {
+    let Ok(b) = look else {
         return visit::answer(m);
     };
     let root = visit::root_bytes(log, end, waiting, b);
     if !entry::is_root(&root) {
         return Walked {
             visits: 1,
-            end: End::Refused(Refusal::Entry),
+            end: Err(Refusal::Entry),
         };
     }
     visit::one_more(walk_top(
@@ -82,18 +81,18 @@ fn walk_root<'a>(
 pub fn walk<'a>(log: &'a [u8], waiting: &'a [u8], score: &[u8; 20], allowance: u64) -> Walked
     ensures { result ≡ walk_of log.now waiting.now score.now allowance }
 {
-    if !lookup::are_allowed(log.len(), waiting.len()) {
+    if !visit::are_allowed(log.len(), waiting.len()) {
         return Walked {
             visits: 0,
-            end: End::Refused(Refusal::LogLength),
+            end: Err(Refusal::LogLength),
         };
     }
     if MOST_ALLOWANCE < allowance {
         return Walked {
             visits: 0,
-            end: End::Refused(Refusal::Allowance),
+            end: Err(Refusal::Allowance),
         };
     }
-    let end = lookup::border(log, waiting);
+    let end = visit::border(log, waiting);
     walk_root(log, end, waiting, score, allowance as usize)
 }

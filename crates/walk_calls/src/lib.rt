@@ -3,20 +3,20 @@
 
 ghost use Rattle.std.specs.Prelude.{◌≡◌};
 ghost use Rattle.walk.specs.Walk.{walk_of};
-ghost use Rattle.results.specs.Tree.{end_sector, walk_result};
+ghost use Rattle.walk_calls.specs.Walked.{end_sector, walk_result};
 
-use visit::End;
+use refusal::Refusal;
 
 // What stands above a count of visits or units, which takes 20 bits, is so many times itself.
 pub const ABOVE_VISITS: u64 = 1048576;
 
 // The sector that the end of a walk tells of, 0 where it tells of none.
-pub fn end_sector(end: End) -> usize
+pub fn end_sector(end: Result<(), Refusal>) -> usize
     ensures { result ≡ end_sector end }
 {
     match end {
-        End::Done => 0,
-        End::Refused(why) => refusal::told_sector(why),
+        Ok(()) => 0,
+        Err(why) => refusal::told_sector(why),
     }
 }
 

@@ -15,19 +15,19 @@ use Rattle.entry.specs.declared.Entry.{Entry}
 use Rattle.entry.specs.Entry.{entry_of, entry_allowed, score_of}
 use Rattle.entry.specs.Root.{root_well_formed, root_score}
 use Rattle.visit.specs.declared.Walked.{Walked}
-use Rattle.visit.specs.declared.End.TheVariants.{Done, Refused}
 use Rattle.tree.specs.Tree.{piece, type_at, count_at}
 use Rattle.visit.specs.Visit.{walked, more, visiting}
 use Rattle.descent.specs.Descent.{and_then, padded_to, in_order, nest_of, entries_of, judged, visit_directory, visit_entry}
 use Rattle.walk.specs.Walk.{walk_top, walk_root, walk_in, walk_of, most_allowance}
 use Rattle.visit.proofs.Visits.{by_tests_lem}
 use Rattle.walk_laws.proofs.Found.{not_done, and-then-done}
+use Rattle.std.specs.Prelude.{Ok, Err}
 
 -- w, if it is done, is w' too
 abbrev Same : Walked → Walked → Type 0
-Same w w' = w.end ≡ Done → w' ≡ w
+Same w w' = w.end ≡ Ok tt → w' ≡ w
 
-refused-same : (n : ℕ) (r : Refusal) (w : Walked) → Same (walked n (Refused r)) w
+refused-same : (n : ℕ) (r : Refusal) (w : Walked) → Same (walked n (Err r)) w
 refused-same n r w e = not_done r e
 
 cond_again : (b : Bool) {x y x' y' : Walked} → Same x x' → Same y y' → Same (cond b x y) (cond b x' y')
@@ -59,7 +59,7 @@ module _ (log log' : Bytes) (h : (t : ℕ) (s : Bytes) (r : Row) → held log t 
       → Same (visiting log nest left kind count score next) (visiting log' nest left kind count score next')
   unfolding visiting
   visit_again nest left kind count score next next' f =
-      by_tests_lem (ltb 16 nest) (eqb left 0) (held log kind score) (absence log) count (λ n y. walked n (Refused y)) (λ r. more (next r.bytes))
+      by_tests_lem (ltb 16 nest) (eqb left 0) (held log kind score) (absence log) count (λ n y. walked n (Err y)) (λ r. more (next r.bytes))
       (λ w. Same w (visiting log' nest left kind count score next')) (λ n y. refused-same n y _)
       (λ r F e. rw (F.not-deep, F.not-spent, h kind score r F.passes.row-held, F.passes.within_count) (ap more (f r.bytes e)))
 
@@ -94,7 +94,7 @@ module _ (log log' : Bytes) (h : (t : ℕ) (s : Bytes) (r : Row) → held log t 
       visit_again 0 left 1 300 score _ _
       (λ b. cond_again (root_well_formed (padded_to 300 b)) (top_again (root_score (padded_to 300 b)) (left - 1)) (λ d. refl))
 
-  again_in : (lent : Bool) (score : Bytes) (n v : ℕ) → walk_in lent log score n ≡ walked v Done → walk_in lent log' score n ≡ walked v Done
+  again_in : (lent : Bool) (score : Bytes) (n v : ℕ) → walk_in lent log score n ≡ walked v (Ok tt) → walk_in lent log' score n ≡ walked v (Ok tt)
   unfolding walk_in
   again_in lent score n v e =
       cond_again lent (cond_again (ltb most_allowance n) (λ d. refl) (root_again score n)) (λ d. refl) (ap (λ (w : Walked). w.end) e) ∙ e
@@ -102,7 +102,7 @@ module _ (log log' : Bytes) (h : (t : ℕ) (s : Bytes) (r : Row) → held log t 
 -- of parts that hold what earlier ones held
 pub walk_again : (log waiting log' waiting' score : Bytes) (n v : ℕ) → lent_allowed (length log') (length waiting') ≡ lent_allowed (length log) (length waiting)
     → ((t : ℕ) (s : Bytes) (r : Row) → held (tape log waiting) t s ≡ some r → held (tape log' waiting') t s ≡ some r)
-    → walk_of log waiting score n ≡ walked v Done → walk_of log' waiting' score n ≡ walked v Done
+    → walk_of log waiting score n ≡ walked v (Ok tt) → walk_of log' waiting' score n ≡ walked v (Ok tt)
 walk_again log waiting log' waiting' score n v l h e =
     ap (λ (b : Bool). walk_in b (tape log' waiting') score n) l
     ∙ again_in (tape log waiting) (tape log' waiting') h (lent_allowed (length log) (length waiting)) score n v e

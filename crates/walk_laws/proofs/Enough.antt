@@ -11,21 +11,21 @@ use Rattle.buffer.specs.Bytes.{Bytes}
 use Rattle.sector_log.specs.LookUp.{held}
 use Rattle.entry.specs.Entry.{entry_of, score_of}
 use Rattle.visit.specs.declared.Walked.{Walked}
-use Rattle.visit.specs.declared.End.{End}
-use Rattle.visit.specs.declared.End.TheVariants.{Done, Refused}
 use Rattle.tree.specs.Tree.{piece, type_at, count_at}
 use Rattle.visit.specs.Visit.{more, visiting}
 use Rattle.descent.specs.Descent.{and_then, padded_to, in_order, nest_of, entries_of, judged, visit_directory, visit_entry}
 use Rattle.walk_laws.specs.Enough.{EnoughForEntry, EnoughForDirectory}
+use Rattle.std.specs.Prelude.{Ok, Err, Result, ⊤}
+use Rattle.refusal.specs.declared.Refusal.{Refusal}
 
 -- two choices by one test are equal where their cases are, each under its test
 cond_same : (b : Bool) {x y x' y' : Walked} → (b ≡ true → x ≡ x') → (b ≡ false → y ≡ y') → cond b x y ≡ cond b x' y'
 cond_same true f g = f refl
 cond_same false f g = g refl
 
-and-then-same : (e : End) (n : ℕ) (k k' : ℕ → Walked) → ((m : ℕ) → k m ≡ k' m) → and_then e n k ≡ and_then e n k'
-and-then-same Done n k k' h = h n
-and-then-same (Refused r) n k k' h = refl
+and-then-same : (e : Result ⊤ Refusal) (n : ℕ) (k k' : ℕ → Walked) → ((m : ℕ) → k m ≡ k' m) → and_then e n k ≡ and_then e n k'
+and-then-same (Ok tt) n k k' h = h n
+and-then-same (Err r) n k k' h = refl
 
 -- two ways to go on that agree within the allowance give the same of any pieces
 order_same : (go go' : Bytes → ℕ → Walked) (w : ℕ) (b : Bytes) (left : ℕ) → ((x : Bytes) (a : ℕ) → a ≤ left → go x a ≡ go' x a)

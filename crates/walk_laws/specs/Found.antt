@@ -1,5 +1,5 @@
 -- All that is below a root is found: by look-up alone, without any count of calls or visits.
-use Rattle.std.specs.Prelude.{◌≡◌, true, false, ℕ, zero, suc, ◌/◌, ◌%◌, ◌<◌, length}
+use Rattle.std.specs.Prelude.{◌≡◌, true, false, ℕ, zero, suc, ◌/◌, ◌%◌, ◌<◌, length, Ok}
 use Rattle.std.proofs.Math.Option.{some}
 use Rattle.buffer.specs.Bytes.{Bytes}
 use Rattle.block.specs.Block.{Row}
@@ -8,7 +8,6 @@ use Rattle.sector_log.specs.Parts.{tape}
 use Rattle.entry.specs.declared.Entry.{Entry}
 use Rattle.entry.specs.Entry.{entry_of, entry_allowed, score_of}
 use Rattle.entry.specs.Root.{root_well_formed, root_score}
-use Rattle.visit.specs.declared.End.TheVariants.{Done}
 use Rattle.tree.specs.Tree.{piece, pointer_type}
 use Rattle.visit.specs.Visit.{walked}
 use Rattle.descent.specs.Descent.{padded_to, entries_of}
@@ -45,4 +44,4 @@ pub record FoundRoot (log score : Bytes) : Type 0 where
 
 -- a walk that ends found every block below the root: "The first refusal stops all", so none was missing
 abbrev pub WalkFinds : Type 0
-WalkFinds = (log waiting score : Bytes) (n v : ℕ) → walk_of log waiting score n ≡ walked v Done → FoundRoot (tape log waiting) score
+WalkFinds = (log waiting score : Bytes) (n v : ℕ) → walk_of log waiting score n ≡ walked v (Ok tt) → FoundRoot (tape log waiting) score

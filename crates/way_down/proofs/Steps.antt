@@ -14,8 +14,6 @@ use Rattle.refusal.specs.declared.Refusal.TheVariants as why
 use Rattle.block.specs.declared.Block.{Block}
 use Rattle.block.specs.Block.{Row, place_of, Inside}
 use Rattle.block.specs.Log.{sectors, bytes_of}
-use Rattle.sector_log.specs.declared.Look.{Look}
-use Rattle.sector_log.specs.declared.Look.TheVariants as look
 use Rattle.sector_log.specs.LookUp.{empty_row, held, look_up, counted}
 use Rattle.sector_log.proofs.Counted.{counted-found}
 use Rattle.lookup.proofs.Held.{found_within, found-size, found-bytes, look_found}
@@ -23,26 +21,26 @@ use Rattle.entry.specs.declared.Entry.{Entry}
 use Rattle.reader.proofs.Pieces.{length-bytes}
 use Rattle.tree.proofs.Pointers.{length-pointer}
 use Rattle.leaf.specs.declared.Extent.{Extent}
-use Rattle.leaf.specs.declared.Extent.TheVariants.{Refused}
 use Rattle.tree.specs.Tree.{pointer, type_at, count_at}
 use Rattle.leaf.specs.Leaf.{leaf_run, fetched, pointer_index, under}
 use Rattle.leaf.specs.Fetch.{LiesIn, run_in}
 use Rattle.way_down.proofs.Counted.{Fetched, fetched-refused, fetched-found}
 use Rattle.leaf.proofs.Steps.{leaf-past, under-zero}
+use Rattle.std.specs.Prelude.{Ok, Err, Result}
 
 -- ---- a block that a look-up with a count found
 
-module _ (log : Bytes) (t : ℕ) (s : Bytes) (count : ℕ) (l : Look) (el : l ≡ counted count (look_up log t s)) (n : ℕ) (h : sectors (length log) ≡ n) where
-  pub found-room : (b : Block) → l ≡ look.Found b → Inside n b
+module _ (log : Bytes) (t : ℕ) (s : Bytes) (count : ℕ) (l : Result Block Refusal) (el : l ≡ counted count (look_up log t s)) (n : ℕ) (h : sectors (length log) ≡ n) where
+  pub found-room : (b : Block) → l ≡ Ok b → Inside n b
   found-room b q = found_within (look_found log t s b (counted-found count (look_up log t s) b (sym el ∙ q)).0) n h
 
   -- a look-up ends within the log
   pub look_room : LiesIn n l
   look_room = go l refl
     where
-      go : (x : Look) → l ≡ x → LiesIn n x
-      go (look.Refused w) z = tt
-      go (look.Found b) z = found-room b z
+      go : (x : Result Block Refusal) → l ≡ x → LiesIn n x
+      go (Err w) z = tt
+      go (Ok b) z = found-room b z
 
 -- a score of the block
 pub next-score : (log : Bytes) (b : Block) (i : ℕ) (s : Bytes) → b.label < 499 → s ≡ pointer (bytes_of log b) i → b.size % 20 ≡ 0 → length s ≡ 20
@@ -68,17 +66,17 @@ module _ (log : Bytes) (page : ℕ) (e : Entry) (offset : ℕ) where
   under-empty level s t b z p q = sym (leaf-past page e offset b (omega arith)) ∙ under-zero log page e offset level s t p q
 
   -- the leaf
-  module _ (s : Bytes) (t : ℕ) (et : t ≡ type_at e 0) (l : Look) (el : l ≡ counted e.dsize (look_up log t s)) where
-    leaf-run : Row → Extent
+  module _ (s : Bytes) (t : ℕ) (et : t ≡ type_at e 0) (l : Result Block Refusal) (el : l ≡ counted e.dsize (look_up log t s)) where
+    leaf-run : Row → Result Extent Refusal
     leaf-run r = leaf_run page e offset (place_of r)
 
     leaf_looked : run_in page e offset l ≡ fetched log t s e.dsize leaf-run
     unfolding leaf-run
     leaf_looked = go l refl
       where
-        go : (x : Look) → l ≡ x → run_in page e offset x ≡ fetched log t s e.dsize leaf-run
-        go (look.Refused y) z = fetched-refused log t s e.dsize leaf-run y (sym z ∙ el)
-        go (look.Found b) z =
+        go : (x : Result Block Refusal) → l ≡ x → run_in page e offset x ≡ fetched log t s e.dsize leaf-run
+        go (Err y) z = fetched-refused log t s e.dsize leaf-run y (sym z ∙ el)
+        go (Ok b) z =
             let F = fetched-found log t s e.dsize b (sym z ∙ el) in
             ap (leaf_run page e offset) F.found.place-of-row ∙ F.goes_on leaf-run
 
@@ -95,7 +93,7 @@ module _ (log : Bytes) (page : ℕ) (e : Entry) (offset : ℕ) where
 
   -- a level above it
   module _ (level d : ℕ) (le : level ≡ suc d) (s : Bytes) (b : Bool) (p : b ≡ same s zero_score) (q : b ≡ false) (t : ℕ) (et : t ≡ type_at e level)
-      (n : ℕ) (en : n ≡ count_at e level) (l : Look) (looked : l ≡ counted n (look_up log t s)) where
+      (n : ℕ) (en : n ≡ count_at e level) (l : Result Block Refusal) (looked : l ≡ counted n (look_up log t s)) where
     -- above the leaves the type is a pointer block's, and the count psize
     above : eqb level 0 ≡ false
     above = ne_eqb level 0 (λ z. omega (arith, le, z))
@@ -111,17 +109,17 @@ module _ (log : Bytes) (page : ℕ) (e : Entry) (offset : ℕ) where
     el : l ≡ counted e.psize (look_up log (2 + level) s)
     el = looked ∙ ap₂ (λ (x y : ℕ). counted x (look_up log y s)) (en ∙ count_above) (et ∙ type_above)
 
-    below : Row → Extent
-    below r = cond (eqb (length r.bytes % 20) 0) (under log page e offset d (pointer r.bytes (pointer_index e offset d))) (Refused why.Pointers)
+    below : Row → Result Extent Refusal
+    below r = cond (eqb (length r.bytes % 20) 0) (under log page e offset d (pointer r.bytes (pointer_index e offset d))) (Err why.Pointers)
 
     level-opened : fetched log (2 + level) s e.psize below ≡ under log page e offset level s
     unfolding under below
     level-opened = ap (λ (x : ℕ). fetched log (2 + x) s e.psize below) le ∙ sym (ap (λ (x : ℕ). under log page e offset x s) le ∙ rw (sym p ∙ q) refl)
 
-    pub level-refused : (y : Refusal) → l ≡ look.Refused y → run_in page e offset l ≡ under log page e offset level s
+    pub level-refused : (y : Refusal) → l ≡ Err y → run_in page e offset l ≡ under log page e offset level s
     level-refused y z = ap (run_in page e offset) z ∙ fetched-refused log (2 + level) s e.psize below y (sym z ∙ el) ∙ level-opened
 
-    module _ (g : Block) (z : l ≡ look.Found g) where
+    module _ (g : Block) (z : l ≡ Ok g) where
       F : Fetched log (2 + level) s e.psize g
       F = fetched-found log (2 + level) s e.psize g (sym z ∙ el)
 
@@ -131,7 +129,7 @@ module _ (log : Bytes) (page : ℕ) (e : Entry) (offset : ℕ) where
       size : length bytes ≡ g.size
       size = sym (found-size F.found)
 
-      pub level-ragged : (g.size % 20 ≡ 0 → ⊥) → Refused why.Pointers ≡ under log page e offset level s
+      pub level-ragged : (g.size % 20 ≡ 0 → ⊥) → Err why.Pointers ≡ under log page e offset level s
       unfolding below
       level-ragged h =
           let k : length bytes % 20 ≡ 0 → ⊥ = λ x. h (rw size at x) in

@@ -10,7 +10,6 @@ use block::Block;
 use entry::Entry;
 use refusal::Refusal;
 use sector::LABEL;
-use sector_log::Look;
 use sector_number::SectorNumber;
 
 // The digit of weight p to the power d of n in base p. Repeated division: the power itself may pass 64 bits.
@@ -19,10 +18,8 @@ fn digit(n: u64, p: u64, d: usize) -> u64
     ensures { result ≡ n / p ^ d % p }
 {
     let mut rest = n;
-    let mut k = d;
-    while 0 < k {
-        rest = rest / p;
-        k -= 1;
+    for _ in 0..d {
+        rest /= p;
     }
     rest % p
 }
@@ -36,7 +33,7 @@ pub fn descend<'a>(
     e: Entry,
     offset: u64,
     top: &[u8],
-) -> Look
+) -> Result<Block, Refusal>
     requires { (end.0 ≤ sectors (length log.now)) × Open e offset × (length top.now ≡ 20) }
     ensures room { LiesIn (end.0 + sectors (length waiting.now)) result }
     ensures run { (page o : ℕ) → o / e.dsize ≡ offset / e.dsize → run_in page e o result
@@ -49,19 +46,16 @@ pub fn descend<'a>(
     let mut level = e.depth;
     while 0 < level {
         if kind::is_zero_score(&score) {
-            return Look::Found(Block {
+            return Ok(Block {
                 first: SectorNumber(0),
                 size: 0,
                 label: LABEL,
             });
         }
         let kind = tree::type_at(e, level);
-        let look = lookup::fetch(log, end, waiting, kind, &score, tree::count_at(e, level));
-        let Look::Found(b) = look else {
-            return look;
-        };
+        let b = lookup::fetch(log, end, waiting, kind, &score, tree::count_at(e, level))?;
         if b.size % 20 != 0 {
-            return Look::Refused(Refusal::Pointers);
+            return Err(Refusal::Pointers);
         }
         level -= 1;
         let index = digit(leaf, p, level);

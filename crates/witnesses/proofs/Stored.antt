@@ -10,7 +10,7 @@ use lib.Dec.{lit<}
 use lib.ListN.{length, replicate, length-replicate}
 use borrow.Author.Tests.{le-leb, ne_eqb}
 use Rattle.buffer.specs.Bytes.{Bytes, same}
-use Rattle.word.specs.Number.{digits, value_from, small}
+use Rattle.digits.specs.Number.{digits, value_from, small}
 use Rattle.sha1_block.specs.Block.{words_of, snoc_word, schedule_of, round_of, rounds_of, add_hash, compress_of}
 use Rattle.sha1_digest.specs.Sha1.{hash_of, pad_of, padded_message, digest_of, sha1_of}
 use Rattle.utf8.specs.Grammar.{follows}

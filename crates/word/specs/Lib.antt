@@ -1,4 +1,2 @@
--- What the clauses of `word` cite; numbers and hexadecimal are handed on.
+-- What the clauses of `word` cite.
 pub mod Word
-pub mod Number
-pub mod Hex

@@ -1,8 +1,5 @@
-// 32-bit words as FIPS 180-4 uses them, and numbers as bytes and as hexadecimal.
+// 32-bit words as FIPS 180-4 uses them.
 #![tactic(auto)]
-
-pub mod hex;
-pub mod number;
 
 ghost use Rattle.std.specs.Prelude.{◌≡◌, ◌<◌};
 ghost use Rattle.word.specs.Word.{rot_l, add32, be32};
@@ -12,14 +9,14 @@ pub fn rotate_left(x: u32, n: u32) -> u32
     requires { (0 < n) × (n < 32) }
     ensures { result ≡ rot_l n x }
 {
-    (x << n) | (x >> (32 - n))
+    x.rotate_left(n)
 }
 
 // Addition modulo 2^32, section 2.2.2.
 pub fn add(x: u32, y: u32) -> u32
     ensures { result ≡ add32 x y }
 {
-    std::num::wrapping_add_u32(x, y)
+    x.wrapping_add(y)
 }
 
 // The word of four bytes, the highest first, section 3.1.

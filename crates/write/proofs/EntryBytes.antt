@@ -6,7 +6,7 @@ use native.Mathlib.Omega.{arith}
 use lib.ListN.{length, take, drop, replicate, set}
 use borrow.Author.Tests.{eq-eqb, ne_eqb}
 use Rattle.buffer.specs.Bytes.{Bytes, put}
-use Rattle.word.specs.Number.{digits}
+use Rattle.digits.specs.Number.{digits}
 use Rattle.kind.specs.Kind.{longest, zero_score}
 use Rattle.entry.specs.Made.{made_entry}
 use Rattle.writer.specs.Blocks.{top_of}

@@ -16,10 +16,9 @@ use Rattle.sector_log.specs.declared.Receipt.{Receipt}
 use Rattle.sector_log.proofs.Receipts.{store-score}
 use Rattle.writer.specs.Blocks.{Typed, cut_block, blocks_from, scores_of}
 use Rattle.writer.specs.WriteFile.{end_of, after_all, onward, store_all}
-use Rattle.writer.specs.declared.End.{End}
-use Rattle.writer.specs.declared.End.TheVariants.{Done, Refused}
+use Rattle.std.specs.Prelude.{Ok, Err, Result, ⊤}
 
-pub refused-not-done : {e : End} (why : Refusal) → e ≡ Refused why → {A : Type 0} → e ≡ Done → A
+pub refused-not-done : {e : Result ⊤ Refusal} (why : Refusal) → e ≡ Err why → {A : Type 0} → e ≡ Ok tt → A
 refused-not-done why p d = let z : ◌≡◌ {A = ℕ} 0 1 = cc in absurd (omega arith)
 
 module _ (kind w : ℕ) (src date : Bytes) (L₀ : Lent) (n : ℕ) where
@@ -43,7 +42,7 @@ module _ (kind w : ℕ) (src date : Bytes) (L₀ : Lent) (n : ℕ) where
       }
 
   pub going_end : (L : Lent) (scores : Bytes) (i : ℕ) → n ≤ i → Going L scores i
-      → (after_all Done L ≡ store_all L₀ date (blocks_from kind w src n 0)) × (take (20 * n) scores ≡ scores_of (blocks_from kind w src n 0))
+      → (after_all (Ok tt) L ≡ store_all L₀ date (blocks_from kind w src n 0)) × (take (20 * n) scores ≡ scores_of (blocks_from kind w src n 0))
   unfolding blocks_from scores_of store_all
   going_end L scores i h g =
       let e : i ≡ n = omega (arith, g.within) in
@@ -80,18 +79,18 @@ module _ {kind w : ℕ} {src date : Bytes} {L₀ : Lent} {n : ℕ} {L : Lent} {s
   pub score-length : length r.score ≡ 20
   score-length = ap length score-here ∙ digest_length here.bytes
 
-  module _ {e : End} (q : e ≡ end_of r.stored) where
+  module _ {e : Result ⊤ Refusal} (q : e ≡ end_of r.stored) where
     by_end : store_all L₀ date (blocks_from kind w src n 0) ≡ onward e L' (store_all L' date behind)
     unfolding store_all
     by_end =
         T.going.blocks ∙ ap (store_all L date) next-block
         ∙ ap (λ (a : AfterStore). onward (end_of a.receipt.stored) a.lent (store_all a.lent date behind)) (sym T.stored)
-        ∙ ap (λ (x : End). onward x L' (store_all L' date behind)) (sym q)
+        ∙ ap (λ (x : Result ⊤ Refusal). onward x L' (store_all L' date behind)) (sym q)
 
-    pub going-stopped : (why : Refusal) → e ≡ Refused why → after_all e L' ≡ store_all L₀ date (blocks_from kind w src n 0)
-    going-stopped why p = sym (by_end ∙ ap (λ (x : End). onward x L' (store_all L' date behind)) p ∙ ap (λ (x : End). after_all x L') (sym p))
+    pub going-stopped : (why : Refusal) → e ≡ Err why → after_all e L' ≡ store_all L₀ date (blocks_from kind w src n 0)
+    going-stopped why p = sym (by_end ∙ ap (λ (x : Result ⊤ Refusal). onward x L' (store_all L' date behind)) p ∙ ap (λ (x : Result ⊤ Refusal). after_all x L') (sym p))
 
-    pub going_next : e ≡ Done → {scores' : Bytes} → scores' ≡ put scores (20 * i) r.score → 20 * i + 20 ≤ length scores
+    pub going_next : e ≡ Ok tt → {scores' : Bytes} → scores' ≡ put scores (20 * i) r.score → 20 * i + 20 ≤ length scores
         → Going kind w src date L₀ n L' scores' (i + 1) × (drop (20 * (i + 1)) scores' ≡ drop (20 * (i + 1)) scores)
     unfolding scores_of
     going_next p {scores'} f h =
@@ -102,7 +101,7 @@ module _ {kind w : ℕ} {src date : Bytes} {L₀ : Lent} {n : ℕ} {L : Lent} {s
         ap₂ take (sym to) f ∙ take_put scores (20 * i) r.score room ∙ ap (λ (x : Bytes). take (20 * i) scores ++ x) score-here in (
           record {
             within = omega (arith, T.one_left);
-            blocks = by_end ∙ ap (λ (x : End). onward x L' (store_all L' date behind)) p;
+            blocks = by_end ∙ ap (λ (x : Result ⊤ Refusal). onward x L' (store_all L' date behind)) p;
             score =
                 T.going.score ∙ ap (λ (xs : List Typed). take (20 * i) scores ++ scores_of xs) next-block
                 ∙ sym (append_assoc (take (20 * i) scores) (sha1_of here.bytes) (scores_of behind))

@@ -1,7 +1,7 @@
 // Writing a file: a slice cut into leaves, pointer blocks over their scores, each block stored as a write of it would be, and the entry over them.
 #![tactic(auto)]
 
-ghost use Rattle.std.specs.Prelude.{◌≡◌, true, ◌+◌, ◌*◌, ◌/◌, ◌%◌, ◌≤◌, ◌<◌, min, length, take};
+ghost use Rattle.std.specs.Prelude.{◌≡◌, true, ◌+◌, ◌*◌, ◌/◌, ◌%◌, ◌≤◌, ◌<◌, length, take};
 ghost use Rattle.buffer.specs.Bytes.{put};
 ghost use Rattle.kind.specs.Kind.{lawful, is_pointer, longest};
 ghost use Rattle.block.specs.Block.{parts_of};
@@ -13,24 +13,14 @@ ghost use Rattle.cut.specs.Cut.{unit_of, cut_length, whole_units};
 ghost use Rattle.entry.specs.Made.{made_entry};
 ghost use Rattle.writer.specs.Blocks.{cut_block, level, leaves, scores_of, scores_at, pointer_blocks, file_blocks, top_of, top_score};
 ghost use Rattle.writer.specs.WriteFile.{end_of, after_all, store_all, outcome, wrote, write_file};
-ghost use Rattle.writer.specs.declared.End.TheVariants.{Done};
 
-use cut::Kept;
 use entry::ENTRY;
 use kind::LONGEST;
 use refusal::Refusal;
 use sector_log::{Receipt, Stored};
-use writer::End;
 
 // How long the lent buffer of scores is at least: a score for each of the most leaves.
 pub const SCORES: usize = 20 * LONGEST;
-
-// The smaller of two numbers.
-fn smaller(a: usize, b: usize) -> usize
-    ensures { result ≡ min a b }
-{
-    if a < b { a } else { b }
-}
 
 // How many pieces of a width so many bytes make.
 fn pieces(width: usize, size: usize) -> usize
@@ -47,8 +37,8 @@ fn cut_length(kind: u8, block: &[u8]) -> usize
 {
     let kept = cut::cut(kind, block);
     match kept {
-        Kept::Length(n) => n,
-        Kept::Refused(_) => 0,
+        Ok(n) => n,
+        Err(_) => 0,
     }
 }
 
@@ -63,13 +53,13 @@ fn store_cut(log: &[u8], waiting: &mut [u8], date: &[u8], kind: u8, block: &[u8]
 }
 
 // How a store goes on.
-fn end_of(stored: Stored) -> End
+fn end_of(stored: Result<Stored, Refusal>) -> Result<(), Refusal>
     ensures { result ≡ end_of stored }
 {
     match stored {
-        Stored::New(_) => End::Done,
-        Stored::Duplicate(_) => End::Done,
-        Stored::Refused(why) => End::Refused(why),
+        Ok(Stored::New(_)) => Ok(()),
+        Ok(Stored::Duplicate(_)) => Ok(()),
+        Err(why) => Err(why),
     }
 }
 
@@ -89,24 +79,21 @@ fn store_piece(
         ≡ store_of (beside log.now waiting.old) date.now kind (cut_block kind (piece width i source.now)) }
 {
     let at = width * i;
-    let to = smaller(at + width, source.len());
+    let to = (at + width).min(source.len());
     store_cut(log, waiting, date, kind, &source[at..to])
 }
 
 // How it goes on: the score of a block that was stored goes to place i of the lent buffer.
-fn keep_score(receipt: Receipt, scores: &mut [u8], i: usize) -> End
+fn keep_score(receipt: Receipt, scores: &mut [u8], i: usize) -> Result<(), Refusal>
     requires { (20 * i + 20 ≤ length scores.old) × (length receipt.score ≡ 20) }
     ensures end { result ≡ end_of receipt.stored }
-    ensures score { result ≡ Done → scores.new ≡ put scores.old (20 * i) receipt.score }
+    ensures score { result ≡ Ok tt → scores.new ≡ put scores.old (20 * i) receipt.score }
 {
     let score = receipt.score;
     let stored = receipt.stored;
-    let ended = end_of(stored);
-    let End::Done = ended else {
-        return ended;
-    };
+    end_of(stored)?;
     buffer::copy_at(scores, 20 * i, &score);
-    End::Done
+    Ok(())
 }
 
 // Stores the leaves of a slice, from the left. Their scores fill the lent buffer.
@@ -117,23 +104,18 @@ fn write_leaves(
     slice: &[u8],
     dsize: usize,
     scores: &mut [u8],
-) -> End
+) -> Result<(), Refusal>
     requires { (length date.now ≡ 8) × (length slice.now ≤ longest) × (1 ≤ dsize) × (dsize ≤ longest) × (length scores.old ≡ 20 * parts_of dsize (length slice.now)) }
     ensures blocks { after_all result (beside log.now waiting.new)
         ≡ store_all (beside log.now waiting.old) date.now (leaves dsize slice.now) }
-    ensures scores { result ≡ Done → scores.new ≡ scores_of (leaves dsize slice.now) }
+    ensures scores { result ≡ Ok tt → scores.new ≡ scores_of (leaves dsize slice.now) }
 {
     let count = pieces(dsize, slice.len());
-    let mut i: usize = 0;
-    while i < count {
+    for i in 0..count {
         let receipt = store_piece(log, waiting, date, 13, dsize, slice, i);
-        let ended = keep_score(receipt, scores, i);
-        let End::Done = ended else {
-            return ended;
-        };
-        i += 1;
+        keep_score(receipt, scores, i)?;
     }
-    End::Done
+    Ok(())
 }
 
 // Stores the pointer blocks of a type over the scores in the lent buffer, from the left. Their own scores go to its front: each block is stored before a score
@@ -145,23 +127,18 @@ fn write_level(
     kind: u8,
     width: usize,
     scores: &mut [u8],
-) -> End
+) -> Result<(), Refusal>
     requires { (length date.now ≡ 8) × (is_pointer kind ≡ true) × (20 ≤ width) × (width ≤ longest) × (width % 20 ≡ 0) × (length scores.old % 20 ≡ 0) × (length scores.old ≤ 20 * longest) }
     ensures blocks { after_all result (beside log.now waiting.new)
         ≡ store_all (beside log.now waiting.old) date.now (level kind width scores.old) }
-    ensures scores { result ≡ Done → take (20 * parts_of width (length scores.old)) scores.new ≡ scores_of (level kind width scores.old) }
+    ensures scores { result ≡ Ok tt → take (20 * parts_of width (length scores.old)) scores.new ≡ scores_of (level kind width scores.old) }
 {
     let count = pieces(width, scores.len());
-    let mut i: usize = 0;
-    while i < count {
+    for i in 0..count {
         let receipt = store_piece(log, waiting, date, kind, width, scores, i);
-        let ended = keep_score(receipt, scores, i);
-        let End::Done = ended else {
-            return ended;
-        };
-        i += 1;
+        keep_score(receipt, scores, i)?;
     }
-    End::Done
+    Ok(())
 }
 
 // Stores the pointer blocks over the leaves' scores in the lent buffer, level by level upward. The scores of each level go to its front.
@@ -172,24 +149,19 @@ fn write_levels(
     width: usize,
     depth: usize,
     scores: &mut [u8],
-) -> End
+) -> Result<(), Refusal>
     requires { (length date.now ≡ 8) × (20 ≤ width) × (width ≤ longest) × (width % 20 ≡ 0) × (depth ≤ 7) × (length scores.old % 20 ≡ 0) × (length scores.old ≤ 20 * longest) }
     ensures blocks { after_all result (beside log.now waiting.new)
         ≡ store_all (beside log.now waiting.old) date.now (pointer_blocks width scores.old depth) }
-    ensures top { result ≡ Done → top_of scores.new ≡ top_of (scores_at width scores.old depth) }
+    ensures top { result ≡ Ok tt → top_of scores.new ≡ top_of (scores_at width scores.old depth) }
 {
     let mut n = scores.len();
-    let mut k: usize = 0;
-    while k < depth {
+    for k in 0..depth {
         let kind = (3 + k) as u8;
-        let ended = write_level(log, waiting, date, kind, width, &mut scores[..n]);
-        let End::Done = ended else {
-            return ended;
-        };
+        write_level(log, waiting, date, kind, width, &mut scores[..n])?;
         n = 20 * pieces(width, n);
-        k += 1;
     }
-    End::Done
+    Ok(())
 }
 
 // Stores the blocks of a file, the leaves and then the levels over them, in a lent buffer with room for the leaves' scores.
@@ -202,17 +174,14 @@ fn write_blocks(
     psize: usize,
     depth: usize,
     scores: &mut [u8],
-) -> End
+) -> Result<(), Refusal>
     requires { (length date.now ≡ 8) × (length slice.now ≤ longest) × (1 ≤ dsize) × (dsize ≤ longest) × (40 ≤ psize) × (psize ≤ longest) × (depth ≤ 7)
         × (length scores.old ≡ 20 * parts_of dsize (length slice.now)) }
     ensures blocks { after_all result (beside log.now waiting.new)
         ≡ store_all (beside log.now waiting.old) date.now (file_blocks slice.now dsize psize depth) }
-    ensures top { result ≡ Done → top_of scores.new ≡ top_score slice.now dsize psize depth }
+    ensures top { result ≡ Ok tt → top_of scores.new ≡ top_score slice.now dsize psize depth }
 {
-    let ended = write_leaves(log, waiting, date, slice, dsize, scores);
-    let End::Done = ended else {
-        return ended;
-    };
+    write_leaves(log, waiting, date, slice, dsize, scores)?;
     write_levels(log, waiting, date, 20 * (psize / 20), depth, scores)
 }
 
@@ -249,7 +218,7 @@ fn write_tested(
     depth: usize,
     entry: &mut [u8],
     scores: &mut [u8],
-) -> End
+) -> Result<(), Refusal>
     requires { (length date.now ≡ 8) × (length slice.now ≤ longest) × (1 ≤ dsize) × (dsize ≤ longest) × (40 ≤ psize) × (psize ≤ longest) × (depth ≤ 7)
         × (length entry.old ≡ 40) × (20 * longest ≤ length scores.old) }
     ensures { outcome result (beside log.now waiting.new) entry.new scores.new
@@ -268,11 +237,11 @@ fn write_tested(
     );
     let e = make_entry(psize, dsize, depth, slice.len(), &scores[..n]);
     buffer::clear(&mut scores[..n]);
-    let End::Done = ended else {
+    let Ok(()) = ended else {
         return ended;
     };
     buffer::copy_at(entry, 0, &e);
-    End::Done
+    Ok(())
 }
 
 // Writes a file: any log, waiting part, date, slice, sizes, and lent buffers.
@@ -285,29 +254,28 @@ pub fn write_file(
     psize: usize,
     entry: &mut [u8],
     scores: &mut [u8],
-) -> End
+) -> Result<(), Refusal>
     ensures { outcome result (beside log.now waiting.new) entry.new scores.new
         ≡ write_file log.now waiting.old date.now slice.now dsize psize entry.old scores.old }
 {
     if entry.len() != ENTRY {
-        return End::Refused(Refusal::Buffer);
+        return Err(Refusal::Buffer);
     }
     if scores.len() < SCORES {
-        return End::Refused(Refusal::Buffer);
+        return Err(Refusal::Buffer);
     }
     if !lookup::are_allowed(log.len(), waiting.len()) {
-        return End::Refused(Refusal::LogLength);
+        return Err(Refusal::LogLength);
     }
     if !sector::is_date(date) {
-        return End::Refused(Refusal::Date);
+        return Err(Refusal::Date);
     }
     if LONGEST < slice.len() {
-        return End::Refused(Refusal::DataLength);
+        return Err(Refusal::DataLength);
     }
-    let depth = depth::depth_of(slice.len(), dsize, psize);
-    if 7 < depth {
-        return End::Refused(Refusal::Entry);
-    }
+    let Some(depth) = depth::depth_of(slice.len(), dsize, psize) else {
+        return Err(Refusal::Entry);
+    };
     write_tested(
         log, waiting, date, slice, dsize, psize, depth, entry, scores,
     )

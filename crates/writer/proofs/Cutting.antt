@@ -5,23 +5,22 @@ use Prim.Native.Nat.{ℕ, ◌%◌, ◌≤◌}
 use native.Mathlib.Omega.{arith}
 use lib.ListN.{length, take}
 use borrow.Author.Tests.{eq-eqb}
+use Rattle.std.specs.Prelude.{Result, Ok, Err}
 use Rattle.buffer.specs.Bytes.{Bytes}
 use Rattle.refusal.specs.declared.Refusal.{Refusal}
 use Rattle.kind.specs.Kind.{lawful, is_pointer}
 use Rattle.cut.specs.Cut.{unit_of, cut_length, whole_units, cut_of}
-use Rattle.cut.specs.declared.Kept.{Kept}
-use Rattle.cut.specs.declared.Kept.TheVariants.{Length, Refused}
 use Rattle.cut.proofs.Tests.{cut_done, whole-scores, whole-bytes}
 use Rattle.cut.proofs.Shortest.{cut_le}
 use Rattle.cut.proofs.CutAndPad.{is_cut}
 use Rattle.writer.specs.Blocks.{cut_block}
 
 -- what `cut` answers for a lawful type and whole units
-module _ (kind : ℕ) (b : Bytes) (l : lawful kind ≡ true) (u : whole_units (unit_of kind) (length b) ≡ true) (k : Kept) (e : k ≡ cut_of kind b) where
-  pub cut_is : (n : ℕ) → k ≡ Length n → n ≡ cut_length (unit_of kind) b
+module _ (kind : ℕ) (b : Bytes) (l : lawful kind ≡ true) (u : whole_units (unit_of kind) (length b) ≡ true) (k : Result ℕ Refusal) (e : k ≡ cut_of kind b) where
+  pub cut_is : (n : ℕ) → k ≡ Ok n → n ≡ cut_length (unit_of kind) b
   cut_is n q = (is_cut kind b n (sym e ∙ q)).size
 
-  pub cut_never_refused : (w : Refusal) (n : ℕ) → k ≡ Refused w → n ≡ cut_length (unit_of kind) b
+  pub cut_never_refused : (w : Refusal) (n : ℕ) → k ≡ Err w → n ≡ cut_length (unit_of kind) b
   cut_never_refused w n q =
       let r = cut_done kind b (cut_length (unit_of kind) b) l u refl in
       let z : ◌≡◌ {A = ℕ} 0 1 = cc in absurd (omega arith)

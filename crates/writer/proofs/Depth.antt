@@ -7,30 +7,26 @@ use native.Mathlib.Omega.{arith}
 use native.Mathlib.Nat.{mul-le-mul_right}
 use lib.Dec.{leb, ltb}
 use borrow.Author.Tests.{le-leb, lt-leb, leb-true, leb-false, ltb-true, ltb-false}
-use Rattle.bedrock.specs.Choice.{on}
 use Rattle.bedrock.proofs.Choices.{and-true}
+use Rattle.std.specs.Prelude.{Some, None, Option as Optional}
 use Rattle.kind.specs.Kind.{longest}
 use Rattle.entry.proofs.Room.{room-start, room_next}
-use Rattle.writer.specs.Depth.{depth_from, least_depth, sizes_allowed, depth_of, LeastDepth}
-
--- the code's number: 8 for none
-abbrev pub number : Option ℕ → ℕ
-number o = on o 8 (λ d. d)
+use Rattle.writer.specs.Depth.{depth_from, least_depth, sizes_allowed, depth_of, chosen, LeastDepth}
 
 module _ (n dsize p : ℕ) where
   -- sought so far: what is left to seek, and the room at d
   abbrev pub Seeking : ℕ → ℕ → Type 0
-  Seeking room d = (d ≤ 8) × (room ≡ dsize * p ^ d) × (number (least_depth n dsize p) ≡ number (depth_from (8 - d) d n dsize p))
+  Seeking room d = (d ≤ 8) × (room ≡ dsize * p ^ d) × (chosen (least_depth n dsize p) ≡ chosen (depth_from (8 - d) d n dsize p))
 
   pub seeking_start : Seeking dsize 0
   seeking_start = (omega arith, room-start dsize p, refl)
 
-  pub seeking_found : (room d : ℕ) → Seeking room d → d < 8 → n ≤ room → d ≡ number (least_depth n dsize p)
+  pub seeking_found : (room d : ℕ) → Seeking room d → d < 8 → n ≤ room → Some d ≡ chosen (least_depth n dsize p)
   unfolding depth_from
   seeking_found room d s h le =
       let m : 8 - d ≡ suc (7 - d) = omega arith in
       let f : leb n (dsize * p ^ d) ≡ true = ap (leb n) (sym s.1) ∙ le-leb n room le in
-      sym (s.2 ∙ ap (λ (k : ℕ). number (depth_from k d n dsize p)) m ∙ ap (λ (t : Bool). number (cond t (some d) (depth_from (7 - d) (suc d) n dsize p))) f)
+      sym (s.2 ∙ ap (λ (k : ℕ). chosen (depth_from k d n dsize p)) m ∙ ap (λ (t : Bool). chosen (cond t (some d) (depth_from (7 - d) (suc d) n dsize p))) f)
 
   pub seeking_next : (room d : ℕ) → 0 < p → Seeking room d → d < 8 → room < n → Seeking (room * p) (d + 1)
   unfolding depth_from
@@ -40,13 +36,13 @@ module _ (n dsize p : ℕ) where
       let f : leb n (dsize * p ^ d) ≡ false = ap (leb n) (sym s.1) ∙ lt-leb n room gt in (
         omega arith,
         room_next n dsize p 0 d room pos s.1,
-        s.2 ∙ ap (λ (k : ℕ). number (depth_from k d n dsize p)) m ∙ ap (λ (t : Bool). number (cond t (some d) (depth_from (8 - (d + 1)) (suc d) n dsize p))) f
-            ∙ ap (λ (k : ℕ). number (depth_from (8 - (d + 1)) k n dsize p)) o,
+        s.2 ∙ ap (λ (k : ℕ). chosen (depth_from k d n dsize p)) m ∙ ap (λ (t : Bool). chosen (cond t (some d) (depth_from (8 - (d + 1)) (suc d) n dsize p))) f
+            ∙ ap (λ (k : ℕ). chosen (depth_from (8 - (d + 1)) k n dsize p)) o,
       )
 
-  pub seeking_none : (room d : ℕ) → Seeking room d → 8 ≤ d → 8 ≡ number (least_depth n dsize p)
+  pub seeking_none : (room d : ℕ) → Seeking room d → 8 ≤ d → None ≡ chosen (least_depth n dsize p)
   unfolding depth_from
-  seeking_none room d s h = let m : 8 - d ≡ 0 = omega arith in sym (s.2 ∙ ap (λ (k : ℕ). number (depth_from k d n dsize p)) m)
+  seeking_none room d s h = let m : 8 - d ≡ 0 = omega arith in sym (s.2 ∙ ap (λ (k : ℕ). chosen (depth_from k d n dsize p)) m)
 
   pub room_fits : (room : ℕ) → room ≤ n → n ≤ longest → p ≤ longest → room * p ≤ longest * longest
   room_fits room a b c = omega (arith, mul-le-mul_right p (room-below room a b), below_all c)
@@ -102,26 +98,26 @@ least-depth n dsize p = (λ d e. least-found n dsize p d e, λ e k h. missing n 
 -- ---- the sizes tested first
 
 module _ (n dsize psize : ℕ) where
-  pub dsize-under : dsize < 1 → 8 ≡ number (depth_of n dsize psize)
+  pub dsize-under : dsize < 1 → None ≡ chosen (depth_of n dsize psize)
   unfolding depth_of sizes_allowed
   dsize-under h = rw (lt-leb 1 dsize h)
 
   module _ (a : 1 ≤ dsize) where
-    pub dsize-over : longest < dsize → 8 ≡ number (depth_of n dsize psize)
+    pub dsize-over : longest < dsize → None ≡ chosen (depth_of n dsize psize)
     unfolding depth_of sizes_allowed
     dsize-over h = rw (le-leb 1 dsize a, lt-leb dsize longest h)
 
     module _ (b : dsize ≤ longest) where
-      pub psize-under : psize < 40 → 8 ≡ number (depth_of n dsize psize)
+      pub psize-under : psize < 40 → None ≡ chosen (depth_of n dsize psize)
       unfolding depth_of sizes_allowed
       psize-under h = rw (le-leb 1 dsize a, le-leb dsize longest b, lt-leb 40 psize h)
 
       module _ (c : 40 ≤ psize) where
-        pub psize-over : longest < psize → 8 ≡ number (depth_of n dsize psize)
+        pub psize-over : longest < psize → None ≡ chosen (depth_of n dsize psize)
         unfolding depth_of sizes_allowed
         psize-over h = rw (le-leb 1 dsize a, le-leb dsize longest b, le-leb 40 psize c, lt-leb psize longest h)
 
-        pub sizes_in : (r : ℕ) → psize ≤ longest → r ≡ number (least_depth n dsize (psize / 20)) → r ≡ number (depth_of n dsize psize)
+        pub sizes_in : (r : Optional ℕ) → psize ≤ longest → r ≡ chosen (least_depth n dsize (psize / 20)) → r ≡ chosen (depth_of n dsize psize)
         unfolding depth_of sizes_allowed
         sizes_in r h e = rw (le-leb 1 dsize a, le-leb dsize longest b, le-leb 40 psize c, le-leb psize longest h) e
 
@@ -151,17 +147,17 @@ module _ (n dsize psize : ℕ) where
           }
       go false q f = let z : ◌≡◌ {A = ℕ} 0 1 = cc in absurd (omega arith)
 
-  -- by the code's number
-  pub depth-some : (r : ℕ) → r ≡ number (depth_of n dsize psize) → r ≤ 7 → depth_of n dsize psize ≡ some r
-  depth-some r e h = go (depth_of n dsize psize) refl
+  -- by what is answered
+  pub depth-some : (r : ℕ) → Some r ≡ chosen (depth_of n dsize psize) → depth_of n dsize psize ≡ some r
+  depth-some r e = go (depth_of n dsize psize) refl
     where
       go : (o : Option ℕ) → depth_of n dsize psize ≡ o → depth_of n dsize psize ≡ some r
-      go none q = absurd (omega (arith, e ∙ ap number q))
-      go (some d) q = q ∙ ap some (sym (e ∙ ap number q))
+      go none q = let f : Some r ≡ None = e ∙ ap chosen q in let z : ◌≡◌ {A = ℕ} 0 1 = cc in absurd (omega arith)
+      go (some d) q = let f : Some r ≡ Some d = e ∙ ap chosen q in let g : r ≡ d = cc in q ∙ ap some (sym g)
 
-  pub depth-none : (r : ℕ) → r ≡ number (depth_of n dsize psize) → 7 < r → depth_of n dsize psize ≡ none
-  depth-none r e h = go (depth_of n dsize psize) refl
+  pub depth-none : None ≡ chosen (depth_of n dsize psize) → depth_of n dsize psize ≡ none
+  depth-none e = go (depth_of n dsize psize) refl
     where
       go : (o : Option ℕ) → depth_of n dsize psize ≡ o → depth_of n dsize psize ≡ none
       go none q = q
-      go (some d) q = absurd (omega (arith, e ∙ ap number q, (least-found n dsize (psize / 20) d (depth_lies d q).least).0))
+      go (some d) q = let f : None ≡ Some d = e ∙ ap chosen q in let z : ◌≡◌ {A = ℕ} 0 1 = cc in absurd (omega arith)

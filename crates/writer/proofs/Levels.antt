@@ -23,8 +23,7 @@ use Rattle.sector_log.specs.Parts.{Lent}
 use Rattle.sector_log.specs.Store.{store}
 use Rattle.writer.specs.Blocks.{Typed, cut_block, blocks_from, level, leaves, scores_of, scores_at, pointer_blocks, width_of, file_blocks, top_of, top_score}
 use Rattle.writer.specs.WriteFile.{end_of, AfterAll, after_all, onward, store_all}
-use Rattle.writer.specs.declared.End.{End}
-use Rattle.writer.specs.declared.End.TheVariants.{Done, Refused}
+use Rattle.std.specs.Prelude.{Ok, Err, Result, ⊤}
 
 -- what comes after other blocks is stored where these were
 pub store-append : (L : Lent) (date : Bytes) (xs ys : List Typed) → let a = store_all L date xs in
@@ -34,10 +33,10 @@ store-append L date [] ys = refl
 store-append L date (x ∷ xs) ys =
     go (end_of (store L date x.kind x.bytes).receipt.stored) (store L date x.kind x.bytes).lent (store-append (store L date x.kind x.bytes).lent date xs ys)
   where
-    go : (e : End) (M : Lent) → (let a = store_all M date xs in store_all M date (xs ++ ys) ≡ onward a.end a.lent (store_all a.lent date ys))
+    go : (e : Result ⊤ Refusal) (M : Lent) → (let a = store_all M date xs in store_all M date (xs ++ ys) ≡ onward a.end a.lent (store_all a.lent date ys))
         → let a = onward e M (store_all M date xs) in onward e M (store_all M date (xs ++ ys)) ≡ onward a.end a.lent (store_all a.lent date ys)
-    go Done M h = h
-    go (Refused w) M h = refl
+    go (Ok tt) M h = h
+    go (Err w) M h = refl
 
 -- a score for each block
 pub length-scores : (kind w : ℕ) (b : Bytes) (k i : ℕ) → length (scores_of (blocks_from kind w b k i)) ≡ 20 * k
@@ -80,7 +79,7 @@ module _ (w : ℕ) (s date : Bytes) (L₀ : Lent) where
     pub has-whole-scores : n % 20 ≡ 0
     pub most : n ≤ length s
     pub some : 0 < length s → 0 < n
-    pub blocks : after_all Done L ≡ store_all L₀ date (pointer_blocks w s k)
+    pub blocks : after_all (Ok tt) L ≡ store_all L₀ date (pointer_blocks w s k)
 
   pub climbing_start : length s % 20 ≡ 0 → Climbing L₀ s (length s) 0
   unfolding scores_at pointer_blocks store_all
@@ -106,20 +105,20 @@ module _ (w : ℕ) (s date : Bytes) (L₀ : Lent) where
           rw (eq-eqb (length scores) 0 (omega arith), eq-eqb (length t) 0 (omega (arith, g.sized, g.most))) refl
 
   -- a refused level refuses all
-  stays : (k : ℕ) (why : Refusal) (L' : Lent) → store_all L₀ date (pointer_blocks w s (suc k)) ≡ after_all (Refused why) L'
-      → (d : ℕ) → k < d → store_all L₀ date (pointer_blocks w s d) ≡ after_all (Refused why) L'
+  stays : (k : ℕ) (why : Refusal) (L' : Lent) → store_all L₀ date (pointer_blocks w s (suc k)) ≡ after_all (Err why) L'
+      → (d : ℕ) → k < d → store_all L₀ date (pointer_blocks w s d) ≡ after_all (Err why) L'
   unfolding pointer_blocks
   stays k why L' e zero h = absurd (omega arith)
   stays k why L' e (suc d) h = go (ltb k d) refl (stays k why L' e d)
     where
-      go : (t : Bool) → ltb k d ≡ t → (k < d → store_all L₀ date (pointer_blocks w s d) ≡ after_all (Refused why) L')
-          → store_all L₀ date (pointer_blocks w s (suc d)) ≡ after_all (Refused why) L'
+      go : (t : Bool) → ltb k d ≡ t → (k < d → store_all L₀ date (pointer_blocks w s d) ≡ after_all (Err why) L')
+          → store_all L₀ date (pointer_blocks w s (suc d)) ≡ after_all (Err why) L'
       go true q below =
           store-append L₀ date (pointer_blocks w s d) _
           ∙ ap (λ (a : AfterAll). onward a.end a.lent (store_all a.lent date (level (2 + suc d) w (scores_at w s d)))) (below (ltb-true k d q))
       go false q below = let m : d ≡ k = omega (arith, ltb-false k d q) in ap (λ (x : ℕ). store_all L₀ date (pointer_blocks w s (suc x))) m ∙ e
 
-  module _ (L : Lent) (scores : Bytes) (n k : ℕ) (g : Climbing L scores n k) (e : End) (L' : Lent)
+  module _ (L : Lent) (scores : Bytes) (n k : ℕ) (g : Climbing L scores n k) (e : Result ⊤ Refusal) (L' : Lent)
       (b : after_all e L' ≡ store_all L date (level (3 + k) w (take n scores))) where
     climbed : after_all e L' ≡ store_all L₀ date (pointer_blocks w s (suc k))
     unfolding pointer_blocks
@@ -129,12 +128,12 @@ module _ (w : ℕ) (s date : Bytes) (L₀ : Lent) where
         ∙ sym (store-append L₀ date (pointer_blocks w s k) (level (2 + suc k) w (scores_at w s k))
         ∙ ap (λ (a : AfterAll). onward a.end a.lent (store_all a.lent date (level (2 + suc k) w (scores_at w s k)))) (sym g.blocks))
 
-    pub climbing_stopped : (why : Refusal) (d : ℕ) → e ≡ Refused why → k < d → after_all e L' ≡ store_all L₀ date (pointer_blocks w s d)
+    pub climbing_stopped : (why : Refusal) (d : ℕ) → e ≡ Err why → k < d → after_all e L' ≡ store_all L₀ date (pointer_blocks w s d)
     climbing_stopped why d p h =
-        let q = ap (λ (x : End). after_all x L') p in
+        let q = ap (λ (x : Result ⊤ Refusal). after_all x L') p in
         q ∙ sym (stays k why L' (sym climbed ∙ q) d h)
 
-    pub climbing_next : 20 ≤ w → e ≡ Done → (part : Bytes) → length part ≡ length (take n scores)
+    pub climbing_next : 20 ≤ w → e ≡ Ok tt → (part : Bytes) → length part ≡ length (take n scores)
         → take (20 * parts_of w (length (take n scores))) part ≡ scores_of (level (3 + k) w (take n scores))
         → length scores ≡ length s
         → (scores' : Bytes) → scores' ≡ part ++ drop n scores → (n' : ℕ) → n' ≡ 20 * parts_of w n → Climbing L' scores' n' (k + 1)
@@ -155,11 +154,11 @@ module _ (w : ℕ) (s date : Bytes) (L₀ : Lent) where
           has-whole-scores = times_mod 20 (parts_of w n) n' en;
           most = omega (arith, g.most);
           some = λ q. omega (arith, some-parts w (omega arith) n (g.some q), en);
-          blocks = ap (λ (x : End). after_all x L') (sym p) ∙ climbed;
+          blocks = ap (λ (x : Result ⊤ Refusal). after_all x L') (sym p) ∙ climbed;
         })
 
 -- the leaves, and then the levels over their scores
-module _ (slice : Bytes) (dsize psize depth : ℕ) (date : Bytes) (L₀ : Lent) (e : End) (L : Lent) (b : after_all e L ≡ store_all L₀ date (leaves dsize slice)) where
+module _ (slice : Bytes) (dsize psize depth : ℕ) (date : Bytes) (L₀ : Lent) (e : Result ⊤ Refusal) (L : Lent) (b : after_all e L ≡ store_all L₀ date (leaves dsize slice)) where
   abbrev over : List Typed
   over = pointer_blocks (width_of psize) (scores_of (leaves dsize slice)) depth
 
@@ -168,15 +167,15 @@ module _ (slice : Bytes) (dsize psize depth : ℕ) (date : Bytes) (L₀ : Lent) 
   all_blocks =
       store-append L₀ date (leaves dsize slice) over ∙ ap (λ (a : AfterAll). onward a.end a.lent (store_all a.lent date over)) (sym b)
 
-  pub leaf-refused : (why : Refusal) → e ≡ Refused why → after_all e L ≡ store_all L₀ date (file_blocks slice dsize psize depth)
+  pub leaf-refused : (why : Refusal) → e ≡ Err why → after_all e L ≡ store_all L₀ date (file_blocks slice dsize psize depth)
   leaf-refused why p =
-      ap (λ (x : End). after_all x L) p ∙ sym (all_blocks ∙ ap (λ (x : End). onward x L (store_all L date over)) p)
+      ap (λ (x : Result ⊤ Refusal). after_all x L) p ∙ sym (all_blocks ∙ ap (λ (x : Result ⊤ Refusal). onward x L (store_all L date over)) p)
 
-  pub leaves-stored : e ≡ Done → (s : Bytes) → s ≡ scores_of (leaves dsize slice) → (r : End) (L' : Lent)
+  pub leaves-stored : e ≡ Ok tt → (s : Bytes) → s ≡ scores_of (leaves dsize slice) → (r : Result ⊤ Refusal) (L' : Lent)
       → after_all r L' ≡ store_all L date (pointer_blocks (width_of psize) s depth) → after_all r L' ≡ store_all L₀ date (file_blocks slice dsize psize depth)
   leaves-stored p s f r L' g =
       g ∙ ap (λ (x : Bytes). store_all L date (pointer_blocks (width_of psize) x depth)) f
-      ∙ sym (all_blocks ∙ ap (λ (x : End). onward x L (store_all L date over)) p)
+      ∙ sym (all_blocks ∙ ap (λ (x : Result ⊤ Refusal). onward x L (store_all L date over)) p)
 
 pub top-is : (slice : Bytes) (dsize psize depth : ℕ) (s x : Bytes) → s ≡ scores_of (leaves dsize slice) → top_of x ≡ top_of (scores_at (width_of psize) s depth)
     → top_of x ≡ top_score slice dsize psize depth

@@ -20,8 +20,7 @@ use Rattle.entry.specs.Made.{made_entry}
 use Rattle.writer.specs.Blocks.{file_blocks, top_of, top_score}
 use Rattle.writer.specs.Depth.{depth_of}
 use Rattle.writer.specs.WriteFile.{AfterAll, after_all, store_all, WriteOutcome, outcome, entry_after, cleared_to, entry_over, wrote, buffers_allowed, write_file}
-use Rattle.writer.specs.declared.End.{End}
-use Rattle.writer.specs.declared.End.TheVariants.{Done, Refused}
+use Rattle.std.specs.Prelude.{Ok, Err, Result, ⊤}
 
 -- the front of a buffer written, read, and cleared
 module _ (n : ℕ) (scores part : Bytes) (le : n ≤ length scores) (l : length part ≡ length (take n scores)) where
@@ -38,35 +37,35 @@ module _ (n : ℕ) (scores part : Bytes) (le : n ≤ length scores) (l : length 
       ap₂ ◌++◌ a (drop_at part (drop n scores) n part_long) ∙ ap (λ (k : ℕ). cleared_to k scores) e
 
 -- `part` is the front of the buffer of scores after the blocks, z the zeros in its place
-module _ (log w date slice : Bytes) (dsize psize : ℕ) (entry scores : Bytes) (depth : ℕ) (r : End) (L' : Lent)
+module _ (log w date slice : Bytes) (dsize psize : ℕ) (entry scores : Bytes) (depth : ℕ) (r : Result ⊤ Refusal) (L' : Lent)
     (b : after_all r L' ≡ store_all (beside log w) date (file_blocks slice dsize psize depth)) (part : Bytes)
-    (t : r ≡ Done → top_of part ≡ top_score slice dsize psize depth) (n : ℕ) (en : n ≡ 20 * parts_of dsize (length slice)) (le : n ≤ length scores) (z : Bytes)
+    (t : r ≡ Ok tt → top_of part ≡ top_score slice dsize psize depth) (n : ℕ) (en : n ≡ 20 * parts_of dsize (length slice)) (le : n ≤ length scores) (z : Bytes)
     (s : z ≡ replicate (length (take n (part ++ drop n scores))) 0) where
   abbrev all : AfterAll → Bytes → WriteOutcome
   all a x = outcome a.end a.lent (entry_after a.end entry (entry_over slice dsize psize depth)) x
 
-  pub tested-refused : (y : Refusal) → r ≡ Refused y → length part ≡ length (take n scores)
+  pub tested-refused : (y : Refusal) → r ≡ Err y → length part ≡ length (take n scores)
       → outcome r L' entry (z ++ drop n (part ++ drop n scores)) ≡ wrote log w date slice dsize psize entry scores depth
   tested-refused y p l =
-      ap (λ (x : Bytes). outcome r L' x (z ++ drop n (part ++ drop n scores))) (sym (ap (λ (x : End). entry_after x entry (entry_over slice dsize psize depth)) p))
+      ap (λ (x : Bytes). outcome r L' x (z ++ drop n (part ++ drop n scores))) (sym (ap (λ (x : Result ⊤ Refusal). entry_after x entry (entry_over slice dsize psize depth)) p))
       ∙ ap₂ all b (front-cleared n scores part le l (20 * parts_of dsize (length slice)) en z s)
 
-  pub tested-done : r ≡ Done → (e : Bytes) → e ≡ made_entry psize dsize depth (length slice) (top_of (take n (part ++ drop n scores)))
+  pub tested-done : r ≡ Ok tt → (e : Bytes) → e ≡ made_entry psize dsize depth (length slice) (top_of (take n (part ++ drop n scores)))
       → (entry' : Bytes) → entry' ≡ put entry 0 e → length e ≡ length entry → length part ≡ length (take n scores)
-      → outcome Done L' entry' (z ++ drop n (part ++ drop n scores)) ≡ wrote log w date slice dsize psize entry scores depth
+      → outcome (Ok tt) L' entry' (z ++ drop n (part ++ drop n scores)) ≡ wrote log w date slice dsize psize entry scores depth
   tested-done p e made entry' q k l =
       let over : entry' ≡ entry_over slice dsize psize depth =
       q ∙ put_whole entry e k ∙ made ∙ ap (λ (x : Bytes). made_entry psize dsize depth (length slice) (top_of x)) (front_part n scores part le l)
       ∙ ap (made_entry psize dsize depth (length slice)) (t p) in
-      ap₂ (λ (x : End) (y : Bytes). outcome x L' y (z ++ drop n (part ++ drop n scores))) (sym p)
-      (over ∙ sym (ap (λ (x : End). entry_after x entry (entry_over slice dsize psize depth)) p))
+      ap₂ (λ (x : Result ⊤ Refusal) (y : Bytes). outcome x L' y (z ++ drop n (part ++ drop n scores))) (sym p)
+      (over ∙ sym (ap (λ (x : Result ⊤ Refusal). entry_after x entry (entry_over slice dsize psize depth)) p))
       ∙ ap₂ all b (front-cleared n scores part le l (20 * parts_of dsize (length slice)) en z s)
 
 -- ---- the tests, in their order
 
 module _ (log w date slice : Bytes) (dsize psize : ℕ) (entry scores : Bytes) where
   abbrev refusal : Refusal → WriteOutcome
-  refusal y = outcome (Refused y) (beside log w) entry scores
+  refusal y = outcome (Err y) (beside log w) entry scores
 
   abbrev whole : WriteOutcome
   whole = write_file log w date slice dsize psize entry scores

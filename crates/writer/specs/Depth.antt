@@ -1,6 +1,7 @@
 -- The least depth of a file.
-use Rattle.std.specs.Prelude.{◌≡◌, Bool, cond, ◌&&◌, ℕ, zero, suc, ◌*◌, ◌/◌, ◌^◌, ◌≤◌, ◌<◌, leb}
+use Rattle.std.specs.Prelude.{Some, None, Option as Optional, ◌≡◌, Bool, cond, ◌&&◌, ℕ, zero, suc, ◌*◌, ◌/◌, ◌^◌, ◌≤◌, ◌<◌, leb}
 use Rattle.std.proofs.Math.Option.{Option, none, some}
+use Rattle.bedrock.specs.Choice.{on}
 use Rattle.kind.specs.Kind.{longest}
 
 -- the first of k depths from d on at which n bytes fit
@@ -19,6 +20,10 @@ sizes_allowed dsize psize = (leb 1 dsize && leb dsize longest) && (leb 40 psize 
 -- the depth of a file of n bytes, none where 16 refuses it
 unfoldable pub depth_of : ℕ → ℕ → ℕ → Option ℕ
 depth_of n dsize psize = cond (sizes_allowed dsize psize) (least_depth n dsize (psize / 20)) none
+
+-- the same, as what is answered
+abbrev pub chosen : Option ℕ → Optional ℕ
+chosen o = on o None (λ d. Some d)
 
 -- it holds the bytes, and no smaller depth does; where there is none, no depth up to 7 does
 abbrev pub LeastDepth : Type 0

@@ -2,10 +2,3 @@
 #![tactic(auto)]
 
 use refusal::Refusal;
-
-// How writing a file ended: all of its blocks are stored, or the refusal.
-#[derive(Clone, Copy)]
-pub enum End {
-    Done,
-    Refused(Refusal),
-}

@@ -6,15 +6,15 @@ ghost use Rattle.sector_log.specs.Parts.{beside};
 ghost use Rattle.writer.specs.WriteFile.{end_number, write_file};
 ghost use Rattle.writer_calls.specs.Wrote.{wrote_file, wrote_result};
 
-use writer::End;
+use refusal::Refusal;
 
 // The number of how writing ended: 0 where all blocks are stored.
-fn end_number(end: End) -> u32
+fn end_number(end: Result<(), Refusal>) -> u32
     ensures { result ≡ end_number end }
 {
     match end {
-        End::Done => 0,
-        End::Refused(why) => refusal::number(why) as u32,
+        Ok(()) => 0,
+        Err(why) => refusal::number(why) as u32,
     }
 }
 

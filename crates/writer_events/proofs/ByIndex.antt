@@ -2,7 +2,7 @@
 use mathlib.Core.Path.{◌≡◌, refl, ap, ◌∙◌}
 use mathlib.Core.Bool.{true}
 use Rattle.buffer.specs.Bytes.{Bytes}
-use Rattle.word.specs.Number.{small}
+use Rattle.digits.specs.Number.{small}
 use Rattle.sector_log.specs.Parts.{Lent}
 use Rattle.request.specs.declared.Session.{Session}
 use Rattle.ledger.specs.Trace.{Turn, Trace}

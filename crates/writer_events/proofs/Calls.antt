@@ -6,7 +6,7 @@ use Prim.Native.Nat.{ℕ, suc, ◌/◌, ◌≤◌}
 use native.Mathlib.Omega.{arith}
 use lib.ListN.{length, replicate, length-replicate}
 use Rattle.buffer.specs.Bytes.{Bytes}
-use Rattle.word.specs.Number.{small}
+use Rattle.digits.specs.Number.{small}
 use Rattle.refusal.specs.declared.Refusal.{Refusal}
 use Rattle.sector_log.specs.Parts.{Lent, beside}
 use Rattle.request.specs.Step.{reply_room}

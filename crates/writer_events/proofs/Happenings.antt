@@ -9,7 +9,7 @@ use lib.Dec.{eqb}
 use lib.ListN.{length, get_or, replicate}
 use Rattle.bedrock.specs.Choice.{on}
 use Rattle.buffer.specs.Bytes.{Bytes}
-use Rattle.word.specs.Number.{small}
+use Rattle.digits.specs.Number.{small}
 use Rattle.sector_log.specs.Parts.{Lent, beside}
 use Rattle.request.specs.Step.{reply_room}
 use Rattle.request.specs.declared.Session.{Session}

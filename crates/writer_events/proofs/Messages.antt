@@ -27,14 +27,13 @@ use Rattle.demands.specs.Instance.{archive}
 use Rattle.demands.proofs.Lawful.{lawful}
 use Rattle.writer.specs.Blocks.{Typed}
 use Rattle.writer.specs.WriteFile.{end_of, end_number}
-use Rattle.writer.specs.declared.End.{End}
-use Rattle.writer.specs.declared.End.TheVariants.{Done, Refused}
 use Rattle.writer_laws.specs.Held.{AllWritable}
 use Rattle.writer_laws.specs.Asking.{going, asked, hello_message, write_message, write_item, requests}
 use Rattle.writer_laws.proofs.Held.{store_refuses}
 use Rattle.writer_laws.proofs.Messages.{greets, small-message, one-write, still-allowed}
 use Rattle.writer_laws.proofs.Asking.{front-stays, end_get_d}
 use Rattle.writer_events.specs.Happenings.{up_to_refused}
+use Rattle.std.specs.Prelude.{Ok, Err, Result, ⊤}
 
 not-zero : (y : Refusal) → (y ≡ NoRoom) ⊎ (y ≡ Clash) → eqb (number_of y) 0 ≡ false
 not-zero y (inl e) = ap (λ (u : Refusal). eqb (number_of u) 0) e
@@ -42,10 +41,10 @@ not-zero y (inr e) = ap (λ (u : Refusal). eqb (number_of u) 0) e
 
 module _ (date buffer : Bytes) (dated : is_date date ≡ true) (room : steps.reply_room ≤ length buffer) (i : ℕ) where
   -- behind one message: on where its block was stored
-  behind : (e : End) (rest : List (Item archive)) (xs : List Typed) → ((y : Refusal) → e ≡ Refused y → (y ≡ NoRoom) ⊎ (y ≡ Clash)) → rest ≡ map (write_item date buffer i) xs
+  behind : (e : Result ⊤ Refusal) (rest : List (Item archive)) (xs : List Typed) → ((y : Refusal) → e ≡ Err y → (y ≡ NoRoom) ⊎ (y ≡ Clash)) → rest ≡ map (write_item date buffer i) xs
       → cond (eqb (end_number e) 0) rest [] ≡ map (write_item date buffer i) (going e xs)
-  behind Done rest xs r q = q
-  behind (Refused y) rest xs r q = ap (λ (b : Bool). cond b rest []) (not-zero y (r y refl))
+  behind (Ok tt) rest xs r q = q
+  behind (Err y) rest xs r q = ap (λ (b : Bool). cond b rest []) (not-zero y (r y refl))
 
   pub writes_cut : (xs : List Typed) (L : Lent) (past : List Session) (b : Books archive) → Stands archive (record { log = L; past = past }) b
       → steps.allowed L ≡ true → AllWritable xs → i < length past → get_or past i Fresh ≡ Greeted

@@ -18,8 +18,8 @@ use Rattle.sector_log.specs.Parts.{beside}
 use Rattle.sector_log.specs.LookUp.{lent_allowed}
 use Rattle.writer.specs.Depth.{depth_of}
 use Rattle.writer.specs.WriteFile.{WriteOutcome, outcome, wrote, score_room, buffers_allowed, write_file}
-use Rattle.writer.specs.declared.End.TheVariants.{Refused}
 use Rattle.writer_events.specs.Happenings.{Call, Verdict, refused_by, passes_at, verdict, called}
+use Rattle.std.specs.Prelude.{Err}
 
 -- a call that the tests let through
 pub record Passes (m w : ℕ) (c : Call) (depth : ℕ) : Type 0 where
@@ -63,7 +63,7 @@ passes m w c d e =
 -- a call that they refuse
 module _ (log w : Bytes) (c : Call) where
   abbrev refused : Refusal → WriteOutcome
-  refused y = outcome (Refused y) (beside log w) c.entry c.scores
+  refused y = outcome (Err y) (beside log w) c.entry c.scores
 
   abbrev judged : Verdict → WriteOutcome
   judged (refused_by y) = refused y
@@ -86,5 +86,5 @@ module _ (log w : Bytes) (c : Call) where
       (test (ltb longest (length c.slice)) why.DataLength _ _
       (deep (depth_of (length c.slice) c.dsize c.psize)))))
 
-  pub refused-call : (y : Refusal) → verdict (length log) (length w) c ≡ refused_by y → called (beside log w) c ≡ outcome (Refused y) (beside log w) c.entry c.scores
+  pub refused-call : (y : Refusal) → verdict (length log) (length w) c ≡ refused_by y → called (beside log w) c ≡ outcome (Err y) (beside log w) c.entry c.scores
   refused-call y e = called-judged ∙ ap judged e

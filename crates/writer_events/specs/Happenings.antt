@@ -3,7 +3,7 @@
 use Rattle.std.specs.Prelude.{◌≡◌, true, cond, not, List, [], ◌∷◌, ◌++◌, map, ℕ, suc, ltb, eqb, length, replicate}
 use Rattle.bedrock.specs.Choice.{on}
 use Rattle.buffer.specs.Bytes.{Bytes}
-use Rattle.word.specs.Number.{small}
+use Rattle.digits.specs.Number.{small}
 use Rattle.refusal.specs.declared.Refusal.{Refusal}
 use Rattle.refusal.specs.declared.Refusal.TheVariants as why
 use Rattle.refusal.specs.Number.{number_of}

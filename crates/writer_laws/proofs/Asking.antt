@@ -18,14 +18,14 @@ use Rattle.ledger.specs.History.{AllOfBytes, answer}
 use Rattle.demands.specs.Instance.{archive}
 use Rattle.writer.specs.Blocks.{Typed, file_blocks}
 use Rattle.writer.specs.WriteFile.{end_of, end_number, WriteOutcome, onward, store_all}
-use Rattle.writer.specs.declared.End.{End}
-use Rattle.writer.specs.declared.End.TheVariants.{Done, Refused}
 use Rattle.writer.proofs.Depth.{depth_lies, least-found}
 use Rattle.writer.proofs.Tested.{tests_passed}
 use Rattle.writer_laws.specs.Held.{AllWritable}
 use Rattle.writer_laws.specs.Asking.{going, asked, numbers, hello_message, write_message, write_item, requests, last_or, StoresAsked, WritesAreStores, WritingIsAsking}
 use Rattle.writer_laws.proofs.Messages.{small-message, greets, one-write, still-allowed}
 use Rattle.writer_laws.proofs.Written.{writable_file}
+use Rattle.std.specs.Prelude.{Ok, Err, Result, ⊤}
+use Rattle.refusal.specs.declared.Refusal.{Refusal}
 
 -- ---- the sessions
 
@@ -66,10 +66,10 @@ module _ (date buffer : Bytes) (dated : is_date date ≡ true) (room : steps.rep
       (sym one.lent) (ways e a.lent past' xs rest) in
       (all.0, ap₂ ◌∷◌ one.number all.1, all.2 ∙ one_more past o.session (length (going e (asked a.lent date xs))) one.session)
     where
-      ways : (e : End) (M : Lent) (p : List Session) (ys : List Typed) → Same M p (asked M date ys) (store_all M date ys).lent (numbers M date ys)
+      ways : (e : Result ⊤ Refusal) (M : Lent) (p : List Session) (ys : List Typed) → Same M p (asked M date ys) (store_all M date ys).lent (numbers M date ys)
           → Same M p (going e (asked M date ys)) (onward e M (store_all M date ys)).lent (going e (numbers M date ys))
-      ways Done M p ys s = s
-      ways (Refused y) M p ys s = (refl, refl, sym (append-nil p))
+      ways (Ok tt) M p ys s = s
+      ways (Err y) M p ys s = (refl, refl, sym (append-nil p))
 
 -- ---- the theorems
 
@@ -78,9 +78,9 @@ unfolding asked
 small-asked L date [] A = tt
 small-asked L date (x ∷ xs) A = let a = store L date x.kind x.bytes in (A.0, go (end_of a.receipt.stored) (asked a.lent date xs) (small-asked a.lent date xs A.1))
   where
-    go : (e : End) (ys : List Typed) → AllWritable ys → AllWritable (going e ys)
-    go Done ys h = h
-    go (Refused y) ys h = tt
+    go : (e : Result ⊤ Refusal) (ys : List Typed) → AllWritable ys → AllWritable (going e ys)
+    go (Ok tt) ys h = h
+    go (Err y) ys h = tt
 
 writes-of-bytes : (date buffer : Bytes) (i : ℕ) (xs : List Typed) → AllWritable xs → AllOfBytes archive (map (write_item date buffer i) xs)
 writes-of-bytes date buffer i [] A = tt
@@ -116,10 +116,10 @@ unfolding store_all numbers
 ends_as_last L date [] = refl
 ends_as_last L date (x ∷ xs) = let a = store L date x.kind x.bytes in go (end_of a.receipt.stored) a.lent (ends_as_last a.lent date xs)
   where
-    go : (e : End) (M : Lent) → end_number (store_all M date xs).end ≡ last_or 0 (numbers M date xs)
+    go : (e : Result ⊤ Refusal) (M : Lent) → end_number (store_all M date xs).end ≡ last_or 0 (numbers M date xs)
         → end_number (onward e M (store_all M date xs)).end ≡ last_or 0 (end_number e ∷ going e (numbers M date xs))
-    go Done M h = h
-    go (Refused y) M h = refl
+    go (Ok tt) M h = h
+    go (Err y) M h = refl
 
 pub writing_is_asking : WritingIsAsking
 writing_is_asking log w date slice dsize psize entry scores buffer past depth sm ro en sc al da sh de =

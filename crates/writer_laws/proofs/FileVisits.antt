@@ -18,7 +18,6 @@ use Rattle.entry.specs.declared.Entry.{Entry}
 use Rattle.entry.specs.Entry.{pointers}
 use Rattle.entry.proofs.Made.{file_entry}
 use Rattle.tree.specs.Tree.{piece, type_at, count_at}
-use Rattle.visit.specs.declared.End.TheVariants.{Done}
 use Rattle.visit.specs.Visit.{walked, more}
 use Rattle.descent.specs.Descent.{nest_of, judged, visit_directory, visit_entry}
 use Rattle.walk_laws.proofs.Found.{type_above}
@@ -37,6 +36,7 @@ use Rattle.writer_laws.proofs.ReadBack.{entry-is, score-is, well_formed_lem}
 use Rattle.writer_laws.proofs.StillHeld.{Ever, after_call, after-requests}
 use Rattle.writer_laws.proofs.Walk.{cut_piece, inner, whole-piece, parts, long, shallow}
 use Rattle.writer_laws.proofs.Visits.{sum_from, sum_one, sum_mono, sum_above, visit_found, order_sum, blocks-count}
+use Rattle.std.specs.Prelude.{Ok}
 
 -- the scores of a piece of whole scores
 few_scores : (p i c all n m : ℕ) → all ≡ 20 * c → n ≡ min (20 * p) (all - 20 * p * i) → m ≤ n → 20 * p * i < all → (m / 20 ≤ p) × (p * i + m / 20 ≤ c)
@@ -45,16 +45,16 @@ few_scores p i c all n m ea en h lt = let q : 20 * p * i ≡ 20 * (p * i) = mul_
 module _ (log : Bytes) (e : Entry) (plain : e.directory ≡ false) where
   -- a leaf, and a pointer block with what is below it
   leaf_visited : (f nest left : ℕ) (s : Bytes) (r : Row) → held log 13 s ≡ some r → length r.bytes ≤ e.dsize → nest ≤ 16 → 0 < left
-      → visit_entry (suc f) log e 0 nest s left ≡ walked 1 Done
+      → visit_entry (suc f) log e 0 nest s left ≡ walked 1 (Ok tt)
   unfolding visit_entry type_at count_at
   leaf_visited f nest left s r h short n l =
       visit_found log nest left (type_at e 0) (count_at e 0) s _ r n l (ap (λ (d : Bool). held log (cond d 2 13) s) plain ∙ h) short
-      ∙ ap (λ (d : Bool). more (cond d (visit_directory f log nest r.bytes (left - 1)) (walked 0 Done))) plain
+      ∙ ap (λ (d : Bool). more (cond d (visit_directory f log nest r.bytes (left - 1)) (walked 0 (Ok tt)))) plain
 
   scores_visited : (f k nest left : ℕ) (s : Bytes) (r : Row) (g : ℕ → ℕ) → held log (2 + suc k) s ≡ some r → length r.bytes ≤ e.psize → length r.bytes % 20 ≡ 0
       → nest ≤ 16 → sum_from g (length r.bytes / 20) 0 + 1 ≤ left
-      → ((j : ℕ) → j < length r.bytes / 20 → (a : ℕ) → g j ≤ a → visit_entry f log e k nest (piece 20 j r.bytes) a ≡ walked (g j) Done)
-      → visit_entry (suc f) log e (suc k) nest s left ≡ walked (sum_from g (length r.bytes / 20) 0 + 1) Done
+      → ((j : ℕ) → j < length r.bytes / 20 → (a : ℕ) → g j ≤ a → visit_entry f log e k nest (piece 20 j r.bytes) a ≡ walked (g j) (Ok tt))
+      → visit_entry (suc f) log e (suc k) nest s left ≡ walked (sum_from g (length r.bytes / 20) 0 + 1) (Ok tt)
   unfolding visit_entry count_at
   scores_visited f k nest left s r g h short whole n l each =
       let above : eqb (suc k) 0 ≡ false = ne_eqb (suc k) 0 (λ z. omega arith) in
@@ -65,7 +65,7 @@ module _ (log : Bytes) (e : Entry) (plain : e.directory ≡ false) where
       visit_found log nest left (type_at e (suc k)) (count_at e (suc k)) s _ r n (omega arith) (ap (λ (t : ℕ). held log t s) (type_above e k) ∙ h) most
       ∙ ap more (rw (above, eq-eqb (length r.bytes % 20) 0 whole, low)
       (order_sum (λ x a. visit_entry f log e k nest x a) r.bytes g (left - 1) m 0 0 (λ j _ t a q. each j (omega arith) a q) (omega arith)
-      ∙ ap (λ (v : ℕ). walked v Done) z))
+      ∙ ap (λ (v : ℕ). walked v (Ok tt)) z))
 
 module _ (log slice : Bytes) (e : Entry) (plain : e.directory ≡ false) (dpos : 0 < e.dsize) (wide : 40 ≤ e.psize) where
   abbrev w : ℕ
@@ -122,7 +122,7 @@ module _ (log slice : Bytes) (e : Entry) (plain : e.directory ≡ false) (dpos :
   module _ (depth : ℕ) (few : depth ≤ 7) (H : HoldsAll log (leaves e.dsize slice))
       (U : (k : ℕ) → k < depth → HoldsAll log (level (2 + suc k) w (scores_at w bottom k))) where
     pub visits_are : (k : ℕ) → k ≤ depth → (i : ℕ) → i < blocks k → (f nest left : ℕ) → k < f → nest ≤ 16 → visits_at k i ≤ left
-        → visit_entry f log e k nest (piece 20 i (scores_at w bottom k)) left ≡ walked (visits_at k i) Done
+        → visit_entry f log e k nest (piece 20 i (scores_at w bottom k)) left ≡ walked (visits_at k i) (Ok tt)
     unfolding scores_at count visits_at
     visits_are zero h i lt zero nest left g n l = absurd (omega arith)
     visits_are zero h i lt (suc f) nest left g n l =
@@ -152,7 +152,7 @@ module _ (log slice : Bytes) (e : Entry) (plain : e.directory ≡ false) (dpos :
         let is : piece 20 j K.0.bytes ≡ piece 20 (p * i + j) S = ap (piece 20 j) K.2 ∙ c.0 ∙ piece-piece p (0 + i) j S r.0 ∙ ap (λ (x : ℕ). piece 20 (p * x + j) S) here in
         let lower : p * i + j < blocks k = subst (λ (x : ℕ). p * x + j < blocks k) here r.1 in
         ap (λ (x : Bytes). visit_entry f log e k nest x a) is ∙ visits_are k (omega arith) (p * i + j) lower f nest a (omega arith) n q)
-        ∙ ap (λ (v : ℕ). walked (v + 1) Done) spent
+        ∙ ap (λ (v : ℕ). walked (v + 1) (Ok tt)) spent
 
 -- ---- the entry
 
@@ -169,7 +169,7 @@ module _ (slice : Bytes) (dsize psize depth : ℕ) (lies : Lies (length slice) d
 
   -- it ends with v visits, whatever the bound on calls is that is above its depth
   EndsWith : ℕ → Bytes → Type 0
-  EndsWith v s = (f nest left : ℕ) → depth < f → nest ≤ 16 → v ≤ left → visit_entry f log E depth nest s left ≡ walked v Done
+  EndsWith v s = (f nest left : ℕ) → depth < f → nest ≤ 16 → v ≤ left → visit_entry f log E depth nest s left ≡ walked v (Ok tt)
 
   no_block : depth ≡ 0 → EndsWith 1 zero_score
   unfolding EndsWith
@@ -194,9 +194,9 @@ module _ (slice : Bytes) (dsize psize depth : ℕ) (lies : Lies (length slice) d
       omega (arith, all, one, is, file-length)
 
   ended : (v : ℕ) → piece 20 0 top ≡ take 20 top
-      → ((f nest left : ℕ) → depth < f → nest ≤ 16 → v ≤ left → visit_entry f log E depth nest (piece 20 0 top) left ≡ walked v Done) → EndsWith v (take 20 top)
+      → ((f nest left : ℕ) → depth < f → nest ≤ 16 → v ≤ left → visit_entry f log E depth nest (piece 20 0 top) left ≡ walked v (Ok tt)) → EndsWith v (take 20 top)
   unfolding EndsWith
-  ended v e at = subst (λ (s : Bytes). (f nest left : ℕ) → depth < f → nest ≤ 16 → v ≤ left → visit_entry f log E depth nest s left ≡ walked v Done) e at
+  ended v e at = subst (λ (s : Bytes). (f nest left : ℕ) → depth < f → nest ≤ 16 → v ≤ left → visit_entry f log E depth nest s left ≡ walked v (Ok tt)) e at
 
   visits-top : (v : ℕ) × (v ≤ max 1 (length (file_blocks slice dsize psize depth))) × EndsWith v (top_score slice dsize psize depth)
   unfolding top_score top_of
@@ -224,7 +224,7 @@ visits_ever slice dsize psize log d lies short H =
     let wf = well_formed_lem slice dsize psize d lies.dsize-from lies.dsize-to lies.psize-from lies.psize-to m.0 short m.1 in
     let T = visits-top slice dsize psize d lies short log H in
     let e = E slice dsize psize d lies short log H in
-    let ends : (calls nest left : ℕ) → left + left + 1 ≤ calls → nest ≤ 16 → T.0 ≤ left → visit_entry calls log e d nest (top_score slice dsize psize d) left ≡ walked T.0 Done =
+    let ends : (calls nest left : ℕ) → left + left + 1 ≤ calls → nest ≤ 16 → T.0 ≤ left → visit_entry calls log e d nest (top_score slice dsize psize d) left ≡ walked T.0 (Ok tt) =
     λ calls nest left enough n l. entry_enough calls (calls + suc d) log e d nest (top_score slice dsize psize d) left enough (omega arith) ∙ T.2 (calls + suc d) nest left (omega arith) n l in
     rw (is, sc, wf) (T.0, T.1, λ calls nest left enough n l. (ends calls nest left enough n l, ends calls nest left enough n l))
 

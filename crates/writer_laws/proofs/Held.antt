@@ -21,7 +21,7 @@ use Rattle.sector_log.specs.Parts.{Lent, beside, one_log, tape, room_for, append
 use Rattle.sector_log.specs.LookUp.{held, lent_allowed}
 use Rattle.sector_log.specs.Store.{AfterStore, after_store, receipt, new_row, parts_for, appended, compared, store}
 use Rattle.sector_log.specs.declared.Stored.{Stored}
-use Rattle.sector_log.specs.declared.Stored.TheVariants.{New, Duplicate, Refused as NotStored}
+use Rattle.sector_log.specs.declared.Stored.TheVariants.{New, Duplicate}
 use Rattle.sector_log.proofs.Written.{held-written, held-appended}
 use Rattle.sector_log.proofs.Allowed.{row-valid}
 use Rattle.demands.proofs.Seen.{held-zero, empty-score}
@@ -30,9 +30,8 @@ use Rattle.demands.proofs.LentLaws.{room-one, one-appended, extent-written, star
 use Rattle.demands.specs.Ledger.{Extent}
 use Rattle.writer.specs.Blocks.{Typed}
 use Rattle.writer.specs.WriteFile.{end_of, AfterAll, after_all, onward, store_all}
-use Rattle.writer.specs.declared.End.{End}
-use Rattle.writer.specs.declared.End.TheVariants.{Done, Refused}
 use Rattle.writer_laws.specs.Held.{Holds, Writable, EndedAt, StaysIn, Stays}
+use Rattle.std.specs.Prelude.{Ok, Err, Result, ⊤}
 
 -- what one store leaves
 pub record Kept (log w : Bytes) (x : Typed) (a : AfterStore) : Type 0 where
@@ -40,43 +39,43 @@ pub record Kept (log w : Bytes) (x : Typed) (a : AfterStore) : Type 0 where
   pub lent : a.lent ≡ beside log part
   pub long : length part ≡ length w
   pub keeps : (t : ℕ) (s : Bytes) (r : Row) → held (tape log w) t s ≡ some r → held (tape log part) t s ≡ some r
-  pub holds : end_of a.receipt.stored ≡ Done → Holds (tape log part) x
-  pub stays : (y : Refusal) → end_of a.receipt.stored ≡ Refused y → a.lent ≡ beside log w
+  pub holds : end_of a.receipt.stored ≡ Ok tt → Holds (tape log part) x
+  pub stays : (y : Refusal) → end_of a.receipt.stored ≡ Err y → a.lent ≡ beside log w
 
 -- the refusal of a call that ended with one
-abbrev pub why-ended : End → Refusal
-why-ended Done = NoRoom
-why-ended (Refused y) = y
+abbrev pub why-ended : Result ⊤ Refusal → Refusal
+why-ended (Ok tt) = NoRoom
+why-ended (Err y) = y
 
-not-stored : (s : Stored) (y : Refusal) → end_of s ≡ Refused y → s ≡ NotStored y
-not-stored (New at) y e = let z : ◌≡◌ {A = ℕ} 0 1 = cc in absurd (omega arith)
-not-stored (Duplicate at) y e = let z : ◌≡◌ {A = ℕ} 0 1 = cc in absurd (omega arith)
-not-stored (NotStored v) y e = ap NotStored (ap why-ended e)
+not-stored : (s : Result Stored Refusal) (y : Refusal) → end_of s ≡ Err y → s ≡ Err y
+not-stored (Ok (New at)) y e = let z : ◌≡◌ {A = ℕ} 0 1 = cc in absurd (omega arith)
+not-stored (Ok (Duplicate at)) y e = let z : ◌≡◌ {A = ℕ} 0 1 = cc in absurd (omega arith)
+not-stored (Err v) y e = ap Err (ap why-ended e)
 
 -- on any log a store is refused with 14 or 15
-pub store_refuses : (L : Lent) (date : Bytes) (t : ℕ) (d : Bytes) (y : Refusal) → end_of (store L date t d).receipt.stored ≡ Refused y → (y ≡ NoRoom) ⊎ (y ≡ Clash)
+pub store_refuses : (L : Lent) (date : Bytes) (t : ℕ) (d : Bytes) (y : Refusal) → end_of (store L date t d).receipt.stored ≡ Err y → (y ≡ NoRoom) ⊎ (y ≡ Clash)
 unfolding store
 store_refuses L date t d y e = go (held (one_log L) t (sha1_of d)) e
   where
     room : (b : Bool)
-        → end_of (cond b (after_store (receipt (sha1_of d) (New (record { 0 = used (one_log L) }))) (append_row L (new_row L date t d)))
-        (after_store (receipt (sha1_of d) (NotStored NoRoom)) L)).receipt.stored
-        ≡ Refused y → (y ≡ NoRoom) ⊎ (y ≡ Clash)
+        → end_of (cond b (after_store (receipt (sha1_of d) (Ok (New (record { 0 = used (one_log L) })))) (append_row L (new_row L date t d)))
+        (after_store (receipt (sha1_of d) (Err NoRoom)) L)).receipt.stored
+        ≡ Err y → (y ≡ NoRoom) ⊎ (y ≡ Clash)
     room true q = let z : ◌≡◌ {A = ℕ} 0 1 = cc in absurd (omega arith)
     room false q = inl (sym (ap why-ended q))
 
     alike : (b : Bool) (n : ℕ)
-        → end_of (cond b (after_store (receipt (sha1_of d) (Duplicate (record { 0 = n }))) L) (after_store (receipt (sha1_of d) (NotStored Clash)) L)).receipt.stored ≡ Refused y
+        → end_of (cond b (after_store (receipt (sha1_of d) (Ok (Duplicate (record { 0 = n })))) L) (after_store (receipt (sha1_of d) (Err Clash)) L)).receipt.stored ≡ Err y
         → (y ≡ NoRoom) ⊎ (y ≡ Clash)
     alike true n q = let z : ◌≡◌ {A = ℕ} 0 1 = cc in absurd (omega arith)
     alike false n q = inr (sym (ap why-ended q))
 
-    go : (o : Option Row) → end_of (on o (appended L date t d) (λ (r : Row). compared L r.bytes r.first d)).receipt.stored ≡ Refused y → (y ≡ NoRoom) ⊎ (y ≡ Clash)
+    go : (o : Option Row) → end_of (on o (appended L date t d) (λ (r : Row). compared L r.bytes r.first d)).receipt.stored ≡ Err y → (y ≡ NoRoom) ⊎ (y ≡ Clash)
     go none q = room (room_for L (parts_for date d)) q
     go (some r) q = alike (same r.bytes d) r.first q
 
 -- a call that was done left no block out
-pub none_left : (a : AfterAll) (date : Bytes) (rest : List Typed) → EndedAt a date rest → a.end ≡ Done → rest ≡ []
+pub none_left : (a : AfterAll) (date : Bytes) (rest : List Typed) → EndedAt a date rest → a.end ≡ Ok tt → rest ≡ []
 none_left a date [] E e = refl
 none_left a date (x ∷ xs) E e = let c = sym E.1 ∙ e in let z : ◌≡◌ {A = ℕ} 0 1 = cc in absurd (omega arith)
 
@@ -93,7 +92,7 @@ module _ (log w date : Bytes) (x : Typed) (allowed : lent_allowed (length log) (
   abbrev L : Lent
   L = beside log w
 
-  refused-keeps : (y : Refusal) → Kept log w x (after_store (receipt (sha1_of d) (NotStored y)) L)
+  refused-keeps : (y : Refusal) → Kept log w x (after_store (receipt (sha1_of d) (Err y)) L)
   refused-keeps y = record {
     part = w;
     lent = refl;
@@ -107,7 +106,7 @@ module _ (log w date : Bytes) (x : Typed) (allowed : lent_allowed (length log) (
   unchanged r h = go (same r.bytes d) refl
     where
       go : (b : Bool) → same r.bytes d ≡ b
-          → Kept log w x (cond b (after_store (receipt (sha1_of d) (Duplicate (record { 0 = r.first }))) L) (after_store (receipt (sha1_of d) (NotStored Clash)) L))
+          → Kept log w x (cond b (after_store (receipt (sha1_of d) (Ok (Duplicate (record { 0 = r.first })))) L) (after_store (receipt (sha1_of d) (Err Clash)) L))
       go true q = record { part = w; lent = refl; long = refl; keeps = λ t s y e. e; holds = λ _. (r, h, same_true r.bytes d q); stays = λ _ _. refl }
       go false q = refused-keeps Clash
 
@@ -119,8 +118,8 @@ module _ (log w date : Bytes) (x : Typed) (allowed : lent_allowed (length log) (
       row = new_row L date x.kind d
 
       go : (b : Bool) → room_for L (parts_for date d) ≡ b
-          → Kept log w x (cond b (after_store (receipt (sha1_of d) (New (record { 0 = used (one_log L) }))) (append_row L (new_row L date x.kind d)))
-          (after_store (receipt (sha1_of d) (NotStored NoRoom)) L))
+          → Kept log w x (cond b (after_store (receipt (sha1_of d) (Ok (New (record { 0 = used (one_log L) })))) (append_row L (new_row L date x.kind d)))
+          (after_store (receipt (sha1_of d) (Err NoRoom)) L))
       go true q =
           let room = room-one log (some w) (parts_for date d) q in
           let v : valid (new_row L date x.kind d) ≡ true =
@@ -159,9 +158,9 @@ stays log w date (x ∷ xs) al da A =
     K : Kept log w x (store (beside log w) date x.kind x.bytes)
     K = one_kept log w date x al da A.0
 
-    go : (e : End) (M : Lent) → end_of (store (beside log w) date x.kind x.bytes).receipt.stored ≡ e → (store (beside log w) date x.kind x.bytes).lent ≡ M
+    go : (e : Result ⊤ Refusal) (M : Lent) → end_of (store (beside log w) date x.kind x.bytes).receipt.stored ≡ e → (store (beside log w) date x.kind x.bytes).lent ≡ M
         → StaysIn log K.part date xs (store_all (beside log K.part) date xs) → StaysIn log w date (x ∷ xs) (onward e M (store_all M date xs))
-    go Done M p q (w', before, rest, lent, long, split, stored, holds, keeps, ended) =
+    go (Ok tt) M p q (w', before, rest, lent, long, split, stored, holds, keeps, ended) =
         let m : M ≡ beside log K.part = sym q ∙ K.lent in
         let there : store_all M date xs ≡ store_all (beside log K.part) date xs = ap (λ (y : Lent). store_all y date xs) m in
         let h = K.holds p in (
@@ -171,13 +170,13 @@ stays log w date (x ∷ xs) al da A =
           ap (λ (b : AfterAll). b.lent) there ∙ lent,
           long ∙ K.long,
           ap (λ (ys : List Typed). x ∷ ys) split,
-          ap₂ (λ (y : End) (z : Lent). onward y z (store_all z date before)) p K.lent ∙ stored ∙ ap (λ (b : AfterAll). after_all Done b.lent) (sym there),
+          ap₂ (λ (y : Result ⊤ Refusal) (z : Lent). onward y z (store_all z date before)) p K.lent ∙ stored ∙ ap (λ (b : AfterAll). after_all (Ok tt) b.lent) (sym there),
           ((h.0, keeps x.kind (sha1_of x.bytes) h.0 h.1, h.2), holds),
           λ t s r e. keeps t s r (K.keeps t s r e),
           subst (λ (b : AfterAll). EndedAt b date rest) (sym there) ended,
         )
-    go (Refused y) M p q R =
+    go (Err y) M p q R =
         let m : M ≡ beside log w = sym q ∙ K.stays y p in
-        let again : (store M date x.kind x.bytes).receipt.stored ≡ NotStored y =
+        let again : (store M date x.kind x.bytes).receipt.stored ≡ Err y =
         ap (λ (l : Lent). (store l date x.kind x.bytes).receipt.stored) m ∙ not-stored (store (beside log w) date x.kind x.bytes).receipt.stored y p in
-        (w, [], x ∷ xs, m, refl, refl, ap (after_all Done) (sym m), tt, λ t s r e. e, (y, refl, again, store_refuses (beside log w) date x.kind x.bytes y p))
+        (w, [], x ∷ xs, m, refl, refl, ap (after_all (Ok tt)) (sym m), tt, λ t s r e. e, (y, refl, again, store_refuses (beside log w) date x.kind x.bytes y p))

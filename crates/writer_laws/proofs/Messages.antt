@@ -10,14 +10,14 @@ use lib.Seq.{take_at}
 use borrow.Author.Tests.{le-leb, eq-eqb, le-ltb, lt-ltb}
 use Rattle.buffer.specs.Bytes.{Bytes}
 use Rattle.buffer.proofs.Bytes.{small-append}
-use Rattle.word.specs.Number.{small, digits, value_from, be_number}
-use Rattle.word.proofs.NumberLaws.{length_digits, value-digits, below-digits}
+use Rattle.digits.specs.Number.{small, digits, value_from, be_number}
+use Rattle.digits.proofs.NumberLaws.{length_digits, value-digits, below-digits}
 use Rattle.kind.proofs.Types.{lawful_lt}
 use Rattle.sector.specs.Sector.{is_date}
 use Rattle.sector_log.specs.Parts.{Lent}
 use Rattle.sector_log.specs.Store.{AfterStore, after_store, receipt, store}
 use Rattle.sector_log.specs.declared.Stored.{Stored}
-use Rattle.sector_log.specs.declared.Stored.TheVariants.{New, Duplicate, Refused as NotStored}
+use Rattle.sector_log.specs.declared.Stored.TheVariants.{New, Duplicate}
 use Rattle.utf8.specs.Grammar.{follows}
 use Rattle.field.specs.Field.{text_end, counted_end, bytes_end}
 use Rattle.message.specs.Message.{framed, exactly, write_of, request_of, tag_of, data_of}
@@ -34,6 +34,8 @@ use Rattle.writer.specs.Blocks.{Typed}
 use Rattle.writer.specs.WriteFile.{end_of, end_number}
 use Rattle.writer_laws.specs.Held.{Writable}
 use Rattle.writer_laws.specs.Asking.{hello_message, write_message}
+use Rattle.std.specs.Prelude.{Ok, Err, Result}
+use Rattle.refusal.specs.declared.Refusal.{Refusal}
 
 -- ---- the message of a block that may be written
 
@@ -80,10 +82,10 @@ pub record OneWrite (o : steps.Outcome) (a : AfterStore) : Type 0 where
 kept-is : (m buffer : Bytes) (a : AfterStore) → OneWrite (kept m buffer a) a
 kept-is m buffer a = go a.receipt.stored
   where
-    go : (s : Stored) → OneWrite (steps.written s (tag_of m) a.receipt.score a.lent buffer) (after_store (receipt a.receipt.score s) a.lent)
-    go (New at) = record { lent = refl; number = refl; session = refl }
-    go (Duplicate at) = record { lent = refl; number = refl; session = refl }
-    go (NotStored y) = record { lent = refl; number = refl; session = refl }
+    go : (s : Result Stored Refusal) → OneWrite (steps.written s (tag_of m) a.receipt.score a.lent buffer) (after_store (receipt a.receipt.score s) a.lent)
+    go (Ok (New at)) = record { lent = refl; number = refl; session = refl }
+    go (Ok (Duplicate at)) = record { lent = refl; number = refl; session = refl }
+    go (Err y) = record { lent = refl; number = refl; session = refl }
 
 module _ (L : Lent) (date buffer : Bytes) (al : steps.allowed L ≡ true) (dated : is_date date ≡ true) (room : steps.reply_room ≤ length buffer) where
   pub greets : steps.step Fresh hello_message (some date) L buffer ≡ steps.granted (hello_reply 0) Greeted L buffer

@@ -13,7 +13,7 @@ use borrow.Author.Tests.{le-leb, le-ltb, ne_eqb, eq-eqb}
 use Rattle.bedrock.specs.Choice.{on}
 use Rattle.bedrock.proofs.Choices.{some_same}
 use Rattle.buffer.specs.Bytes.{Bytes}
-use Rattle.word.specs.Number.{small}
+use Rattle.digits.specs.Number.{small}
 use Rattle.refusal.specs.declared.Refusal.TheVariants.{Offset}
 use Rattle.kind.specs.Kind.{longest, zero_score}
 use Rattle.kind.proofs.ZeroScore.{length-zero-score}
@@ -27,7 +27,6 @@ use Rattle.tree.specs.Tree.{piece}
 use Rattle.leaf.specs.Leaf.{under}
 use Rattle.file.specs.File.{page_allowed, entry_readable, located}
 use Rattle.file.proofs.Tests.{goes_down}
-use Rattle.fill.specs.declared.Stop.TheVariants as fill
 use Rattle.fill.specs.Fill.{FillOutcome, fill_outcome, fill_in, fill_of}
 use Rattle.file_laws.specs.Path.{Answers}
 use Rattle.file_laws.specs.Bytes.{byte_under, file_byte, laid}
@@ -42,14 +41,14 @@ use Rattle.promises.proofs.Keeps.{list_keeps}
 use Rattle.trees.specs.Again.{waiting_of}
 use Rattle.writer.specs.Blocks.{Typed, leaves, scores_of, scores_at, pointer_blocks, width_of, file_blocks, top_of, top_score}
 use Rattle.writer.specs.WriteFile.{WriteOutcome, store_all, entry_after, entry_over, write_file}
-use Rattle.writer.specs.declared.End.{End}
-use Rattle.writer.specs.declared.End.TheVariants.{Done}
 use Rattle.writer.proofs.Depth.{depth_lies, least-found}
 use Rattle.writer_laws.specs.Held.{HoldsAll}
 use Rattle.writer_laws.specs.ReadBack.{Reads, ReadsBack, ReadsBackLater}
 use Rattle.writer_laws.proofs.Held.{none_left, stays}
 use Rattle.writer_laws.proofs.Back.{count, length_at, read_at_lem}
 use Rattle.writer_laws.proofs.Written.{writable_file, holds_both, holds_level, Passed, passed}
+use Rattle.std.specs.Prelude.{Ok, Err, Result, ⊤}
+use Rattle.refusal.specs.declared.Refusal.{Refusal}
 
 -- the entry that is handed back, and what is read of it
 module _ (slice : Bytes) (dsize psize depth : ℕ) (d-from : 1 ≤ dsize) (d-to : dsize ≤ longest) (p-from : 40 ≤ psize) (p-to : psize ≤ longest)
@@ -155,7 +154,7 @@ module _ (slice : Bytes) (dsize psize depth : ℕ) (d-from : 1 ≤ dsize) (d-to 
       abbrev n : ℕ
       n = min (length d) (length slice - o)
 
-      fill_is : o < length slice → r ≡ fill_outcome (record { count = n; stop = fill.Done }) (take n (drop o slice) ++ drop n d)
+      fill_is : o < length slice → r ≡ fill_outcome (record { count = n; stop = (Ok tt) }) (take n (drop o slice) ++ drop n d)
       fill_is inside =
           let F = fill_from log w page made o d (omega (arith, size_is)) (λ x _ h. every x h) in
           let G = fill_files log w made o d in
@@ -171,7 +170,7 @@ module _ (slice : Bytes) (dsize psize depth : ℕ) (d-from : 1 ≤ dsize) (d-to 
           let all : r.buffer ≡ take n (drop o slice) ++ drop n d = sym (take-append-drop n r.buffer) ∙ ap₂ ◌++◌ front rest in
           λ i. record { filled = record { count = counted i; stop = F.1 i }; buffer = all i }
 
-      fill_past : length slice ≤ o → r ≡ fill_outcome (record { count = 0; stop = fill.Refused Offset }) d
+      fill_past : length slice ≤ o → r ≡ fill_outcome (record { count = 0; stop = Err Offset }) d
       unfolding fill_in
       fill_past h = rw (allowed, readable, le-ltb o (entry_of made).size (omega (arith, size_is))) refl
 
@@ -202,7 +201,7 @@ pub record Done-with (log w date slice : Bytes) (dsize psize : ℕ) (entry score
   pub handed : (write_file log w date slice dsize psize entry scores).entry ≡ entry_over slice dsize psize tests.depth
   pub holds : HoldsAll (tape log part) (file_blocks slice dsize psize tests.depth)
 
-module _ (log w date slice : Bytes) (dsize psize : ℕ) (entry scores : Bytes) (sm : small slice ≡ true) (done : (write_file log w date slice dsize psize entry scores).end ≡ Done) where
+module _ (log w date slice : Bytes) (dsize psize : ℕ) (entry scores : Bytes) (sm : small slice ≡ true) (done : (write_file log w date slice dsize psize entry scores).end ≡ Ok tt) where
   abbrev T : Passed log w date slice dsize psize entry scores
   T = passed log w date slice dsize psize entry scores done
 
@@ -213,7 +212,7 @@ module _ (log w date slice : Bytes) (dsize psize : ℕ) (entry scores : Bytes) (
       let few = (least-found (length slice) dsize (psize / 20) d lies.least).0 in
       let xs = file_blocks slice dsize psize d in
       let S = stays log w date xs T.lent T.dated (writable_file slice dsize psize d lies.dsize-to lies.psize-from lies.psize-to few sm) in
-      let ended : (store_all (beside log w) date xs).end ≡ Done = sym (ap (λ (o : WriteOutcome). o.end) T.written_so) ∙ done in
+      let ended : (store_all (beside log w) date xs).end ≡ Ok tt = sym (ap (λ (o : WriteOutcome). o.end) T.written_so) ∙ done in
       let before = S.1 in
       let all : xs ≡ before = all-before xs before S.2 S.5 (none_left (store_all (beside log w) date xs) date S.2 S.9 ended) in
       record {
@@ -221,7 +220,7 @@ module _ (log w date slice : Bytes) (dsize psize : ℕ) (entry scores : Bytes) (
         part = S.0;
         lent = ap (λ (o : WriteOutcome). o.lent) T.written_so ∙ S.3;
         long = S.4;
-        handed = ap (λ (o : WriteOutcome). o.entry) T.written_so ∙ ap (λ (e : End). entry_after e entry (entry_over slice dsize psize d)) ended;
+        handed = ap (λ (o : WriteOutcome). o.entry) T.written_so ∙ ap (λ (e : Result ⊤ Refusal). entry_after e entry (entry_over slice dsize psize d)) ended;
         holds = subst (HoldsAll (tape log S.0)) (sym all) S.7;
       }
 

@@ -8,7 +8,7 @@ use native.Mathlib.Omega.{arith}
 use lib.ListN.{length}
 use Rattle.bedrock.specs.Choice.{on}
 use Rattle.buffer.specs.Bytes.{Bytes}
-use Rattle.word.specs.Number.{small}
+use Rattle.digits.specs.Number.{small}
 use Rattle.kind.specs.Kind.{longest}
 use Rattle.sector_log.specs.Parts.{Lent, beside, tape}
 use Rattle.request.specs.declared.Session.{Session}
@@ -19,11 +19,11 @@ use Rattle.promises.specs.Histories.{Keeps, afterwards}
 use Rattle.promises.proofs.Keeps.{list_keeps}
 use Rattle.writer.specs.Blocks.{file_blocks}
 use Rattle.writer.specs.WriteFile.{WriteOutcome, entry_over, write_file}
-use Rattle.writer.specs.declared.End.TheVariants.{Done}
 use Rattle.writer.proofs.Depth.{Lies, depth_lies}
 use Rattle.writer_laws.specs.Held.{HoldsAll}
 use Rattle.writer_laws.specs.Walk.{both}
 use Rattle.writer_laws.proofs.ReadBack.{Done-with, done_with, holds_later}
+use Rattle.std.specs.Prelude.{Ok}
 
 -- what is so of the entry over a file in every log that holds its blocks
 unfoldable pub Ever : Bytes → ℕ → ℕ → (Bytes → Bytes → Type 0) → Type 0
@@ -31,7 +31,7 @@ Ever slice dsize psize P = (log : Bytes) (depth : ℕ) → Lies (length slice) d
     → P log (entry_over slice dsize psize depth)
 
 module _ (P : Bytes → Bytes → Type 0) (log w date slice : Bytes) (dsize psize : ℕ) (entry scores : Bytes) (ever : Ever slice dsize psize P) (sm : small slice ≡ true)
-    (done : (write_file log w date slice dsize psize entry scores).end ≡ Done) where
+    (done : (write_file log w date slice dsize psize entry scores).end ≡ Ok tt) where
   abbrev o : WriteOutcome
   o = write_file log w date slice dsize psize entry scores
 

@@ -20,25 +20,24 @@ use Rattle.sector_log.specs.Store.{store}
 use Rattle.writer.specs.Blocks.{Typed, file_blocks}
 use Rattle.writer.specs.Depth.{depth_of}
 use Rattle.writer.specs.WriteFile.{end_of, WriteOutcome, onward, store_all, outcome, wrote, buffers_allowed, write_file}
-use Rattle.writer.specs.declared.End.{End}
-use Rattle.writer.specs.declared.End.TheVariants.{Done, Refused}
 use Rattle.writer_laws.specs.Asking.{RefusedWritesNothing}
 use Rattle.writer_laws.proofs.Held.{why-ended, store_refuses}
+use Rattle.std.specs.Prelude.{Ok, Err, Result, ⊤}
 
 -- blocks stored one after the other are refused with 14 or 15
-all_refuse : (L : Lent) (date : Bytes) (xs : List Typed) (y : Refusal) → (store_all L date xs).end ≡ Refused y → (y ≡ why.NoRoom) ⊎ (y ≡ why.Clash)
+all_refuse : (L : Lent) (date : Bytes) (xs : List Typed) (y : Refusal) → (store_all L date xs).end ≡ Err y → (y ≡ why.NoRoom) ⊎ (y ≡ why.Clash)
 unfolding store_all
 all_refuse L date [] y e = let z : ◌≡◌ {A = ℕ} 0 1 = cc in absurd (omega arith)
 all_refuse L date (x ∷ xs) y e =
     let a = store L date x.kind x.bytes in
     go (end_of a.receipt.stored) refl e (all_refuse a.lent date xs y)
   where
-    go : (s : End) → end_of (store L date x.kind x.bytes).receipt.stored ≡ s
-        → (onward s (store L date x.kind x.bytes).lent (store_all (store L date x.kind x.bytes).lent date xs)).end ≡ Refused y
-        → ((store_all (store L date x.kind x.bytes).lent date xs).end ≡ Refused y → (y ≡ why.NoRoom) ⊎ (y ≡ why.Clash))
+    go : (s : Result ⊤ Refusal) → end_of (store L date x.kind x.bytes).receipt.stored ≡ s
+        → (onward s (store L date x.kind x.bytes).lent (store_all (store L date x.kind x.bytes).lent date xs)).end ≡ Err y
+        → ((store_all (store L date x.kind x.bytes).lent date xs).end ≡ Err y → (y ≡ why.NoRoom) ⊎ (y ≡ why.Clash))
         → (y ≡ why.NoRoom) ⊎ (y ≡ why.Clash)
-    go Done q f rest = rest f
-    go (Refused v) q f rest = store_refuses L date x.kind x.bytes y (q ∙ f)
+    go (Ok tt) q f rest = rest f
+    go (Err v) q f rest = store_refuses L date x.kind x.bytes y (q ∙ f)
 
 pub refused-writes-nothing : RefusedWritesNothing
 unfolding write_file
@@ -49,17 +48,17 @@ refused-writes-nothing log w date slice dsize psize entry scores y e room clash 
     (test (ltb longest (length slice)) why.DataLength _
     (deep (depth_of (length slice) dsize psize))))) e
   where
-    test : (b : Bool) (v : Refusal) (x : WriteOutcome) → (x.end ≡ Refused y → x ≡ outcome (Refused y) (beside log w) entry scores)
-        → (cond b (outcome (Refused v) (beside log w) entry scores) x).end ≡ Refused y
-        → cond b (outcome (Refused v) (beside log w) entry scores) x ≡ outcome (Refused y) (beside log w) entry scores
-    test true v x f q = ap (λ (u : Refusal). outcome (Refused u) (beside log w) entry scores) (ap why-ended q)
+    test : (b : Bool) (v : Refusal) (x : WriteOutcome) → (x.end ≡ Err y → x ≡ outcome (Err y) (beside log w) entry scores)
+        → (cond b (outcome (Err v) (beside log w) entry scores) x).end ≡ Err y
+        → cond b (outcome (Err v) (beside log w) entry scores) x ≡ outcome (Err y) (beside log w) entry scores
+    test true v x f q = ap (λ (u : Refusal). outcome (Err u) (beside log w) entry scores) (ap why-ended q)
     test false v x f q = f q
 
     neither : (y ≡ why.NoRoom) ⊎ (y ≡ why.Clash) → ⊥
     neither (inl q) = room q
     neither (inr q) = clash q
 
-    deep : (o : Option ℕ) → (on o (outcome (Refused why.Entry) (beside log w) entry scores) (wrote log w date slice dsize psize entry scores)).end ≡ Refused y
-        → on o (outcome (Refused why.Entry) (beside log w) entry scores) (wrote log w date slice dsize psize entry scores) ≡ outcome (Refused y) (beside log w) entry scores
-    deep none q = ap (λ (u : Refusal). outcome (Refused u) (beside log w) entry scores) (ap why-ended q)
+    deep : (o : Option ℕ) → (on o (outcome (Err why.Entry) (beside log w) entry scores) (wrote log w date slice dsize psize entry scores)).end ≡ Err y
+        → on o (outcome (Err why.Entry) (beside log w) entry scores) (wrote log w date slice dsize psize entry scores) ≡ outcome (Err y) (beside log w) entry scores
+    deep none q = ap (λ (u : Refusal). outcome (Err u) (beside log w) entry scores) (ap why-ended q)
     deep (some d) q = absurd (neither (all_refuse (beside log w) date (file_blocks slice dsize psize d) y q))

@@ -13,21 +13,21 @@ use Rattle.block.specs.Block.{Row}
 use Rattle.sector_log.specs.LookUp.{held}
 use Rattle.entry.specs.declared.Entry.{Entry}
 use Rattle.tree.specs.Tree.{piece, type_at, count_at}
-use Rattle.visit.specs.declared.End.TheVariants.{Done, Refused}
 use Rattle.visit.specs.Visit.{walked}
 use Rattle.descent.specs.Descent.{in_order, visit_entry}
 use Rattle.walk_laws.proofs.Found.{not_done, seen, order-done, type_above, level-below, else_done}
 use Rattle.writer_laws.specs.Walk.{first, below, ComesToVisits}
 use Rattle.bedrock.proofs.Choices.{some_same}
+use Rattle.std.specs.Prelude.{Ok, Err}
 
 module _ (log : Bytes) (e : Entry) (nest : ℕ) where
   -- a visit that ends, with calls enough and no more left than this
   abbrev Ends : ℕ → ℕ → Bytes → Type 0
-  Ends left k s = (c a : ℕ) × (a + a + 1 ≤ c) × (a ≤ left) × ((visit_entry c log e k nest s a).end ≡ Done)
+  Ends left k s = (c a : ℕ) × (a + a + 1 ≤ c) × (a ≤ left) × ((visit_entry c log e k nest s a).end ≡ Ok tt)
 
   -- below a pointer block whose scores were visited in order
   each_ends : (f k left a : ℕ) (b : Bytes) → a + a + 1 ≤ f → a ≤ left → (t : Bool)
-      → (cond t (in_order (λ x n. visit_entry f log e (suc k - 1) nest x n) 20 b a (length b / 20) 0 0) (walked 0 (Refused Pointers))).end ≡ Done
+      → (cond t (in_order (λ x n. visit_entry f log e (suc k - 1) nest x n) 20 b a (length b / 20) 0 0) (walked 0 (Err Pointers))).end ≡ Ok tt
       → (i : ℕ) → i < length b / 20 → Ends left k (piece 20 i b)
   each_ends f k left a b enough le true d i h =
       order-done (λ x n. visit_entry f log e (suc k - 1) nest x n) 20 b a (λ j. Ends left k (piece 20 j b))
@@ -37,7 +37,7 @@ module _ (log : Bytes) (e : Entry) (nest : ℕ) where
 
   -- a pointer block
   ends_below : (k left : ℕ) (s : Bytes) (r : Row) → held log (2 + suc k) s ≡ some r → (c a : ℕ) → a + a + 1 ≤ c → a ≤ left
-      → (visit_entry c log e (suc k) nest s a).end ≡ Done → (i : ℕ) → i < length r.bytes / 20 → Ends left k (piece 20 i r.bytes)
+      → (visit_entry c log e (suc k) nest s a).end ≡ Ok tt → (i : ℕ) → i < length r.bytes / 20 → Ends left k (piece 20 i r.bytes)
   unfolding visit_entry
   ends_below k left s r h zero a enough le d = absurd (omega arith)
   ends_below k left s r h (suc f) a enough le d =

@@ -10,12 +10,12 @@ use Rattle.buffer.specs.Bytes.{Bytes}
 use Rattle.block.specs.Block.{Row}
 use Rattle.sector_log.specs.LookUp.{held}
 use Rattle.visit.specs.declared.Walked.{Walked}
-use Rattle.visit.specs.declared.End.{End}
-use Rattle.visit.specs.declared.End.TheVariants.{Done}
 use Rattle.visit.specs.Visit.{walked, more, visiting}
 use Rattle.tree.specs.Tree.{piece}
 use Rattle.descent.specs.Descent.{and_then, in_order}
 use Rattle.writer.specs.Blocks.{blocks_from}
+use Rattle.std.specs.Prelude.{Ok, Result, ⊤}
+use Rattle.refusal.specs.declared.Refusal.{Refusal}
 
 -- ---- sums
 
@@ -95,16 +95,16 @@ unfolding visiting
 visit_found log nest left kind count score next r n l h c = rw (le-ltb 16 nest n, ne_eqb left 0 (λ z. omega arith), h, le-ltb count (length r.bytes) c) refl
 
 pub order_sum : (go : Bytes → ℕ → Walked) (b : Bytes) (f : ℕ → ℕ) (left k i n : ℕ)
-    → ((j : ℕ) → i ≤ j → j < i + k → (a : ℕ) → f j ≤ a → go (piece 20 j b) a ≡ walked (f j) Done)
-    → n + sum_from f k i ≤ left → in_order go 20 b left k i n ≡ walked (n + sum_from f k i) Done
+    → ((j : ℕ) → i ≤ j → j < i + k → (a : ℕ) → f j ≤ a → go (piece 20 j b) a ≡ walked (f j) (Ok tt))
+    → n + sum_from f k i ≤ left → in_order go 20 b left k i n ≡ walked (n + sum_from f k i) (Ok tt)
 unfolding in_order sum_from
-order_sum go b f left zero i n h l = let e : n ≡ n + 0 = omega arith in ap (λ (v : ℕ). walked v Done) e
+order_sum go b f left zero i n h l = let e : n ≡ n + 0 = omega arith in ap (λ (v : ℕ). walked v (Ok tt)) e
 order_sum go b f left (suc k) i n h l =
     let here = h i (omega arith) (omega arith) (left - n) (omega arith) in
     let rest = order_sum go b f left k (suc i) (n + f i) (λ j g t a q. h j (omega arith) (omega arith) a q) (omega arith) in
     let e : n + f i + sum_from f k (suc i) ≡ n + (f i + sum_from f k (suc i)) = omega arith in
-    ap₂ (λ (x : End) (v : ℕ). and_then x (n + v) (λ m. in_order go 20 b left k (suc i) m)) (ap (λ (y : Walked). y.end) here) (ap (λ (y : Walked). y.visits) here)
-    ∙ rest ∙ ap (λ (v : ℕ). walked v Done) e
+    ap₂ (λ (x : Result ⊤ Refusal) (v : ℕ). and_then x (n + v) (λ m. in_order go 20 b left k (suc i) m)) (ap (λ (y : Walked). y.end) here) (ap (λ (y : Walked). y.visits) here)
+    ∙ rest ∙ ap (λ (v : ℕ). walked v (Ok tt)) e
 
 pub blocks-count : (kind w : ℕ) (b : Bytes) (k i : ℕ) → length (blocks_from kind w b k i) ≡ k
 unfolding blocks_from

@@ -9,7 +9,7 @@ use lib.ListN.{length}
 use Rattle.bedrock.specs.Choice.{on}
 use Rattle.buffer.specs.Bytes.{Bytes, same}
 use Rattle.buffer.proofs.Bytes.{same_refl}
-use Rattle.word.specs.Number.{small}
+use Rattle.digits.specs.Number.{small}
 use Rattle.kind.specs.Kind.{longest}
 use Rattle.sector.specs.Sector.{is_date}
 use Rattle.block.specs.Block.{parts_of}
@@ -24,13 +24,13 @@ use Rattle.trees.specs.Again.{waiting_of}
 use Rattle.writer.specs.Blocks.{Typed, file_blocks}
 use Rattle.writer.specs.Depth.{depth_of}
 use Rattle.writer.specs.WriteFile.{AfterAll, after_all, store_all, WriteOutcome, outcome, entry_after, cleared_to, entry_over, write_file}
-use Rattle.writer.specs.declared.End.TheVariants.{Done}
 use Rattle.writer.proofs.Depth.{depth_lies, least-found}
 use Rattle.writer.proofs.Tested.{tests_passed}
 use Rattle.writer_laws.specs.Held.{HoldsAll, AllWritable, StaysIn, FileStays, WritesOn, FileWritesOn}
 use Rattle.writer_laws.proofs.Held.{none_left, stays}
 use Rattle.writer_laws.proofs.Written.{writable_file}
 use Rattle.writer_laws.proofs.ReadBack.{all-before, holds_later}
+use Rattle.std.specs.Prelude.{Ok}
 
 -- the blocks of a file of an allowed depth may be written
 writable_deep : (slice : Bytes) (dsize psize depth : ℕ) → small slice ≡ true → depth_of (length slice) dsize psize ≡ some depth → AllWritable (file_blocks slice dsize psize depth)
@@ -60,7 +60,7 @@ writable_front (x ∷ xs) ys A = (A.0, writable_front xs ys A.1)
 
 -- blocks that were all stored are held, also when they are settled
 holds_settled : (log w date : Bytes) (xs : List Typed) (L : Lent) → lent_allowed (length log) (length w) ≡ true → is_date date ≡ true → AllWritable xs
-    → store_all (beside log w) date xs ≡ after_all Done L → can_settle L ≡ true → HoldsAll (one_log (settled L)) xs
+    → store_all (beside log w) date xs ≡ after_all (Ok tt) L → can_settle L ≡ true → HoldsAll (one_log (settled L)) xs
 holds_settled log w date xs L al da A e c =
     let a = store_all (beside log w) date xs in
     let S = stays log w date xs al da A in

@@ -11,7 +11,7 @@ use borrow.Author.Tests.{ltb-true, ltb-false, not-false}
 use Rattle.bedrock.specs.Choice.{on}
 use Rattle.buffer.specs.Bytes.{Bytes}
 use Rattle.buffer.proofs.Bytes.{small-append, small-take, small-drop, small_all}
-use Rattle.word.specs.Number.{small}
+use Rattle.digits.specs.Number.{small}
 use Rattle.sha1_digest.specs.Sha1.{sha1_of}
 use Rattle.sha1_digest.proofs.Digest.{digest_bytes}
 use Rattle.refusal.specs.declared.Refusal.{Refusal}
@@ -26,12 +26,12 @@ use Rattle.tree.specs.Tree.{piece}
 use Rattle.writer.specs.Blocks.{Typed, cut_block, blocks_from, level, leaves, scores_of, scores_at, pointer_blocks, width_of, file_blocks}
 use Rattle.writer.specs.Depth.{depth_of}
 use Rattle.writer.specs.WriteFile.{WriteOutcome, outcome, wrote, buffers_allowed, write_file}
-use Rattle.writer.specs.declared.End.TheVariants.{Done, Refused}
 use Rattle.writer.proofs.Levels.{pointer_type_lem, width_bounds}
 use Rattle.writer.proofs.Cutting.{data_lawful}
 use Rattle.writer_laws.specs.Held.{AllWritable, HoldsAll}
 use Rattle.writer_laws.proofs.Scores.{cut_short}
 use Rattle.writer_laws.proofs.Back.{length-take-most}
+use Rattle.std.specs.Prelude.{Ok, Err}
 
 -- scores are bytes
 pub small-scores : (xs : List Typed) → small (scores_of xs) ≡ true
@@ -99,18 +99,18 @@ pub record Passed (log w date slice : Bytes) (dsize psize : ℕ) (entry scores :
 
 module _ (log w date slice : Bytes) (dsize psize : ℕ) (entry scores : Bytes) where
   abbrev refused : Refusal → WriteOutcome
-  refused y = outcome (Refused y) (beside log w) entry scores
+  refused y = outcome (Err y) (beside log w) entry scores
 
   -- a test that lets through
-  past : (b : Bool) (y : Refusal) (x : WriteOutcome) → (cond b (refused y) x).end ≡ Done → (b ≡ false) × (cond b (refused y) x ≡ x) × (x.end ≡ Done)
+  past : (b : Bool) (y : Refusal) (x : WriteOutcome) → (cond b (refused y) x).end ≡ Ok tt → (b ≡ false) × (cond b (refused y) x ≡ x) × (x.end ≡ Ok tt)
   past true y x e = let z : ◌≡◌ {A = ℕ} 0 1 = cc in absurd (omega arith)
   past false y x e = (refl, refl, e)
 
-  deep-past : (o : Option ℕ) (f : ℕ → WriteOutcome) → (on o (refused why.Entry) f).end ≡ Done → (d : ℕ) × (o ≡ some d) × (on o (refused why.Entry) f ≡ f d)
+  deep-past : (o : Option ℕ) (f : ℕ → WriteOutcome) → (on o (refused why.Entry) f).end ≡ Ok tt → (d : ℕ) × (o ≡ some d) × (on o (refused why.Entry) f ≡ f d)
   deep-past none f e = let z : ◌≡◌ {A = ℕ} 0 1 = cc in absurd (omega arith)
   deep-past (some d) f e = (d, refl, refl)
 
-  pub passed : (write_file log w date slice dsize psize entry scores).end ≡ Done → Passed log w date slice dsize psize entry scores
+  pub passed : (write_file log w date slice dsize psize entry scores).end ≡ Ok tt → Passed log w date slice dsize psize entry scores
   unfolding write_file
   passed e =
       let a = past (not (buffers_allowed (length entry) (length scores))) why.Buffer _ e in

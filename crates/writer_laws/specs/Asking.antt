@@ -1,8 +1,8 @@
 -- "To the ledger a call is the list of its writes, up to and including the refused one, all with the call's date".
-use Rattle.std.specs.Prelude.{◌≡◌, true, List, [], ◌∷◌, ◌++◌, map, ◌≢◌, ℕ, suc, ◌≤◌, length, replicate}
+use Rattle.std.specs.Prelude.{◌≡◌, true, List, [], ◌∷◌, ◌++◌, map, ◌≢◌, ℕ, suc, ◌≤◌, length, replicate, Ok, Err, Result, ⊤}
 use Rattle.std.proofs.Math.Option.{none, some}
 use Rattle.buffer.specs.Bytes.{Bytes}
-use Rattle.word.specs.Number.{small}
+use Rattle.digits.specs.Number.{small}
 use Rattle.refusal.specs.declared.Refusal.{Refusal}
 use Rattle.refusal.specs.declared.Refusal.TheVariants.{NoRoom, Clash}
 use Rattle.kind.specs.Kind.{longest}
@@ -21,14 +21,12 @@ use Rattle.demands.specs.Instance.{archive}
 use Rattle.writer.specs.Blocks.{Typed, file_blocks}
 use Rattle.writer.specs.Depth.{depth_of}
 use Rattle.writer.specs.WriteFile.{end_of, end_number, store_all, outcome, score_room, write_file}
-use Rattle.writer.specs.declared.End.{End}
-use Rattle.writer.specs.declared.End.TheVariants.{Done, Refused}
 use Rattle.writer_laws.specs.Held.{AllWritable}
 
 -- a list goes on behind a block only where it is stored
-abbrev pub going : {A : Type 0} → End → List A → List A
-going Done xs = xs
-going (Refused w) xs = []
+abbrev pub going : {A : Type 0} → Result ⊤ Refusal → List A → List A
+going (Ok tt) xs = xs
+going (Err w) xs = []
 
 -- the blocks up to and including the refused one
 unfoldable pub asked : Lent → Bytes → List Typed → List Typed
@@ -90,5 +88,5 @@ WritingIsAsking = (log w date slice : Bytes) (dsize psize : ℕ) (entry scores b
 -- "Tests .. all before the first block": a call that is refused with any number but 14 and 15 changes nothing
 abbrev pub RefusedWritesNothing : Type 0
 RefusedWritesNothing = (log w date slice : Bytes) (dsize psize : ℕ) (entry scores : Bytes) (y : Refusal)
-    → (write_file log w date slice dsize psize entry scores).end ≡ Refused y → y ≢ NoRoom → y ≢ Clash
-    → write_file log w date slice dsize psize entry scores ≡ outcome (Refused y) (beside log w) entry scores
+    → (write_file log w date slice dsize psize entry scores).end ≡ Err y → y ≢ NoRoom → y ≢ Clash
+    → write_file log w date slice dsize psize entry scores ≡ outcome (Err y) (beside log w) entry scores

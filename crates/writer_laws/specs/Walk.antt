@@ -1,9 +1,9 @@
 -- "the walk of a directory that holds the entry finds every block".
-use Rattle.std.specs.Prelude.{◌≡◌, true, ◌≢◌, ℕ, suc, ◌+◌, ◌/◌, ◌≤◌, ◌<◌, max, length}
+use Rattle.std.specs.Prelude.{◌≡◌, true, ◌≢◌, ℕ, suc, ◌+◌, ◌/◌, ◌≤◌, ◌<◌, max, length, Ok}
 use mathlib.Core.List.{List, [], Memᴰ}
 use Rattle.std.proofs.Math.Option.{some}
 use Rattle.buffer.specs.Bytes.{Bytes}
-use Rattle.word.specs.Number.{small}
+use Rattle.digits.specs.Number.{small}
 use Rattle.sha1_digest.specs.Sha1.{sha1_of}
 use Rattle.block.specs.Block.{Row}
 use Rattle.sector_log.specs.Parts.{Lent, tape}
@@ -12,7 +12,6 @@ use Rattle.request.specs.declared.Session.{Session}
 use Rattle.entry.specs.declared.Entry.{Entry}
 use Rattle.entry.specs.Entry.{entry_of, entry_allowed, score_of}
 use Rattle.tree.specs.Tree.{piece, pointer_type, type_at}
-use Rattle.visit.specs.declared.End.TheVariants as visit
 use Rattle.visit.specs.Visit.{walked}
 use Rattle.descent.specs.Descent.{visit_entry}
 use Rattle.descent.specs.Parts.{visit_listed}
@@ -23,7 +22,6 @@ use Rattle.promises.specs.Histories.{afterwards}
 use Rattle.trees.specs.Again.{waiting_of}
 use Rattle.writer.specs.Blocks.{Typed, file_blocks}
 use Rattle.writer.specs.WriteFile.{write_file}
-use Rattle.writer.specs.declared.End.TheVariants.{Done}
 use Rattle.writer_laws.specs.Held.{Holds}
 
 -- the log and its waiting part, read as one
@@ -38,13 +36,13 @@ FindsFile log entry = let e = entry_of entry in (e.active ≡ true) × (entry_al
 abbrev pub WalkFindsFile : Type 0
 WalkFindsFile = (log waiting date slice : Bytes) (dsize psize : ℕ) (entry scores : Bytes) → small slice ≡ true
     → let o = write_file log waiting date slice dsize psize entry scores in
-    o.end ≡ Done → FindsFile (both o.lent) o.entry
+    o.end ≡ Ok tt → FindsFile (both o.lent) o.entry
 
 -- and still after any later requests, such as those that write the directory
 abbrev pub WalkFindsFileLater : Type 0
 WalkFindsFileLater = (log waiting date slice : Bytes) (dsize psize : ℕ) (entry scores : Bytes) → small slice ≡ true
     → let o = write_file log waiting date slice dsize psize entry scores in
-    o.end ≡ Done → (past : List Session) (qs : List (Item archive)) → AllOfBytes archive qs → FindsFile (both (afterwards o.lent past qs)) o.entry
+    o.end ≡ Ok tt → (past : List Session) (qs : List (Item archive)) → AllOfBytes archive qs → FindsFile (both (afterwards o.lent past qs)) o.entry
 
 -- the visit of an entry ends: at any nest that is allowed, with calls enough, it spends v of what is left of the allowance and is done, and so does the entry
 -- wherever a directory lists it. v is at most a visit for each block of the file, and one where there is none
@@ -53,19 +51,19 @@ VisitsFile slice dsize psize log entry =
     let e = entry_of entry in
     (v : ℕ) × (v ≤ max 1 (length (file_blocks slice dsize psize e.depth)))
     × ((calls nest left : ℕ) → left + left + 1 ≤ calls → nest ≤ 16 → v ≤ left
-    → (visit_entry calls log e e.depth nest (score_of entry) left ≡ walked v visit.Done) × (visit_listed calls log nest entry left ≡ walked v visit.Done))
+    → (visit_entry calls log e e.depth nest (score_of entry) left ≡ walked v (Ok tt)) × (visit_listed calls log nest entry left ≡ walked v (Ok tt)))
 
 -- so it is where the call succeeds
 abbrev pub WalkVisitsFile : Type 0
 WalkVisitsFile = (log waiting date slice : Bytes) (dsize psize : ℕ) (entry scores : Bytes) → small slice ≡ true
     → let o = write_file log waiting date slice dsize psize entry scores in
-    o.end ≡ Done → VisitsFile slice dsize psize (both o.lent) o.entry
+    o.end ≡ Ok tt → VisitsFile slice dsize psize (both o.lent) o.entry
 
 -- and still after any later requests
 abbrev pub WalkVisitsFileLater : Type 0
 WalkVisitsFileLater = (log waiting date slice : Bytes) (dsize psize : ℕ) (entry scores : Bytes) → small slice ≡ true
     → let o = write_file log waiting date slice dsize psize entry scores in
-    o.end ≡ Done → (past : List Session) (qs : List (Item archive)) → AllOfBytes archive qs
+    o.end ≡ Ok tt → (past : List Session) (qs : List (Item archive)) → AllOfBytes archive qs
     → VisitsFile slice dsize psize (both (afterwards o.lent past qs)) o.entry
 
 -- the scores that a walk comes to from a score that an entry has, each at its level: that one at the entry's depth, and every score of a pointer block that it came to
@@ -77,8 +75,8 @@ pub data ComesTo (log : Bytes) (e : Entry) (top : Bytes) : ℕ → Bytes → Typ
 -- and each of them it visits, on any log: where the visit of the entry's score ends, with calls enough, so does that of each, with no more of the allowance
 abbrev pub ComesToVisits : Type 0
 ComesToVisits = (log : Bytes) (e : Entry) (top : Bytes) (k : ℕ) (s : Bytes) → ComesTo log e top k s → (calls nest left : ℕ) → left + left + 1 ≤ calls
-    → (visit_entry calls log e e.depth nest top left).end ≡ visit.Done
-    → (c a : ℕ) × (a + a + 1 ≤ c) × (a ≤ left) × ((visit_entry c log e k nest s a).end ≡ visit.Done)
+    → (visit_entry calls log e e.depth nest top left).end ≡ Ok tt
+    → (c a : ℕ) × (a + a + 1 ≤ c) × (a ≤ left) × ((visit_entry c log e k nest s a).end ≡ Ok tt)
 
 -- each block of the file that is not empty is held, and a walk comes to its score at a level that has its type. An empty one has the zero score, and
 -- zero scores at a pointer block's end are cut off
@@ -92,11 +90,11 @@ ReachesFile slice dsize psize log entry =
 abbrev pub WalkReachesFile : Type 0
 WalkReachesFile = (log waiting date slice : Bytes) (dsize psize : ℕ) (entry scores : Bytes) → small slice ≡ true
     → let o = write_file log waiting date slice dsize psize entry scores in
-    o.end ≡ Done → ReachesFile slice dsize psize (both o.lent) o.entry
+    o.end ≡ Ok tt → ReachesFile slice dsize psize (both o.lent) o.entry
 
 -- and still after any later requests
 abbrev pub WalkReachesFileLater : Type 0
 WalkReachesFileLater = (log waiting date slice : Bytes) (dsize psize : ℕ) (entry scores : Bytes) → small slice ≡ true
     → let o = write_file log waiting date slice dsize psize entry scores in
-    o.end ≡ Done → (past : List Session) (qs : List (Item archive)) → AllOfBytes archive qs
+    o.end ≡ Ok tt → (past : List Session) (qs : List (Item archive)) → AllOfBytes archive qs
     → ReachesFile slice dsize psize (both (afterwards o.lent past qs)) o.entry

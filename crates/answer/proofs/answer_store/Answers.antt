@@ -8,12 +8,14 @@ use Rattle.answer.proofs.Returns.{outcome, kept}
 use borrow.Author.Rules.{rules}
 use borrow.Enum.Refused.{opened}
 use Rattle.answer.proofs.answer_store.Goals as goal
+use Rattle.std.specs.Prelude.{Result}
+use Rattle.refusal.specs.declared.Refusal.{Refusal}
 
-pub returns-in-Refused : goal.returns-in-Refused
-returns-in-Refused c = λ log w.
+pub returns-in-Err : goal.returns-in-Err
+returns-in-Err c = λ log w.
     let a = c.args in
     c.refuse.ensures log w
-    ∙ ap (λ (s : Stored). written s a.tag a.receipt.score (beside log w) a.reply.now) (sym c.in-Refused.is)
+    ∙ ap (λ (s : Result Stored Refusal). written s a.tag a.receipt.score (beside log w) a.reply.now) (sym c.in-Err.is)
 
 pub write_reply-requires : goal.write_reply-requires
 write_reply-requires c =
@@ -24,4 +26,4 @@ pub returns : goal.returns
 returns c = λ log w.
     let a = c.args in
     outcome _ _ _ log w _ _ refl c.write_reply.ensures
-    ∙ kept a.receipt.stored _ _ (beside log w) _ (opened c.in_default.in_default-own.keys2)
+    ∙ kept a.receipt.stored _ _ _ (beside log w) _ c.in_default.is

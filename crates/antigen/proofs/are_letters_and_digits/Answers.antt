@@ -1,29 +1,14 @@
-use mathlib.Core.Path.{◌≡◌, refl, ◌∙◌}
-use Prim.Native.Nat.{◌-◌, ◌≤◌}
-use native.Mathlib.Omega.{arith}
-use lib.ListN.{length, drop}
-use borrow.Author.Tests.{not-true, not-false}
-use Rattle.antigen.specs.Name.{letters_and_digits}
-use Rattle.antigen.proofs.Names.{letters-on, letters-stop, letters-end}
+use mathlib.Core.Path.{◌∙◌}
+use borrow.Author.Tests.{tests}
+use Rattle.std.proofs.Common.{rules}
+use Rattle.std.proofs.lemmas.Iterator.{YieldsList-from_slice}
+use Rattle.std.proofs.lemmas.Iterator.Search.{all_from_yields_List}
+use Rattle.antigen.specs.Name.{letter_or_digit}
+use Rattle.antigen.proofs.Names.{letters-all}
 use Rattle.antigen.proofs.are_letters_and_digits.Goals as goal
 
-pub loop-i-init : goal.loop-i-init
-loop-i-init c = (omega arith, refl)
-
-pub returns-then-not-is_letter_or_digit : goal.returns-then-not-is_letter_or_digit
-returns-then-not-is_letter_or_digit c =
-    let l = c.loop-i in
-    let s = c.args.s.now in
-    letters-stop s l.i _ (omega arith) c.is_letter_or_digit.ensures c.if-not-is_letter_or_digit.true ∙ l.invariant.1
-
-pub loop-i-preserved : goal.loop-i-preserved
-loop-i-preserved c =
-    let l = c.loop-i in
-    let s = c.args.s.now in
-    (omega arith, letters-on s l.i _ (omega arith) c.is_letter_or_digit.ensures c.if-not-is_letter_or_digit.false ∙ l.invariant.1)
-
+-- `antigen::are_letters_and_digits` meets its contract: the test of each byte.
 pub returns : goal.returns
 returns c =
-    let l = c.loop-i in
-    let s = c.args.s.now in
-    letters-end s l.i (omega arith) ∙ l.invariant.1
+    all_from_yields_List letter_or_digit _ _ _ c.all.ensures.ran (YieldsList-from_slice c.args.s.now cc) (λ x b q k. search (rules, tests))
+    ∙ letters-all c.args.s.now

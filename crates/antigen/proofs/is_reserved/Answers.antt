@@ -1,16 +1,18 @@
-use Rattle.antigen.proofs.Names.{word_first, word_second, word_third}
+use mathlib.Core.Path.{sym, ◌∙◌}
+use Rattle.antigen.proofs.Names.{either, neither, two-words, third-word}
 use Rattle.antigen.proofs.is_reserved.Goals as goal
-
-pub returns-then-equal : goal.returns-then-equal
-returns-then-equal c = word_first _ _ c.equal.ensures c.if-equal.true
+use Rattle.antigen.proofs.is_reserved.Goals.{then-equal, else-equal}
 
 pub returns-then-equal-2 : goal.returns-then-equal-2
-returns-then-equal-2 c = word_second _ _ c.equal.ensures c.if-equal.false _ c.equal-2.ensures c.if-equal-2.true
+returns-then-equal-2 c =
+    two-words _ _ (elim c.if-equal.branch [
+      | then-equal w ↦ either _ _ _ (sym c.equal.ensures ∙ w.if-equal.true) (w.value-is ∙ w.if-equal.true)
+      | else-equal w ↦ neither _ _ _ (sym c.equal.ensures ∙ w.if-equal.false) (w.value-is ∙ w.equal-else-equal.ensures)
+    ]) c.if-equal-2.true
 
-pub returns : goal.returns
-returns c =
-    let first = c.equal in
-    let if1 = c.if-equal in
-    let second = c.equal-2 in
-    let if2 = c.if-equal-2 in
-    word_third _ _ first.ensures if1.false _ second.ensures if2.false _ c.equal-3.ensures
+pub returns-else-equal-2 : goal.returns-else-equal-2
+returns-else-equal-2 c =
+    third-word _ _ (elim c.if-equal.branch [
+      | then-equal w ↦ either _ _ _ (sym c.equal.ensures ∙ w.if-equal.true) (w.value-is ∙ w.if-equal.true)
+      | else-equal w ↦ neither _ _ _ (sym c.equal.ensures ∙ w.if-equal.false) (w.value-is ∙ w.equal-else-equal.ensures)
+    ]) c.if-equal-2.false _ c.equal-else-equal-2.ensures

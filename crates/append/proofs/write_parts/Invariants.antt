@@ -12,8 +12,4 @@ use Rattle.append.proofs.write_parts.Given as goal
 -- `write_parts` meets its contract. The loop's invariant: the first k sectors are written, and nothing else.
 abbrev pub invariant-loop-k : goal.invariant-loop-k
 invariant-loop-k l =
-    (l.k ≤ l.count) × (length l.part ≡ length l.initial.part) × ((date : Bytes) → front_of date ≡ l.front → l.part ≡ put l.initial.part 0 (images (row_of l.kind l.score l.data l.first.0 date) l.k 0))
-
-abbrev pub decreases-loop-k : goal.decreases-loop-k
-decreases-loop-k l =
-    l.count - l.k
+    (length l.part ≡ length l.initial.part) × ((date : Bytes) → front_of date ≡ l.front → l.part ≡ put l.initial.part 0 (images (row_of l.kind l.score l.data l.first.0 date) l.k 0))

@@ -1,9 +1,9 @@
-use mathlib.Core.Path.{sym, ap, ◌∙◌}
-use Rattle.results.specs.Blocks.{type_result}
+use mathlib.Core.Path.{ap, ◌∙◌}
+use Rattle.block_calls.specs.Blocks.{type_result}
 use Rattle.block_calls.proofs.block_type.Goals as goal
 
-pub returns-in-Type : goal.returns-in-Type
-returns-in-Type c = sym (ap type_result (sym c.wire_type-wire.ensures ∙ c.in-Type.is))
+pub returns-in-Ok : goal.returns-in-Ok
+returns-in-Ok c = ap type_result c.in-Ok.ensures
 
-pub returns-in-Refused : goal.returns-in-Refused
-returns-in-Refused c = c.number.ensures ∙ sym (ap type_result (sym c.wire_type-wire.ensures ∙ c.in-Refused.is))
+pub returns-in-Err : goal.returns-in-Err
+returns-in-Err c = c.number.ensures ∙ ap type_result c.in-Err.ensures

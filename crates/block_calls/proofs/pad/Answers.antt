@@ -1,4 +1,4 @@
-use Rattle.results.proofs.BlockLaws.{padded_so}
+use Rattle.block_calls.proofs.BlockLaws.{padded_so}
 use Rattle.block_calls.proofs.pad.Goals as goal
 
 pub returns : goal.returns

@@ -16,7 +16,7 @@ loop-n-init c =
     let n = a.first.0 in
     let k = a.count in
     let e : n + k - n ≡ k = omega arith in
-    (omega arith, omega arith, ap (λ (m : ℕ). checked log m n) e)
+    ap (λ (m : ℕ). checked log m n) e
 
 pub has_check-requires : goal.has_check-requires
 has_check-requires c =
@@ -37,7 +37,7 @@ returns-then-not-has_check c =
     let l = c.loop-n in
     let sector-at = c.sector_at-s in
     let z = sym (ap fits sector-at.ensures) ∙ sym c.has_check.ensures ∙ c.if-not-has_check.true in
-    sym (all-stop (checked log) (λ m. fits (at log m)) (λ k m. refl) (a.first.0 + a.count) l.n (omega arith) z) ∙ l.invariant.2
+    sym (all-stop (checked log) (λ m. fits (at log m)) (λ k m. refl) (a.first.0 + a.count) l.n (omega arith) z) ∙ l.invariant
 
 pub loop-n-preserved : goal.loop-n-preserved
 unfolding checked
@@ -47,7 +47,7 @@ loop-n-preserved c =
     let l = c.loop-n in
     let sector-at = c.sector_at-s in
     let z = sym (ap fits sector-at.ensures) ∙ sym c.has_check.ensures ∙ c.if-not-has_check.false in
-    (omega arith, omega arith, all_turn (checked log) (λ m. fits (at log m)) (λ k m. refl) (a.first.0 + a.count) l.n (omega arith) z ∙ l.invariant.2)
+    all_turn (checked log) (λ m. fits (at log m)) (λ k m. refl) (a.first.0 + a.count) l.n (omega arith) z ∙ l.invariant
 
 pub returns : goal.returns
 unfolding checked
@@ -55,4 +55,4 @@ returns c =
     let a = c.args in
     let log = joined a.end.0 a.log.now a.waiting.now in
     let l = c.loop-n in
-    sym (all_end (checked log) (λ m. refl) (a.first.0 + a.count) l.n (omega arith)) ∙ l.invariant.2
+    sym (all_end (checked log) (λ m. refl) (a.first.0 + a.count) l.n (omega arith)) ∙ l.invariant

@@ -11,7 +11,4 @@ use Rattle.block_tests.proofs.checks_fit.Given as goal
 
 -- `block_tests::checks_fit` meets its contract: the test of the sectors that are left is that of all.
 abbrev pub invariant-loop-n : goal.invariant-loop-n
-invariant-loop-n l = (l.initial.n ≤ l.n) × (l.n ≤ l.last) × (checked (joined l.end.0 l.log l.waiting) (l.last - l.n) l.n ≡ checked (joined l.end.0 l.log l.waiting) l.count l.initial.n)
-
-abbrev pub decreases-loop-n : goal.decreases-loop-n
-decreases-loop-n l = l.last - l.n
+invariant-loop-n l = checked (joined l.end.0 l.log l.waiting) (l.last - l.n) l.n ≡ checked (joined l.end.0 l.log l.waiting) l.count l.initial.n

@@ -1,10 +1,13 @@
-use mathlib.Core.Path.{ap, sym, ◌∙◌}
+use mathlib.Core.Path.{ap, ◌∙◌}
+use Prim.Native.Nat.{ℕ}
+use Rattle.std.specs.Prelude.{Option}
+use Rattle.std.specs.Option.{unwrap_or}
 use native.Mathlib.Omega.{arith}
 use lib.ListN.{length}
 use Rattle.sector.proofs.Dates.{front-most}
 use Rattle.block.specs.Log.{joined, at}
 use Rattle.block.proofs.At.{length_at}
-use Rattle.block_tests.proofs.Digits.{value-number, bad-number, digits-at}
+use Rattle.block_tests.proofs.Digits.{value-number, digits-at}
 use Rattle.block_tests.proofs.field_number.Goals as goal
 
 pub overflow_add-from : goal.overflow_add-from
@@ -27,20 +30,10 @@ slice_bounds-read_hex-end c =
     let log = joined a.end.0 a.log.now a.waiting.now in
     omega (arith, ap length sector-at.ensures ∙ length_at log a.n.0, q.2, front-most (at log a.n.0))
 
-pub returns-in-Value : goal.returns-in-Value
-returns-in-Value c =
+pub returns : goal.returns
+returns c =
     let a = c.args in
-    let q = c.requires in
-    let sector-at = c.sector_at-s in
-    let read-hex = c.read_hex-h in
-    value-number _ _ (sym c.in-Value.is ∙ read-hex.ensures)
-    ∙ digits-at (joined a.end.0 a.log.now a.waiting.now) a.n.0 _ a.front a.field a.width sector-at.ensures q.2
-
-pub returns-in-Bad : goal.returns-in-Bad
-returns-in-Bad c =
-    let a = c.args in
-    let q = c.requires in
-    let sector-at = c.sector_at-s in
-    let read-hex = c.read_hex-h in
-    bad-number _ (sym c.in-Bad.is ∙ read-hex.ensures)
-    ∙ digits-at (joined a.end.0 a.log.now a.waiting.now) a.n.0 _ a.front a.field a.width sector-at.ensures q.2
+    c.unwrap_or.ensures
+    ∙ ap (λ (o : Option ℕ). unwrap_or o 0) c.read_hex.ensures
+    ∙ value-number _
+    ∙ digits-at (joined a.end.0 a.log.now a.waiting.now) a.n.0 _ a.front a.field a.width c.sector_at-s.ensures c.requires.2

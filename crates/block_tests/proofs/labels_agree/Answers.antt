@@ -24,7 +24,7 @@ loop-i-init c =
     let log = joined a.end.0 a.log.now a.waiting.now in
     let of = c.parts_of-of.result in
     let e : of - 0 ≡ of = omega arith in
-    (omega arith, λ date _. ap (λ (k : ℕ). labelled log date of a.b.first.0 a.kind a.b.size a.score.now k 0) e)
+    λ date _. ap (λ (k : ℕ). labelled log date of a.b.first.0 a.kind a.b.size a.score.now k 0) e
 
 pub overflow_add-n : goal.overflow_add-n
 overflow_add-n c = omega (arith, c.parts_of-of.ensures)
@@ -57,7 +57,7 @@ returns-then-not-has_label c =
     let F = labelled log date of a.b.first.0 a.kind a.b.size score in
     let z : T l.i ≡ false =
     label-tested log date score _ a.front.now of a.b.first.0 a.kind a.b.size l.i _ g sector-at.ensures has-label.ensures ∙ c.if-not-has_label.true in
-    sym (all-stop F T (λ k j. refl) of l.i test.true z) ∙ l.invariant.1 date g
+    sym (all-stop F T (λ k j. refl) of l.i test.true z) ∙ l.invariant date g
     ∙ ap (λ (k : ℕ). labelled log date k a.b.first.0 a.kind a.b.size score k 0) parts-of.ensures
 
 pub loop-i-preserved : goal.loop-i-preserved
@@ -71,15 +71,13 @@ loop-i-preserved c =
     let sector-at = c.sector_at-s in
     let of = parts-of.result in
     let has-label = c.has_label in
-    let score = a.score.now in (
-      omega arith,
-      λ date g.
-          let T = label_test log date of a.b.first.0 a.kind a.b.size score in
-          let F = labelled log date of a.b.first.0 a.kind a.b.size score in
-          let z : T l.i ≡ true =
-          label-tested log date score _ a.front.now of a.b.first.0 a.kind a.b.size l.i _ g sector-at.ensures has-label.ensures ∙ c.if-not-has_label.false in
-          all_turn F T (λ k j. refl) of l.i test.true z ∙ l.invariant.1 date g,
-    )
+    let score = a.score.now in
+    λ date g.
+    let T = label_test log date of a.b.first.0 a.kind a.b.size score in
+    let F = labelled log date of a.b.first.0 a.kind a.b.size score in
+    let z : T l.i ≡ true =
+    label-tested log date score _ a.front.now of a.b.first.0 a.kind a.b.size l.i _ g sector-at.ensures has-label.ensures ∙ c.if-not-has_label.false in
+    all_turn F T (λ k j. refl) of l.i test.true z ∙ l.invariant date g
 
 pub returns : goal.returns
 unfolding labelled
@@ -92,5 +90,5 @@ returns c =
     let score = a.score.now in
     λ date g.
     let F = labelled log date of a.b.first.0 a.kind a.b.size score in
-    sym (all_end F (λ j. refl) of l.i (omega arith)) ∙ l.invariant.1 date g
+    sym (all_end F (λ j. refl) of l.i (omega arith)) ∙ l.invariant date g
     ∙ ap (λ (k : ℕ). labelled log date k a.b.first.0 a.kind a.b.size score k 0) parts-of.ensures

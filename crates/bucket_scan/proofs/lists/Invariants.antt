@@ -9,8 +9,4 @@ use Rattle.bucket_scan.proofs.lists.Given as goal
 -- `bucket_scan::lists` meets its contract: whether one of the places that are left has the entry is whether one of all has.
 abbrev pub invariant-loop-p : goal.invariant-loop-p
 invariant-loop-p l =
-    (l.p ≤ l.b.to) × (listed_from l.index l.score l.kind l.first.0 (l.b.to - l.p) l.p ≡ listed l.index l.score l.kind l.first.0)
-
-abbrev pub decreases-loop-p : goal.decreases-loop-p
-decreases-loop-p l =
-    l.b.to - l.p
+    listed_from l.index l.score l.kind l.first.0 (l.to - l.p) l.p ≡ listed l.index l.score l.kind l.first.0

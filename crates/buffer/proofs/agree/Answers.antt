@@ -1,10 +1,5 @@
-use mathlib.Core.Path.{◌≡◌, sym, ◌∙◌}
-use mathlib.Core.Bool.{◌&&◌}
-use Prim.Native.Nat.{◌≤◌, ◌-◌}
+use mathlib.Core.Path.{sym, ◌∙◌}
 use native.Mathlib.Omega.{arith}
-use lib.Dec.{eqb}
-use lib.ListN.{length, drop}
-use Rattle.buffer.specs.Bytes.{same}
 use Rattle.buffer.proofs.Steps.{same-lengths, agree_step, agree_end}
 use Rattle.buffer.proofs.agree.Goals as goal
 
@@ -15,10 +10,10 @@ pub loop-i-preserved : goal.loop-i-preserved
 loop-i-preserved c =
     let l = c.loop-i in
     let a = c.args in
-    (omega arith, l.invariant.1, agree_step a.a.now a.b.now l.i l.differ (omega arith) (omega arith) ∙ l.invariant.2)
+    agree_step a.a.now a.b.now l.i l.differ (omega arith) (omega arith) ∙ l.invariant
 
 pub returns : goal.returns
 returns c =
     let l = c.loop-i in
     let a = c.args in
-    sym (agree_end a.a.now a.b.now l.i l.differ (omega arith) (omega arith)) ∙ l.invariant.2
+    sym (agree_end a.a.now a.b.now l.i l.differ (omega arith) (omega arith)) ∙ l.invariant

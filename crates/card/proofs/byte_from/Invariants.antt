@@ -1,14 +1,9 @@
-use mathlib.Core.Path.{◌≡◌, refl}
-use Prim.Native.Nat.{◌+◌, ◌-◌, ◌≤◌}
-use native.Mathlib.Omega.{arith}
+use mathlib.Core.Path.{◌≡◌}
+use Prim.Native.Nat.{◌+◌}
 use lib.ListN.{length, drop}
 use Rattle.card.specs.Card.{up_to}
-use Rattle.card.proofs.Parts.{byte-here, byte-on, byte-none}
 use Rattle.card.proofs.byte_from.Given as goal
 
 -- `card::byte_from` meets its contract: what is left up to the first such byte ends where the whole does.
 abbrev pub invariant-loop-i : goal.invariant-loop-i
-invariant-loop-i l = (l.i ≤ length l.s) × (l.i + length (up_to l.byte (drop l.i l.s)) ≡ l.at + length (up_to l.byte (drop l.at l.s)))
-
-abbrev pub decreases-loop-i : goal.decreases-loop-i
-decreases-loop-i l = length l.s - l.i
+invariant-loop-i l = l.i + length (up_to l.byte (drop l.i l.s)) ≡ l.at + length (up_to l.byte (drop l.at l.s))

@@ -1,11 +1,8 @@
-use mathlib.Core.Path.{◌≡◌, ◌∙◌}
+use mathlib.Core.Path.{◌≡◌}
 use Prim.Native.Nat.{◌-◌, ◌≤◌}
-use native.Mathlib.Omega.{arith}
 use lib.ListN.{length, take, drop}
-use borrow.Author.Tests.{not-true, not-false}
 use Rattle.card.specs.Card.{well_formed}
-use Rattle.card.proofs.Lines.{lawful_from, lawful-whole}
-use Rattle.card.proofs.Turns.{placed, placed-none, ill-line, ill-name, ill-order, lawful-on, lawful-end}
+use Rattle.card.proofs.Lines.{lawful_from}
 use Rattle.card.proofs.is_card.Given as goal
 
 -- `card::is_card` meets its contract: what is left is lawful behind the last name just if the whole is a card.

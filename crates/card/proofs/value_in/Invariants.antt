@@ -1,9 +1,7 @@
-use mathlib.Core.Path.{◌≡◌, refl, ◌∙◌}
+use mathlib.Core.Path.{◌≡◌}
 use Prim.Native.Nat.{◌-◌, ◌≤◌}
-use native.Mathlib.Omega.{arith}
 use lib.ListN.{length, drop}
 use Rattle.card.specs.Card.{value_in}
-use Rattle.card.proofs.Turns.{placed, placed-none, says_none, says_here, says_on, says-end}
 use Rattle.card.proofs.value_in.Given as goal
 
 -- `card::value_in` meets its contract: what is left says what the whole says.

@@ -1,5 +1,5 @@
 use native.Mathlib.Omega.{arith}
-use Rattle.results.proofs.Searches.{long_no_card, short-card}
+use Rattle.card_calls.proofs.Searches.{long_no_card, short-card}
 use Rattle.card_calls.proofs.is_card.Goals as goal
 
 -- `card_calls::is_card` meets its contract: by length, then by its lines.

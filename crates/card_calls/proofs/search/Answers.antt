@@ -1,5 +1,5 @@
 use native.Mathlib.Omega.{arith}
-use Rattle.results.proofs.Searches.{search_small, told_few, searched_so}
+use Rattle.card_calls.proofs.Searches.{search_small, told_few, searched_so}
 use Rattle.card_calls.proofs.search.Goals as goal
 
 pub overflow_mul-result : goal.overflow_mul-result

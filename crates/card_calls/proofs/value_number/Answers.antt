@@ -1,5 +1,5 @@
 use mathlib.Core.Path.{sym, ap}
-use Rattle.results.specs.Search.{value_number}
+use Rattle.card_calls.specs.Search.{value_number}
 use Rattle.card_calls.proofs.value_number.Goals as goal
 
 pub returns-in-Yes : goal.returns-in-Yes

@@ -1,7 +1,7 @@
 use native.Mathlib.Omega.{arith}
 use Rattle.comparison.proofs.Bounds.{Within}
 use Rattle.walk.specs.Walk.{most_allowance}
-use Rattle.results.proofs.Changes.{compared_few, compared_so}
+use Rattle.change_calls.proofs.Changes.{compared_few, compared_so}
 use Rattle.change_calls.proofs.differences.Goals as goal
 
 pub overflow_mul-result : goal.overflow_mul-result

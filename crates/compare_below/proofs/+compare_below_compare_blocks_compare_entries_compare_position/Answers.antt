@@ -123,7 +123,7 @@ compare_below-loop-i-preserved t c =
     let p = c.requires in
     let log = joined a.end.0 a.log.now a.waiting.now in
     let b = within log a.e a.level a.nest (bytes_of log a.b) (bytes_of log a.c) c.loop-i.i (a.left - c.loop-i.units) p.5 c.compare_position-r.ensures in
-    rest_goes_on c.loop-i.invariant c.loop-i-test.true _ c.compare_position-r.ensures b c.in-Done.is
+    rest_goes_on c.loop-i.invariant c.loop-i-test.true _ c.compare_position-r.ensures b c.in-Ok.is
 
 pub compare_below-returns : goal.compare_below-returns
 compare_below-returns t c =

@@ -22,6 +22,3 @@ abbrev pub invariant-compare_below-loop-i : goal.invariant-compare_below-loop-i
 invariant-compare_below-loop-i l =
     let log = joined l.end.0 l.log l.waiting in
     Rest (λ f j a. compare_position f log l.e l.level l.nest (bytes_of log l.b) (bytes_of log l.c) j a) l.left l.most l.count l.units l.i
-
-abbrev pub decreases-compare_below-loop-i : goal.decreases-compare_below-loop-i
-decreases-compare_below-loop-i l = l.most - l.i

@@ -34,7 +34,7 @@ copy_directory-returns-in_default t c =
 pub copy_directory-loop-i-preserved : goal.copy_directory-loop-i-preserved
 copy_directory-loop-i-preserved t c =
     let w = c.copy_listed-w.ensures in
-    rest_goes_on c.loop-i.invariant c.loop-i-test.true _ _ w.within w.exact c.in-Done.is
+    rest_goes_on c.loop-i.invariant c.loop-i-test.true _ _ w.within w.exact c.in-Ok.is
 
 pub copy_directory-returns : goal.copy_directory-returns
 copy_directory-returns t c =
@@ -76,20 +76,20 @@ copy_entry-returns-in_default t c =
 
 pub copy_entry-overflow_sub-left : goal.copy_entry-overflow_sub-left
 copy_entry-overflow_sub-left t c =
-    let k = block-known (met c.visit_level-m.ensures) c.in-Found.is in
+    let k = block-known (met c.visit_level-m.ensures) c.in-Ok.is in
     omega (arith, k.some_left)
 
 pub copy_entry-copy_below-below-requires : goal.copy_entry-copy_below-below-requires
 copy_entry-copy_below-below-requires t c =
     let a = c.args in
-    let k = block-known (met c.visit_level-m.ensures) c.in-Found.is in
+    let k = block-known (met c.visit_level-m.ensures) c.in-Ok.is in
     let p = c.requires in
     (omega (arith, k.some_left), (p.0, in_both a.end.0 a.log.now a.waiting.now p.0 _ k.in_log, k.not_many, p.2, k.not-deep, p.3))
 
 pub copy_entry-keep-requires : goal.copy_entry-keep-requires
 copy_entry-keep-requires t c =
     let a = c.args in
-    let k = block-known (met c.visit_level-m.ensures) c.in-Found.is in
+    let k = block-known (met c.visit_level-m.ensures) c.in-Ok.is in
     let p = c.requires in
     let w = c.copy_below-below in
     let h : w.result.visits + 1 < 2 ^ 64 = omega (arith, k.some_left, w.ensures.within, c.ranges.left) in
@@ -101,7 +101,7 @@ copy_entry-returns t c =
     let log = joined a.end.0 a.log.now a.waiting.now in
     let b = c.copy_below-below.ensures in
     let v =
-    kept-behind log a.date.now a.e a.level a.nest a.score.now a.left a.second.now _ c.visit_level-m.ensures _ c.in-Found.is _ _ (b.within, b.exact)
+    kept-behind log a.date.now a.e a.level a.nest a.score.now a.left a.second.now _ c.visit_level-m.ensures _ c.in-Ok.is _ _ (b.within, b.exact)
     _ c.type_at-kind.ensures _ _ c.keep.ensures.count c.keep.ensures.exact in
     record { within = v.0; exact = v.1 }
 
@@ -163,7 +163,7 @@ copy_scores-loop-i-preserved t c =
     let log = joined a.end.0 a.log.now a.waiting.now in
     let w = c.copy_entry-w.ensures in
     let h = c.loop-i-test.true in
-    rest_goes_on c.loop-i.invariant h _ _ w.within (score-copied log a.date.now a.b c.requires.1.1 _ _ _ _ _ _ h c.score_at-s.ensures w.exact) c.in-Done.is
+    rest_goes_on c.loop-i.invariant h _ _ w.within (score-copied log a.date.now a.b c.requires.1.1 _ _ _ _ _ _ h c.score_at-s.ensures w.exact) c.in-Ok.is
 
 pub copy_scores-returns : goal.copy_scores-returns
 copy_scores-returns t c =

@@ -29,13 +29,7 @@ invariant-copy_directory-loop-i l =
     let log = joined l.end.0 l.log l.waiting in
     Rest (copy_pieces (λ f. copy_listed f log l.date l.nest) 40 (wholes (bytes_of log l.b)) l.left) l.count l.fn.second l.visits l.i l.second
 
-abbrev pub decreases-copy_directory-loop-i : goal.decreases-copy_directory-loop-i
-decreases-copy_directory-loop-i l = l.count - l.i
-
 abbrev pub invariant-copy_scores-loop-i : goal.invariant-copy_scores-loop-i
 invariant-copy_scores-loop-i l =
     let log = joined l.end.0 l.log l.waiting in
     Rest (copy_pieces (λ f x a s. copy_entry f log l.date l.e l.level l.nest x a s) 20 (bytes_of log l.b) l.left) l.count l.fn.second l.visits l.i l.second
-
-abbrev pub decreases-copy_scores-loop-i : goal.decreases-copy_scores-loop-i
-decreases-copy_scores-loop-i l = l.count - l.i

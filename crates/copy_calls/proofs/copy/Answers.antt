@@ -1,7 +1,7 @@
 use native.Mathlib.Omega.{arith}
 use Rattle.walk.specs.Walk.{most_allowance}
-use Rattle.results.proofs.Visits.{Within}
-use Rattle.results.proofs.Copies.{copy_small, copied_so}
+use Rattle.walk_calls.proofs.Visits.{Within}
+use Rattle.copy_calls.proofs.Copies.{copy_small, copied_so}
 use Rattle.copy_calls.proofs.copy.Goals as goal
 
 -- `copy_calls::copy` meets its contract; the sum fits since the visits are few and the sector is one of the longest log and waiting part.

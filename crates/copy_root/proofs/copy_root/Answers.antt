@@ -15,18 +15,18 @@ returns-in_default c =
 pub root_bytes-root-requires : goal.root_bytes-root-requires
 root_bytes-root-requires c =
     let a = c.args in
-    let K = found-known _ _ _ _ _ _ _ c.visit-m.ensures _ c.in-Found.is in
+    let K = found-known _ _ _ _ _ _ _ c.visit-m.ensures _ c.in-Ok.is in
     (c.requires.0, in_both a.end.0 a.log.now a.waiting.now c.requires.0 _ K.in_log)
 
 pub overflow_sub-left : goal.overflow_sub-left
 overflow_sub-left c =
-    let K = found-known _ _ _ _ _ _ _ c.visit-m.ensures _ c.in-Found.is in
+    let K = found-known _ _ _ _ _ _ _ c.visit-m.ensures _ c.in-Ok.is in
     omega (arith, K.some_left)
 
 pub keep-requires : goal.keep-requires
 keep-requires c =
     let a = c.args in
-    let K = found-known _ _ _ _ _ _ _ c.visit-m.ensures _ c.in-Found.is in
+    let K = found-known _ _ _ _ _ _ _ c.visit-m.ensures _ c.in-Ok.is in
     let w = c.below_root-below in
     let h : w.result.visits + 1 < 2 ^ 64 = omega (arith, K.some_left, w.ensures.within, c.ranges.left.fits) in
     (c.requires.0, in_both a.end.0 a.log.now a.waiting.now c.requires.0 _ K.in_log, K.not_many, c.requires.2, h)
@@ -34,5 +34,5 @@ keep-requires c =
 pub returns : goal.returns
 returns c =
     let a = c.args in
-    root_kept (joined a.end.0 a.log.now a.waiting.now) a.date.now a.score.now a.left a.second.now _ c.visit-m.ensures _ c.in-Found.is _
+    root_kept (joined a.end.0 a.log.now a.waiting.now) a.date.now a.score.now a.left a.second.now _ c.visit-m.ensures _ c.in-Ok.is _
     c.root_bytes-root.ensures _ _ c.below_root-below.ensures.exact _ _ c.keep.ensures.exact

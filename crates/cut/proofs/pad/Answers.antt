@@ -4,7 +4,7 @@ use borrow.Author.Tests.{not-true, not-false}
 use lib.ListN.{length}
 use Rattle.cut.specs.Cut.{unit_of}
 use Rattle.cut.specs.Pad.{after_pad}
-use Rattle.cut.specs.declared.Padded.TheVariants.{Done}
+use Rattle.std.specs.Prelude.{Ok}
 use Rattle.cut.proofs.Tests.{allowed, part_whole, part_filled, pad_unlawful, pad_refused, pad_done}
 use Rattle.cut.proofs.pad.Goals as goal
 
@@ -51,5 +51,5 @@ returns c = let args = c.args in
     let may-pad = c.may_pad-allowed in
     let a = args in
     let h = allowed (unit_of a.kind) (length a.buffer.now) a.len a.target (sym may-pad.ensures ∙ if2.false) in
-    ap (after_pad Done) (part_filled (unit_of a.kind) a.buffer.now a.len a.target h _ c.fill.ensures)
+    ap (after_pad (Ok tt)) (part_filled (unit_of a.kind) a.buffer.now a.len a.target h _ c.fill.ensures)
     ∙ pad_done a.kind a.buffer.now a.len a.target (sym is_lawful.ensures ∙ if1.false) (sym may-pad.ensures ∙ if2.false)

@@ -1,31 +1,20 @@
-use mathlib.Core.Path.{◌≡◌, sym, ap, ◌∙◌}
-use Prim.Native.Nat.{◌-◌, ◌≤◌}
-use native.Mathlib.Omega.{arith}
-use lib.ListN.{length, drop, drop_of_length-le}
-use Rattle.date.specs.Date.{decimals}
-use Rattle.date.proofs.Digits.{decimal, too_low, too_high, of-eight, not_eight}
+use mathlib.Core.Path.{sym, ◌∙◌}
+use borrow.Author.Tests.{tests, ne_eqb}
+use lib.ListN.{length}
+use Rattle.std.proofs.Common.{rules}
+use Rattle.std.proofs.lemmas.Iterator.{YieldsList-from_slice}
+use Rattle.std.proofs.lemmas.Iterator.Search.{all_from_yields_List}
+use Rattle.date.proofs.Digits.{decimal, decimals-all, of-eight, not_eight}
 use Rattle.date.proofs.is_date.Goals as goal
 
-pub returns-then-d-ne8 : goal.returns-then-d-ne8
-returns-then-d-ne8 c = sym (not_eight (c.args.d.now) (c.if-d-ne8.true))
+pub returns-then-d-eq8 : goal.returns-then-d-eq8
+returns-then-d-eq8 c =
+    let d = c.args.d.now in
+    all_from_yields_List decimal _ _ _ c.all.ensures.ran (YieldsList-from_slice d cc) (λ x b q k. search (rules, tests))
+    ∙ decimals-all d
+    ∙ sym (of-eight d c.if-d-eq8.true)
 
-pub returns-then-b-lt48 : goal.returns-then-b-lt48
-returns-then-b-lt48 c = let a = c.args in
-    let l = c.loop-i in
-    sym (of-eight a.d.now l.invariant.1 ∙ sym l.invariant.2 ∙ too_low a.d.now l.i (omega arith) (omega arith))
-
-pub returns-then-b-gt57 : goal.returns-then-b-gt57
-returns-then-b-gt57 c = let a = c.args in
-    let l = c.loop-i in
-    sym (of-eight a.d.now l.invariant.1 ∙ sym l.invariant.2 ∙ too_high a.d.now l.i (omega arith) (omega arith))
-
-pub loop-i-preserved : goal.loop-i-preserved
-loop-i-preserved c = let a = c.args in
-    let l = c.loop-i in
-    (omega arith, l.invariant.1, sym (decimal a.d.now l.i (omega arith) (omega arith) (omega arith)) ∙ l.invariant.2)
-
-pub returns : goal.returns
-returns c = let a = c.args in
-    let l = c.loop-i in
-    let g : length a.d.now ≤ l.i = omega arith in
-    sym (of-eight a.d.now l.invariant.1 ∙ sym l.invariant.2 ∙ ap decimals (drop_of_length-le a.d.now g))
+pub returns-else-d-eq8 : goal.returns-else-d-eq8
+returns-else-d-eq8 c =
+    let d = c.args.d.now in
+    ne_eqb (length d) 8 c.if-d-eq8.false ∙ sym (not_eight d c.if-d-eq8.false)

@@ -5,6 +5,3 @@ use Rattle.depth.proofs.least_depth.Given as goal
 
 abbrev pub invariant-loop-d : goal.invariant-loop-d
 invariant-loop-d l = Seeking l.n l.dsize l.p l.room l.d
-
-abbrev pub decreases-loop-d : goal.decreases-loop-d
-decreases-loop-d l = 8 - l.d

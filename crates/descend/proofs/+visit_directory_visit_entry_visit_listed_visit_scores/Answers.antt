@@ -29,7 +29,7 @@ visit_directory-returns-in_default t c =
 pub visit_directory-loop-i-preserved : goal.visit_directory-loop-i-preserved
 visit_directory-loop-i-preserved t c =
     let w = c.visit_listed-w in
-    rest_goes_on c.loop-i.invariant c.loop-i-test.true _ _ w.ensures.within w.ensures.exact c.in-Done.is
+    rest_goes_on c.loop-i.invariant c.loop-i-test.true _ _ w.ensures.within w.ensures.exact c.in-Ok.is
 
 pub visit_directory-returns : goal.visit_directory-returns
 visit_directory-returns t c =
@@ -67,16 +67,16 @@ visit_entry-returns-in_default t c =
 
 pub visit_entry-returns-in-Ends : goal.visit_entry-returns-in-Ends
 visit_entry-returns-in-Ends t c =
-    let v = ended-below (met c.visit_level-m.ensures) c.in-Found.is c.below_block-below.ensures _ c.in-Ends.is in
+    let v = ended-below (met c.visit_level-m.ensures) c.in-Ok.is c.below_block-below.ensures _ c.in-Ends.is in
     record { within = v.0; exact = v.1 }
 
 pub visit_entry-overflow_sub-left : goal.visit_entry-overflow_sub-left
-visit_entry-overflow_sub-left t c = omega (arith, (block-known (met c.visit_level-m.ensures) c.in-Found.is).some_left)
+visit_entry-overflow_sub-left t c = omega (arith, (block-known (met c.visit_level-m.ensures) c.in-Ok.is).some_left)
 
 pub visit_entry-visit_directory-requires : goal.visit_entry-visit_directory-requires
 visit_entry-visit_directory-requires t c =
     let a = c.args in
-    let b = block-known (met c.visit_level-m.ensures) c.in-Found.is in
+    let b = block-known (met c.visit_level-m.ensures) c.in-Ok.is in
     let p = c.requires.0 in
     (omega (arith, b.some_left), (p, in_both a.end.0 a.log.now a.waiting.now p _ b.in_log, b.not_many, b.not-deep))
 
@@ -84,19 +84,19 @@ pub visit_entry-returns-in-Entries : goal.visit_entry-returns-in-Entries
 visit_entry-returns-in-Entries t c =
     let w = c.visit_directory.ensures in
     let v =
-    directory-below (met c.visit_level-m.ensures) c.in-Found.is c.below_block-below.ensures c.in-Entries.is _ (w.within, w.exact) in
+    directory-below (met c.visit_level-m.ensures) c.in-Ok.is c.below_block-below.ensures c.in-Entries.is _ (w.within, w.exact) in
     record { within = rw c.one_more.ensures v.0; exact = λ f h. c.one_more.ensures ∙ v.1 f h }
 
 pub visit_entry-overflow_sub-level : goal.visit_entry-overflow_sub-level
 visit_entry-overflow_sub-level t c = (whole-scores _ _ _ c.below_block-below.ensures c.in-Scores.is).0
 
 pub visit_entry-overflow_sub-left-in-Scores : goal.visit_entry-overflow_sub-left-in-Scores
-visit_entry-overflow_sub-left-in-Scores t c = omega (arith, (block-known (met c.visit_level-m.ensures) c.in-Found.is).some_left)
+visit_entry-overflow_sub-left-in-Scores t c = omega (arith, (block-known (met c.visit_level-m.ensures) c.in-Ok.is).some_left)
 
 pub visit_entry-visit_scores-requires : goal.visit_entry-visit_scores-requires
 visit_entry-visit_scores-requires t c =
     let a = c.args in
-    let b = block-known (met c.visit_level-m.ensures) c.in-Found.is in
+    let b = block-known (met c.visit_level-m.ensures) c.in-Ok.is in
     let p = c.requires in (
       omega (arith, b.some_left),
       (p.0, in_both a.end.0 a.log.now a.waiting.now p.0 _ b.in_log, b.not_many, (whole-scores _ _ _ c.below_block-below.ensures c.in-Scores.is).1, omega (arith, p.2)),
@@ -106,7 +106,7 @@ pub visit_entry-returns-in-Scores : goal.visit_entry-returns-in-Scores
 visit_entry-returns-in-Scores t c =
     let w = c.visit_scores.ensures in
     let v =
-    scores-below (met c.visit_level-m.ensures) c.in-Found.is c.below_block-below.ensures c.in-Scores.is _ (w.within, w.exact) in
+    scores-below (met c.visit_level-m.ensures) c.in-Ok.is c.below_block-below.ensures c.in-Scores.is _ (w.within, w.exact) in
     record { within = rw c.one_more-in-Scores.ensures v.0; exact = λ f h. c.one_more-in-Scores.ensures ∙ v.1 f h }
 
 -- `descend::visit_scores`: the scores of the block in order
@@ -133,7 +133,7 @@ pub visit_scores-loop-i-preserved : goal.visit_scores-loop-i-preserved
 visit_scores-loop-i-preserved t c =
     let w = c.visit_entry-w.ensures in
     let h = c.loop-i-test.true in
-    rest_goes_on c.loop-i.invariant h _ _ w.within (score_visited _ c.args.b c.requires.1.1 _ _ _ _ h c.score_at-s.ensures w.exact) c.in-Done.is
+    rest_goes_on c.loop-i.invariant h _ _ w.within (score_visited _ c.args.b c.requires.1.1 _ _ _ _ h c.score_at-s.ensures w.exact) c.in-Ok.is
 
 pub visit_scores-returns : goal.visit_scores-returns
 visit_scores-returns t c =

@@ -25,13 +25,7 @@ invariant-visit_directory-loop-i l =
     let log = joined l.end.0 l.log l.waiting in
     Rest (walk_pieces (λ f. visit_listed f log l.nest) 40 (wholes (bytes_of log l.b)) l.left) l.count tt l.visits l.i tt
 
-abbrev pub decreases-visit_directory-loop-i : goal.decreases-visit_directory-loop-i
-decreases-visit_directory-loop-i l = l.count - l.i
-
 abbrev pub invariant-visit_scores-loop-i : goal.invariant-visit_scores-loop-i
 invariant-visit_scores-loop-i l =
     let log = joined l.end.0 l.log l.waiting in
     Rest (walk_pieces (λ f x a. visit_entry f log l.e l.level l.nest x a) 20 (bytes_of log l.b) l.left) l.count tt l.visits l.i tt
-
-abbrev pub decreases-visit_scores-loop-i : goal.decreases-visit_scores-loop-i
-decreases-visit_scores-loop-i l = l.count - l.i

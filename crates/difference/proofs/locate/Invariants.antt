@@ -1,10 +1,6 @@
-use Prim.Native.Nat.{◌-◌}
 use Rattle.difference.proofs.Rest.{Rest}
 use Rattle.difference.proofs.locate.Given as goal
 
 -- `difference::locate` meets its contract: the tests, then position by position.
 abbrev pub invariant-loop-i : goal.invariant-loop-i
 invariant-loop-i l = Rest l.a l.b l.count l.i
-
-abbrev pub decreases-loop-i : goal.decreases-loop-i
-decreases-loop-i l = l.count - l.i

@@ -33,7 +33,7 @@ pub parts_of-n-requires : goal.parts_of-n-requires
 parts_of-n-requires c = let a = c.args in
     let l = c.loop-n in
     let sound-at = c.sound_at-place in
-    let b = block-bounds (joined a.end.0 a.log.now a.waiting.now) l.n sound-at.result _ sound-at.ensures (c.in-At.is) in
+    let b = block-bounds (joined a.end.0 a.log.now a.waiting.now) l.n sound-at.result _ sound-at.ensures (c.in-Some.is) in
     (b.0, omega (arith, b.1))
 
 pub overflow_add-n : goal.overflow_add-n
@@ -42,14 +42,14 @@ overflow_add-n c = let a = c.args in
     let given = c.requires in
     let sound-at = c.sound_at-place in
     let log = joined a.end.0 a.log.now a.waiting.now in
-    let on = walk-on log l.n (c.parts_of-n.result) sound-at.result _ l.invariant sound-at.ensures (c.in-At.is) (c.parts_of-n.ensures) in
+    let on = walk-on log l.n (c.parts_of-n.result) sound-at.result _ l.invariant sound-at.ensures (c.in-Some.is) (c.parts_of-n.ensures) in
     omega (arith, used_le_sectors log, sectors-joined a.end.0 a.log.now a.waiting.now given.0, on.0)
 
 pub loop-n-smaller : goal.loop-n-smaller
 loop-n-smaller c = let a = c.args in
     let l = c.loop-n in
     let sound-at = c.sound_at-place in
-    let on = walk-on (joined a.end.0 a.log.now a.waiting.now) l.n (c.parts_of-n.result) sound-at.result _ l.invariant sound-at.ensures (c.in-At.is)
+    let on = walk-on (joined a.end.0 a.log.now a.waiting.now) l.n (c.parts_of-n.result) sound-at.result _ l.invariant sound-at.ensures (c.in-Some.is)
     (c.parts_of-n.ensures) in
     omega (arith, on.0, on.1)
 
@@ -57,7 +57,7 @@ pub loop-n-preserved : goal.loop-n-preserved
 loop-n-preserved c = let a = c.args in
     let l = c.loop-n in
     let sound-at = c.sound_at-place in
-    (walk-on (joined a.end.0 a.log.now a.waiting.now) l.n (c.parts_of-n.result) sound-at.result _ l.invariant sound-at.ensures (c.in-At.is)
+    (walk-on (joined a.end.0 a.log.now a.waiting.now) l.n (c.parts_of-n.result) sound-at.result _ l.invariant sound-at.ensures (c.in-Some.is)
     (c.parts_of-n.ensures)).2
 
 pub returns : goal.returns

@@ -6,7 +6,4 @@ use Rattle.entry.proofs.holds.Given as goal
 
 -- `entry::holds` meets its contract: the product is dsize times p to the power of the levels passed.
 abbrev pub invariant-loop-level : goal.invariant-loop-level
-invariant-loop-level l = (l.level ≤ l.depth) × (l.product ≡ l.dsize * l.p ^ l.level)
-
-abbrev pub decreases-loop-level : goal.decreases-loop-level
-decreases-loop-level l = l.depth - l.level
+invariant-loop-level l = l.product ≡ l.dsize * l.p ^ l._level

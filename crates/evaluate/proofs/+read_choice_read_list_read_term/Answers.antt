@@ -8,61 +8,61 @@ use Rattle.evaluate.proofs.Terms.{choice_joins, list_joins, not-read, none_may_o
 use Rattle.evaluate.proofs.+read_choice_read_list_read_term.Goals as goal
 
 -- `evaluate::read_choice`: by its first term, and by the word behind it
-pub read_choice-returns-in_default : goal.read_choice-returns-in_default
-read_choice-returns-in_default t c =
+pub read_choice-returns-in_err-term : goal.read_choice-returns-in_err-term
+read_choice-returns-in_err-term t c =
     let a = c.args in
-    join_ill (choice_joins a.card.now a.room) a.text.now a.at c.read_term-term.ensures c.in_default.is
+    rw c.from_residual.ensures (join_ill (choice_joins a.card.now a.room) a.text.now a.at c.read_term.ensures c.in_err-term.was)
 
 pub read_choice-returns-then-not-next_is : goal.read_choice-returns-then-not-next_is
 read_choice-returns-then-not-next_is t c =
     let a = c.args in
-    join_alone (choice_joins a.card.now a.room) a.text.now a.at c.read_term-term.ensures c.in-Done.is
+    join_alone (choice_joins a.card.now a.room) a.text.now a.at c.read_term.ensures c.in_ok-term.was
     (sym c.next_is.ensures ∙ c.if-not-next_is.true)
 
-pub read_choice-overflow_add-next : goal.read_choice-overflow_add-next
-read_choice-overflow_add-next t c =
+pub read_choice-overflow_add-term : goal.read_choice-overflow_add-term
+read_choice-overflow_add-term t c =
     omega (arith, (next_known c.args.text.now _ and_word (sym c.next_is.ensures ∙ c.if-not-next_is.false)).inside)
 
 pub read_choice-read_choice-requires : goal.read_choice-read_choice-requires
 read_choice-read_choice-requires t c =
     let a = c.args in
     let h = (next_known a.text.now _ and_word (sym c.next_is.ensures ∙ c.if-not-next_is.false)).inside in
-    let k = ahead-done a.at c.read_term-term.ensures.ahead c.in-Done.is in
+    let k = ahead-done a.at c.read_term.ensures.ahead c.in_ok-term.was in
     (omega arith, tt)
 
 pub read_choice-returns : goal.read_choice-returns
 read_choice-returns t c =
     let a = c.args in
-    join_more (choice_joins a.card.now a.room) a.text.now a.at c.read_term-term.ensures c.in-Done.is
+    join_more (choice_joins a.card.now a.room) a.text.now a.at c.read_term.ensures c.in_ok-term.was
     (sym c.next_is.ensures ∙ c.if-not-next_is.false) refl c.read_choice.ensures c.both.ensures
 
 -- `evaluate::read_list`: by its first choice, and by the word behind it
-pub read_list-returns-in_default : goal.read_list-returns-in_default
-read_list-returns-in_default t c =
+pub read_list-returns-in_err-choice : goal.read_list-returns-in_err-choice
+read_list-returns-in_err-choice t c =
     let a = c.args in
-    join_ill (list_joins a.card.now a.room) a.text.now a.at c.read_choice-choice.ensures c.in_default.is
+    rw c.from_residual.ensures (join_ill (list_joins a.card.now a.room) a.text.now a.at c.read_choice.ensures c.in_err-choice.was)
 
 pub read_list-returns-then-not-next_is : goal.read_list-returns-then-not-next_is
 read_list-returns-then-not-next_is t c =
     let a = c.args in
-    join_alone (list_joins a.card.now a.room) a.text.now a.at c.read_choice-choice.ensures c.in-Done.is
+    join_alone (list_joins a.card.now a.room) a.text.now a.at c.read_choice.ensures c.in_ok-choice.was
     (sym c.next_is.ensures ∙ c.if-not-next_is.true)
 
-pub read_list-overflow_add-next : goal.read_list-overflow_add-next
-read_list-overflow_add-next t c =
+pub read_list-overflow_add-choice : goal.read_list-overflow_add-choice
+read_list-overflow_add-choice t c =
     omega (arith, (next_known c.args.text.now _ or_word (sym c.next_is.ensures ∙ c.if-not-next_is.false)).inside)
 
 pub read_list-read_list-requires : goal.read_list-read_list-requires
 read_list-read_list-requires t c =
     let a = c.args in
     let h = (next_known a.text.now _ or_word (sym c.next_is.ensures ∙ c.if-not-next_is.false)).inside in
-    let k = ahead-done a.at c.read_choice-choice.ensures.ahead c.in-Done.is in
+    let k = ahead-done a.at c.read_choice.ensures.ahead c.in_ok-choice.was in
     (omega arith, tt)
 
 pub read_list-returns : goal.read_list-returns
 read_list-returns t c =
     let a = c.args in
-    join_more (list_joins a.card.now a.room) a.text.now a.at c.read_choice-choice.ensures c.in-Done.is
+    join_more (list_joins a.card.now a.room) a.text.now a.at c.read_choice.ensures c.in_ok-choice.was
     (sym c.next_is.ensures ∙ c.if-not-next_is.false) refl c.read_list.ensures c.either.ensures
 
 -- `evaluate::read_term`: by its first word

@@ -9,14 +9,14 @@ returns-then-text-gt256 c = let a = c.args in long-refused a.card.now a.text.now
 pub returns-in_default : goal.returns-in_default
 returns-in_default c =
     let a = c.args in
-    ill-refused a.card.now a.text.now (omega arith) c.read_list-list.ensures c.in_default.is
+    ill-refused a.card.now a.text.now (omega arith) c.read_list.ensures c.in_default.is
 
-pub returns-then-next-text : goal.returns-then-next-text
-returns-then-next-text c =
+pub returns-then-list-text : goal.returns-then-list-text
+returns-then-list-text c =
     let a = c.args in
-    more-refused a.card.now a.text.now (omega arith) c.read_list-list.ensures c.in-Done.is c.if-next-text.true
+    more-refused a.card.now a.text.now (omega arith) c.read_list.ensures c.in-Some.is c.if-list-text.true
 
 pub returns : goal.returns
 returns c =
     let a = c.args in
-    all_told a.card.now a.text.now (omega arith) c.read_list-list.ensures c.in-Done.is (omega arith)
+    all_told a.card.now a.text.now (omega arith) c.read_list.ensures c.in-Some.is (omega arith)

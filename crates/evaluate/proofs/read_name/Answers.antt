@@ -1,5 +1,4 @@
 use native.Mathlib.Omega.{arith}
-use borrow.Author.Tests.{not-true, not-false}
 use Rattle.evaluate.proofs.Names.{no_word_left, not-a-name, is-a-name}
 use Rattle.evaluate.proofs.read_name.Goals as goal
 

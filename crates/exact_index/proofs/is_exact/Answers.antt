@@ -15,14 +15,14 @@ loop-n-init c =
     let a = c.args in
     let both = joined a.end.0 a.log.now a.waiting.now in
     let e = sectors-joined a.end.0 a.log.now a.waiting.now c.requires in
-    (omega arith, refl, ap (λ (m : ℕ). all_lead both a.index.now (found_from (sound both) (m - 0) 0)) (sym e) ∙ pass_starts both a.index.now)
+    (refl, ap (λ (m : ℕ). all_lead both a.index.now (found_from (sound both) (m - 0) 0)) (sym e) ∙ pass_starts both a.index.now)
 
 pub returns-then-not-leads_at : goal.returns-then-not-leads_at
 returns-then-not-leads_at c = let args = c.args in
     let l = c.loop-n in
     let a = args in
     let both = joined a.end.0 a.log.now a.waiting.now in
-    pass_fails both a.index.now l.n _ c.loop-n-test.true _ c.leads_at.ensures l.invariant.2 c.if-not-leads_at.true
+    pass_fails both a.index.now l.n _ c.loop-n-test.true _ c.leads_at.ensures l.invariant.1 c.if-not-leads_at.true
 
 pub loop-n-preserved : goal.loop-n-preserved
 loop-n-preserved c = let args = c.args in
@@ -30,13 +30,12 @@ loop-n-preserved c = let args = c.args in
     let loop-test = c.loop-n-test in
     let a = args in
     let both = joined a.end.0 a.log.now a.waiting.now in (
-      omega (arith, loop-test.true),
-      l.invariant.1,
-      pass_on both a.index.now l.n _ loop-test.true _ c.leads_at.ensures l.invariant.2 c.if-not-leads_at.false,
+      l.invariant.0,
+      pass_on both a.index.now l.n _ loop-test.true _ c.leads_at.ensures l.invariant.1 c.if-not-leads_at.false,
     )
 
 pub returns : goal.returns
 returns c =
     let a = c.args in
     let both = joined a.end.0 a.log.now a.waiting.now in
-    pass_ends both a.index.now c.loop-n.n _ c.loop-n-test.false c.loop-n.invariant.2
+    pass_ends both a.index.now c.loop-n.n _ c.loop-n-test.false c.loop-n.invariant.1

@@ -14,8 +14,4 @@ use Rattle.exact_index.proofs.is_exact.Given as goal
 abbrev pub invariant-loop-n : goal.invariant-loop-n
 invariant-loop-n l =
     let both = joined l.end.0 l.log l.waiting in
-    (l.n ≤ l.count) × (l.count ≡ l.end.0 + sectors (length l.waiting)) × (all_lead both l.index (found_from (sound both) (l.count - l.n) l.n) ≡ exactly both l.index)
-
-abbrev pub decreases-loop-n : goal.decreases-loop-n
-decreases-loop-n l =
-    l.count - l.n
+    (l.count ≡ l.end.0 + sectors (length l.waiting)) × (all_lead both l.index (found_from (sound both) (l.count - l.n) l.n) ≡ exactly both l.index)

@@ -11,7 +11,7 @@ pub leads_from-requires : goal.leads_from-requires
 leads_from-requires c =
     let a = c.args in
     let both = joined a.end.0 a.log.now a.waiting.now in
-    let f = label_facts both a.index.now a.n.0 _ c.sound_at-place.ensures _ c.in-At.is _ c.sector_at-s.ensures in
+    let f = label_facts both a.index.now a.n.0 _ c.sound_at-place.ensures _ c.in-Some.is _ c.sector_at-s.ensures in
     (c.requires.0, f.0, f.1, f.2, f.3)
 
 pub returns : goal.returns
@@ -19,4 +19,4 @@ returns c = let args = c.args in
     let sound-at = c.sound_at-place in
     let a = args in
     let both = joined a.end.0 a.log.now a.waiting.now in
-    leads-there both a.index.now a.n.0 _ sound-at.ensures _ c.in-At.is _ c.sector_at-s.ensures _ c.leads_from.ensures
+    leads-there both a.index.now a.n.0 _ sound-at.ensures _ c.in-Some.is _ c.sector_at-s.ensures _ c.leads_from.ensures

@@ -1,6 +1,6 @@
 use mathlib.Core.Path.{ap, ◌∙◌}
 use native.Mathlib.Omega.{arith}
-use Rattle.word.specs.Hex.{is_hex, hex_value, read_bytes}
+use Rattle.hexadecimal.specs.Hex.{is_hex, hex_value, read_bytes}
 use Rattle.sector.proofs.Dates.{front-most}
 use Rattle.block.specs.Log.{joined}
 use Rattle.rebuild.proofs.Turns.{kind_part, kind_fits, score_part, score-read}
@@ -63,4 +63,4 @@ returns c =
     let kind = c.read_kind-kind.ensures ∙ ap hex_value (kind_part a.s.now _ c.front_length-k.ensures) in
     let score = score-read _ _ _ _ (ap is_hex digits ∙ c.requires.3) c.read_hex_bytes.ensures ∙ ap read_bytes digits in
     found_at (joined a.end.0 a.log.now a.waiting.now) a.index.now a.n.0 _ _ _ _ _ c.find_hint-place.ensures kind score
-    _ c.in-At.is
+    _ c.in-Some.is

@@ -13,8 +13,8 @@ pub overflow_sub-e : goal.overflow_sub-e
 overflow_sub-e c =
     omega (arith, mod-lt c.args.offset c.requires.1.dsize-from)
 
-pub slice_bounds-read_part-end-in-Found : goal.slice_bounds-read_part-end-in-Found
-slice_bounds-read_part-end-in-Found c =
+pub slice_bounds-read_part-end-in-Ok : goal.slice_bounds-read_part-end-in-Ok
+slice_bounds-read_part-end-in-Ok c =
     let n = c.lesser-n in
     let d = c.args.d.now in
     sym (length-take-le n.result d (omega (arith, n.ensures)))
@@ -25,27 +25,27 @@ read_part-requires c =
     let descend = c.descend-look in
     let short : n.result ≤ length c.args.d.now = omega (arith, n.ensures) in (
       c.requires.0,
-      found_inside descend.result _ descend.ensures.room c.in-Found.is,
+      found_inside descend.result _ descend.ensures.room c.in-Ok.is,
       omega (arith, length-take-le n.result c.args.d.now short, n.ensures, mod-lt c.args.offset c.requires.1.dsize-from, c.requires.1.dsize-to),
     )
 
-pub returns-in-Found : goal.returns-in-Found
-returns-in-Found c =
+pub returns-in-Ok : goal.returns-in-Ok
+returns-in-Ok c =
     let read-part = c.read_part in
     let n = c.lesser-n in
     let descend = c.descend-look in
     let a = c.args in
     let log = joined a.end.0 a.log.now a.waiting.now in
-    let b = c.in-Found.b in
-    let room = inside_both a.end.0 a.log.now a.waiting.now c.requires.0 b (found_inside descend.result _ descend.ensures.room c.in-Found.is) in
+    let b = c.in-Ok.b in
+    let room = inside_both a.end.0 a.log.now a.waiting.now c.requires.0 b (found_inside descend.result _ descend.ensures.room c.in-Ok.is) in
     let short : n.result ≤ length a.d.now = omega (arith, n.ensures) in
-    leaf-written log a.e a.top.now a.offset a.d.now c.requires.1.dsize-from c.requires.3 descend.result descend.ensures.run b c.in-Found.is room
+    leaf-written log a.e a.top.now a.offset a.d.now c.requires.1.dsize-from c.requires.3 descend.result descend.ensures.run b c.in-Ok.is room
     n.result n.ensures _
     (read-part.ensures ∙ ap (λ (x : ℕ). filled x (drop (a.offset % a.e.dsize) (bytes_of log b))) (length-take-le n.result a.d.now short))
 
-pub returns-in-Refused : goal.returns-in-Refused
-returns-in-Refused c =
+pub returns-in-Err : goal.returns-in-Err
+returns-in-Err c =
     let descend = c.descend-look in
     let a = c.args in
     leaf-missing (joined a.end.0 a.log.now a.waiting.now) a.e a.top.now a.offset a.d.now c.requires.1.dsize-from c.requires.3
-    descend.result descend.ensures.run _ c.in-Refused.is
+    descend.result descend.ensures.run _ c.in-Err.is

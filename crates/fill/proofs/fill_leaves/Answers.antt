@@ -63,7 +63,7 @@ loop-done-smaller c =
     let T =
     turn (joined a.end.0 a.log.now a.waiting.now) a.e a.top.now a.offset _ a.d.now _ _ _ _ c.requires.1 c.lesser-count.ensures c.loop-done.invariant
     c.loop-done-test.true c.fill_leaf-leaf.ensures in
-    omega (arith, c.loop-done-test.true, T.some c.in-Done.is)
+    omega (arith, c.loop-done-test.true, T.some c.in-Ok.is)
 
 pub loop-done-preserved : goal.loop-done-preserved
 loop-done-preserved c =
@@ -71,7 +71,7 @@ loop-done-preserved c =
     let T =
     turn (joined a.end.0 a.log.now a.waiting.now) a.e a.top.now a.offset _ a.d.now _ _ _ _ c.requires.1 c.lesser-count.ensures c.loop-done.invariant
     c.loop-done-test.true c.fill_leaf-leaf.ensures in
-    T.goes_on c.in-Done.is
+    T.goes_on c.in-Ok.is
 
 pub shape_of-d-in_default : goal.shape_of-d-in_default
 shape_of-d-in_default c =

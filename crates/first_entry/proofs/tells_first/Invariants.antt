@@ -7,7 +7,4 @@ use Rattle.first_entry.proofs.tells_first.Given as goal
 
 -- `first_entry::tells_first` meets its contract: what the first of the entries that are left tells is what the first of all tells.
 abbrev pub invariant-loop-p : goal.invariant-loop-p
-invariant-loop-p l = (l.p ≤ l.b.to) × (tells_from l.index l.kind l.score l.n.0 (l.b.to - l.p) l.p ≡ tells l.index l.kind l.score l.n.0)
-
-abbrev pub decreases-loop-p : goal.decreases-loop-p
-decreases-loop-p l = l.b.to - l.p
+invariant-loop-p l = tells_from l.index l.kind l.score l.n.0 (l.to - l.p) l.p ≡ tells l.index l.kind l.score l.n.0

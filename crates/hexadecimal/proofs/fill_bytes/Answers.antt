@@ -1,14 +1,12 @@
-use mathlib.Core.Path.{◌≡◌, refl}
-use mathlib.Core.List.{◌++◌}
-use Prim.Native.Nat.{◌≤◌, ◌+◌, ◌*◌, ◌-◌}
+use mathlib.Core.Path.{refl}
+use Prim.Native.Nat.{◌+◌, ◌*◌}
 use native.Mathlib.Omega.{arith}
-use lib.ListN.{length, take, drop, length-set}
 use Rattle.hexadecimal.specs.Hex.{read_bytes}
 use Rattle.hexadecimal.proofs.Turns.{hex-at, pairs_turn, front-end}
 use Rattle.hexadecimal.proofs.fill_bytes.Goals as goal
 
 pub loop-i-init : goal.loop-i-init
-loop-i-init c = (omega arith, refl, refl)
+loop-i-init c = refl
 
 pub overflow_mul-d : goal.overflow_mul-d
 overflow_mul-d c =
@@ -22,18 +20,12 @@ overflow_add-d c =
     let low = hex-at c.args.s.now (2 * i + 1) c.requires.1 (omega arith) in
     omega (arith, c.char_digit.ensures, c.char_digit-in-loop-i.ensures, high, low)
 
-pub loop-i-smaller : goal.loop-i-smaller
-loop-i-smaller c = simp length-set (omega arith)
-
 pub loop-i-preserved : goal.loop-i-preserved
 loop-i-preserved c =
-    let l = c.loop-i in (
-      simp length-set (omega arith),
-      simp length-set l.invariant.1,
-      rw (c.char_digit.ensures, c.char_digit-in-loop-i.ensures)
-          (pairs_turn _ _ _ l.i (omega arith) c.loop-i-test.true l.invariant.2),
-    )
+    let l = c.loop-i in
+    rw (c.char_digit.ensures, c.char_digit-in-loop-i.ensures)
+    (pairs_turn _ _ _ l.i (omega arith) (omega arith) l.invariant)
 
 pub returns : goal.returns
 unfolding read_bytes
-returns c = let l = c.loop-i in front-end read_bytes refl _ _ _ l.i (2 * l.i) c.loop-i-test.false (omega arith) l.invariant.2
+returns c = let l = c.loop-i in front-end read_bytes refl _ _ _ l.i (2 * l.i) (omega arith) (omega arith) l.invariant

@@ -1,25 +1,15 @@
-use mathlib.Core.Path.{◌≡◌, refl, sym, ap, ◌∙◌}
-use Prim.Native.Nat.{◌≤◌, ◌-◌}
-use native.Mathlib.Omega.{arith}
-use lib.ListN.{length, drop, drop_of_length-le}
-use Rattle.hexadecimal.specs.Hex.{is_hex}
-use Rattle.hexadecimal.proofs.Turns.{hex-bad, hex_turn}
+use mathlib.Core.Path.{◌∙◌}
+use lib.Dec.{ltb}
+use borrow.Author.Tests.{tests}
+use Rattle.std.proofs.Common.{rules}
+use Rattle.std.proofs.lemmas.Iterator.{YieldsList-from_slice}
+use Rattle.std.proofs.lemmas.Iterator.Search.{all_from_yields_List}
+use Rattle.hexadecimal.specs.Hex.{char_digit}
+use Rattle.hexadecimal.proofs.Turns.{hex-all}
 use Rattle.hexadecimal.proofs.is_hex.Goals as goal
 
-pub loop-i-init : goal.loop-i-init
-loop-i-init c = (omega arith, refl)
-
-pub returns-then-char_digit-gt15 : goal.returns-then-char_digit-gt15
-returns-then-char_digit-gt15 c =
-    let l = c.loop-i in
-    sym (hex-bad _ l.i c.loop-i-test.true (omega (arith, c.char_digit.ensures))) ∙ l.invariant.1
-
-pub loop-i-preserved : goal.loop-i-preserved
-loop-i-preserved c =
-    let l = c.loop-i in (
-      omega arith,
-      hex_turn _ l.i c.loop-i-test.true (omega (arith, c.char_digit.ensures)) ∙ l.invariant.1,
-    )
-
+-- `hexadecimal::is_hex` meets its contract: the test of each character. Assumes nothing.
 pub returns : goal.returns
-returns c = let l = c.loop-i in ap is_hex (sym (drop_of_length-le _ c.loop-i-test.false)) ∙ l.invariant.1
+returns c =
+    all_from_yields_List (λ x. ltb (char_digit x) 16) _ _ _ c.all.ensures.ran (YieldsList-from_slice c.args.s.now cc) (λ x b q k. search (rules, tests))
+    ∙ hex-all c.args.s.now

@@ -1,5 +1,4 @@
 use mathlib.Core.Path.{sym, ◌∙◌}
-use borrow.Author.Tests.{not-true, not-false}
 use Rattle.hexadecimal.proofs.Turns.{reading-bad, reading-good}
 use Rattle.hexadecimal.proofs.read_hex_bytes.Goals as goal
 

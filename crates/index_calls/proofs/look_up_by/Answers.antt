@@ -1,6 +1,6 @@
 use mathlib.Core.Path.{ap, ◌∙◌}
-use Rattle.results.specs.Hints.{look_result}
-use Rattle.results.proofs.HintLaws.{asked-small}
+use Rattle.index_calls.specs.Hints.{look_result}
+use Rattle.index_calls.proofs.HintLaws.{asked-small}
 use Rattle.index_calls.proofs.look_up_by.Goals as goal
 
 pub look_result-requires : goal.look_result-requires

@@ -1,4 +1,4 @@
-use Rattle.results.proofs.HintLaws.{rebuilt_so}
+use Rattle.index_calls.proofs.HintLaws.{rebuilt_so}
 use Rattle.index_calls.proofs.rebuild.Goals as goal
 
 pub returns : goal.returns

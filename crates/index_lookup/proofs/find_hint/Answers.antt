@@ -1,4 +1,4 @@
-use mathlib.Core.Path.{◌≡◌, ap, ◌∙◌}
+use mathlib.Core.Path.{◌≡◌, sym, ap, ◌∙◌}
 use Prim.Native.Nat.{◌-◌, ◌≤◌}
 use native.Mathlib.Omega.{arith}
 use Rattle.block.specs.Log.{joined}
@@ -12,10 +12,10 @@ loop-p-init c =
     let a = c.args in
     let log = joined a.end.0 a.log.now a.waiting.now in
     let b = c.bucket_of-b in
-    (omega (arith, b.ensures.within.0), hint-starts log a.index.now a.kind a.score.now b.result b.ensures.places)
+    hint-starts log a.index.now a.kind a.score.now b.result b.ensures.places
 
-pub returns-in_default : goal.returns-in_default
-returns-in_default c = let args = c.args in
+pub returns-in-Some : goal.returns-in-Some
+returns-in-Some c = let args = c.args in
     let bucket-of = c.bucket_of-b in
     let if1 = c.loop-p-test in
     let turn = c.loop-p in
@@ -23,7 +23,7 @@ returns-in_default c = let args = c.args in
     let log = joined a.end.0 a.log.now a.waiting.now in
     let l = turn in
     let f = true_at log a.index.now a.kind a.score.now in
-    found_here f l.p bucket-of.result.to if1.true _ c.true_at-place.ensures _ c.in_default.is ∙ ap placed l.invariant.1
+    sym c.in-Some.is ∙ found_here f l.p bucket-of.result.to if1.true _ c.true_at-place.ensures _ c.in-Some.is ∙ ap placed l.invariant
 
 pub loop-p-preserved : goal.loop-p-preserved
 loop-p-preserved c = let args = c.args in
@@ -34,7 +34,7 @@ loop-p-preserved c = let args = c.args in
     let log = joined a.end.0 a.log.now a.waiting.now in
     let l = turn in
     let f = true_at log a.index.now a.kind a.score.now in
-    (omega (arith, if1.true), found-next f l.p bucket-of.result.to if1.true _ c.true_at-place.ensures c.in-Nowhere.is ∙ l.invariant.1)
+    found-next f l.p bucket-of.result.to if1.true _ c.true_at-place.ensures c.in_default.is ∙ l.invariant
 
 pub returns : goal.returns
 returns c =
@@ -42,4 +42,4 @@ returns c =
     let log = joined a.end.0 a.log.now a.waiting.now in
     let l = c.loop-p in
     let f = true_at log a.index.now a.kind a.score.now in
-    found_nowhere f l.p c.bucket_of-b.result.to c.loop-p-test.false ∙ ap placed l.invariant.1
+    found_nowhere f l.p c.bucket_of-b.result.to c.loop-p-test.false ∙ ap placed l.invariant

@@ -11,7 +11,4 @@ use Rattle.index_lookup.proofs.find_hint.Given as goal
 abbrev pub invariant-loop-p : goal.invariant-loop-p
 invariant-loop-p l =
     let both = joined l.end.0 l.log l.waiting in
-    (l.p ≤ l.b.to) × (first_found (true_at both l.index l.kind l.score) (l.b.to - l.p) l.p ≡ hint both l.index l.kind l.score)
-
-abbrev pub decreases-loop-p : goal.decreases-loop-p
-decreases-loop-p l = l.b.to - l.p
+    first_found (true_at both l.index l.kind l.score) (l.to - l.p) l.p ≡ hint both l.index l.kind l.score

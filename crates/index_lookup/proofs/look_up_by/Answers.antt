@@ -12,4 +12,4 @@ pub returns : goal.returns
 returns c =
     let a = c.args in
     let log = joined a.end.0 a.log.now a.waiting.now in
-    answer-some log a.index.now a.kind a.score.now _ _ c.find_held_by-place.ensures c.in-At.is
+    answer-some log a.index.now a.kind a.score.now _ _ c.find_held_by-place.ensures c.in-Some.is

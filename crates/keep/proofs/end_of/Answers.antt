@@ -1,5 +1,5 @@
 use Rattle.keep.proofs.end_of.Goals as goal
 
 -- `keep::end_of` meets its contract: by what the store did.
-pub returns-in-Refused : goal.returns-in-Refused
-returns-in-Refused c = rw c.in-Refused.is
+pub returns-in-Err : goal.returns-in-Err
+returns-in-Err c = rw c.in-Err.is

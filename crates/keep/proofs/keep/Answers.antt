@@ -11,4 +11,4 @@ returns-in_default c =
 pub returns : goal.returns
 returns c =
     let a = c.args in
-    record { count = refl; exact = below-done a.second.now a.date.now a.kind _ a.below c.in-Done.is _ _ c.store_block-stored.ensures }
+    record { count = refl; exact = below-done a.second.now a.date.now a.kind _ a.below c.in-Ok.is _ _ c.store_block-stored.ensures }

@@ -1,17 +1,21 @@
 use native.Mathlib.Omega.{arith}
-use borrow.Author.Tests.{le-leb, lt-leb, ne_eqb}
+use borrow.Author.Tests.{le-leb, lt-leb, eq-eqb, ne_eqb}
 use Rattle.kind.specs.Kind.{lawful}
 use Rattle.kind.proofs.is_lawful.Goals as goal
 
--- `kind::is_lawful` meets its contract: each return knows its tests.
-pub returns-then-kind-lt1 : goal.returns-then-kind-lt1
+-- `kind::is_lawful` meets its contract: a case for each range.
+pub returns-in_default : goal.returns-in_default
 unfolding lawful
-returns-then-kind-lt1 c = let k = c.args.kind in rw (lt-leb 1 k c.if-kind-lt1.true, ne_eqb k 13 (λ e. omega arith))
+returns-in_default c = let k = c.args.kind in rw (lt-leb 1 k (omega arith), ne_eqb k 13 (λ e. omega arith))
 
-pub returns-then-kind-le9 : goal.returns-then-kind-le9
+pub returns-in_default-2 : goal.returns-in_default-2
 unfolding lawful
-returns-then-kind-le9 c = let k = c.args.kind in rw (le-leb 1 k c.if-kind-lt1.false, le-leb k 9 c.if-kind-le9.true)
+returns-in_default-2 c = let k = c.args.kind in rw (le-leb 1 k (omega arith), lt-leb k 9 (omega arith), ne_eqb k 13 (λ e. omega arith))
 
-pub returns : goal.returns
+pub returns-in-1-to-9 : goal.returns-in-1-to-9
 unfolding lawful
-returns c = let k = c.args.kind in rw (le-leb 1 k c.if-kind-lt1.false, lt-leb k 9 c.if-kind-le9.false)
+returns-in-1-to-9 c = let k = c.args.kind in rw (le-leb 1 k (omega arith), lt-leb k 9 (omega arith), eq-eqb k 13 (omega arith))
+
+pub returns-in-1-to-9-2 : goal.returns-in-1-to-9-2
+unfolding lawful
+returns-in-1-to-9-2 c = let k = c.args.kind in rw (le-leb 1 k (omega arith), le-leb k 9 (omega arith))

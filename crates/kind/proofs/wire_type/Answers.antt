@@ -1,36 +1,31 @@
-use borrow.Author.Tests.{le-leb, lt-leb, eq-eqb, ne_eqb}
+use native.Mathlib.Omega.{arith}
+use borrow.Author.Tests.{le-leb, lt-leb, ne_eqb}
 use Rattle.kind.specs.Kind.{wire_type}
 use Rattle.kind.proofs.wire_type.Goals as goal
 
--- `kind::wire_type` meets its contract: each return knows its tests.
-pub returns-then-e-eq0 : goal.returns-then-e-eq0
+-- `kind::wire_type` meets its contract: a case for each arm.
+pub returns-in-0 : goal.returns-in-0
 unfolding wire_type
-returns-then-e-eq0 c = let e = c.args.e in rw (eq-eqb e 0 c.if-e-eq0.true)
+returns-in-0 c = rw c.in-0.is
 
-pub returns-then-e-le7 : goal.returns-then-e-le7
+pub returns-in-8 : goal.returns-in-8
 unfolding wire_type
-returns-then-e-le7 c = let e = c.args.e in rw (ne_eqb e 0 c.if-e-eq0.false, le-leb e 7 c.if-e-le7.true)
+returns-in-8 c = rw c.in-8.is
 
-pub returns-then-e-eq8 : goal.returns-then-e-eq8
+pub returns-in-16 : goal.returns-in-16
 unfolding wire_type
-returns-then-e-eq8 c = let e = c.args.e in rw (ne_eqb e 0 c.if-e-eq0.false, lt-leb e 7 c.if-e-le7.false, eq-eqb e 8 c.if-e-eq8.true)
+returns-in-16 c = rw c.in-16.is
 
-pub returns-then-e-le15 : goal.returns-then-e-le15
+pub returns-in-1-to-7 : goal.returns-in-1-to-7
 unfolding wire_type
-returns-then-e-le15 c = let a = c.args in
-    let if1 = c.if-e-eq0 in
-    let e = a.e in rw (ne_eqb e 0 if1.false, lt-leb e 7 c.if-e-le7.false, ne_eqb e 8 c.if-e-eq8.false, le-leb e 15 c.if-e-le15.true)
+returns-in-1-to-7 c = let e = c.args.e in rw (ne_eqb e 0 (λ z. omega arith), le-leb e 7 (omega arith))
 
-pub returns-then-e-eq16 : goal.returns-then-e-eq16
+pub returns-in-9-to-15 : goal.returns-in-9-to-15
 unfolding wire_type
-returns-then-e-eq16 c = let a = c.args in
-    let if1 = c.if-e-eq0 in
-    let if2 = c.if-e-le7 in
-    let e = a.e in rw (ne_eqb e 0 if1.false, lt-leb e 7 if2.false, ne_eqb e 8 c.if-e-eq8.false, lt-leb e 15 c.if-e-le15.false, eq-eqb e 16 c.if-e-eq16.true)
+returns-in-9-to-15 c = let e = c.args.e in rw (ne_eqb e 0 (λ z. omega arith), lt-leb e 7 (omega arith), ne_eqb e 8 (λ z. omega arith), le-leb e 15 (omega arith))
 
-pub returns : goal.returns
+pub returns-in_default : goal.returns-in_default
 unfolding wire_type
-returns c = let a = c.args in
-    let if1 = c.if-e-eq0 in
-    let if2 = c.if-e-le7 in
-    let e = a.e in rw (ne_eqb e 0 if1.false, lt-leb e 7 if2.false, ne_eqb e 8 c.if-e-eq8.false, lt-leb e 15 c.if-e-le15.false, ne_eqb e 16 c.if-e-eq16.false)
+returns-in_default c =
+    let e = c.args.e in
+    rw (ne_eqb e 0 (λ z. omega arith), lt-leb e 7 (omega arith), ne_eqb e 8 (λ z. omega arith), lt-leb e 15 (omega arith), ne_eqb e 16 (λ z. omega arith))

@@ -8,8 +8,8 @@ returns-in_default c =
 pub returns-then-n : goal.returns-then-n
 returns-then-n c =
     let if1 = c.if-n in
-    greatest_number _ _ c.in-At.is if1.true
+    greatest_number _ _ c.in-Some.is if1.true
 
 pub returns : goal.returns
 returns c =
-    at-number _ _ c.in-At.is
+    at-number _ _ c.in-Some.is

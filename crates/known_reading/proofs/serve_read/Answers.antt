@@ -62,7 +62,7 @@ returns-then-count-b c =
     let a = c.args in
     read_as a.known a.message.now a.index.now a.log.now a.waiting.now a.reply.now _ a.kind a.count _ _ tag_of.ensures score-of.ensures
     (read-over a.known a.kind a.count _ _ a.index.now a.log.now a.waiting.now a.reply.now _ _ is_lawful.ensures if1.false
-    _ find-known.ensures _ c.in-At.is if2.true (refuse3.ensures _ _))
+    _ find-known.ensures _ c.in-Some.is if2.true (refuse3.ensures _ _))
 
 pub answer_read-requires : goal.answer_read-requires
 answer_read-requires c =
@@ -71,7 +71,7 @@ answer_read-requires c =
     let a = c.args in
     let s = score-of.result.now in
     let b = belongs-within a.known (length a.log.now) (length a.waiting.now) c.requires.0 in
-    let f = known-found a.known a.log.now a.waiting.now a.index.now a.kind s find-known.ensures c.in-At.is in (
+    let f = known-found a.known a.log.now a.waiting.now a.index.now a.kind s find-known.ensures c.in-Some.is in (
       b.0,
       found_within f _ (sectors-joined a.known.used.0 a.log.now a.waiting.now b.0),
       found-most f,
@@ -90,4 +90,4 @@ returns c =
     let a = c.args in
     read_as a.known a.message.now a.index.now a.log.now a.waiting.now a.reply.now _ a.kind a.count _ _ tag_of.ensures score-of.ensures
     (read-granted a.known a.kind a.count _ _ a.index.now a.log.now a.waiting.now a.reply.now _ _ is_lawful.ensures if1.false
-    _ find-known.ensures _ c.in-At.is if2.false answer-read.ensures)
+    _ find-known.ensures _ c.in-Some.is if2.false answer-read.ensures)

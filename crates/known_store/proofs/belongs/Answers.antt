@@ -26,4 +26,4 @@ returns c =
     let if1 = c.if-log-used in
     let if2 = c.if-waiting-waits in
     let a = c.args in
-    belongs-doubtful a.known a.log a.waiting (omega (arith, if1.false)) (omega (arith, if2.false)) _ c.in-At.is
+    belongs-doubtful a.known a.log a.waiting (omega (arith, if1.false)) (omega (arith, if2.false)) _ c.in-Some.is

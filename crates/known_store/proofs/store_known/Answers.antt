@@ -40,7 +40,7 @@ compare-stored-requires c =
     let find-owner = c.find_owner-place in
     let b = belongs-within a.known (length a.log.now) (length a.waiting.now) q.0 in (
       b.0,
-      found_within (owner-found a.known a.log.now a.waiting.now a.index.now a.kind _ find-owner.ensures c.in-At.is) _
+      found_within (owner-found a.known a.log.now a.waiting.now a.index.now a.kind _ find-owner.ensures c.in-Some.is) _
           (sectors-joined a.known.used.0 a.log.now a.waiting.now b.0),
     )
 
@@ -51,4 +51,4 @@ returns c =
     let find-owner = c.find_owner-place in
     let compare = c.compare-stored in
     store_found a.known a.log.now a.waiting.now a.index.now a.date.now a.kind (a.«data»).now _ _ _ sha1.ensures find-owner.ensures _
-    c.in-At.is (compare.ensures (beside a.log.now a.waiting.now))
+    c.in-Some.is (compare.ensures (beside a.log.now a.waiting.now))

@@ -7,6 +7,7 @@ use Rattle.leaf.specs.declared.Extent.TheVariants.{Stored}
 use Rattle.leaf.proofs.Places.{place-before}
 use Rattle.leaf.proofs.Steps.{leaf-past, leaf_in}
 use Rattle.leaf.proofs.leaf_run.Goals as goal
+use Rattle.std.specs.Prelude.{Ok}
 
 pub returns-then-b-k : goal.returns-then-b-k
 returns-then-b-k c =
@@ -32,5 +33,5 @@ returns c =
     let payload-of = c.payload_of-p in
     let IsPlace-in = c.place_in in
     let k = a.offset % a.e.dsize in
-    ap₂ Stored IsPlace-in.ensures (c.least.ensures ∙ ap (λ (p : ℕ). min (p - k % p) (min (a.b.size - k) (a.e.size - a.offset))) payload-of.ensures)
+    ap₂ (λ (x y : ℕ). Ok (Stored x y)) IsPlace-in.ensures (c.least.ensures ∙ ap (λ (p : ℕ). min (p - k % p) (min (a.b.size - k) (a.e.size - a.offset))) payload-of.ensures)
     ∙ leaf_in a.page a.e a.offset a.b if1.false

@@ -10,4 +10,4 @@ returns-in_default c = let a = c.args in
 pub returns : goal.returns
 returns c = let a = c.args in
     let find-held = c.find_held-place in
-    look_some (joined a.end.0 a.log.now a.waiting.now) a.kind a.score.now _ _ find-held.ensures (c.in-At.is)
+    look_some (joined a.end.0 a.log.now a.waiting.now) a.kind a.score.now _ _ find-held.ensures (c.in-Some.is)

@@ -2,10 +2,10 @@ use mathlib.Core.Path.{sym, ap, ◌∙◌}
 use Rattle.sector_log.specs.LookUp.{look_number}
 use Rattle.lookup.proofs.number.Goals as goal
 
-pub returns-in-Found : goal.returns-in-Found
-returns-in-Found c =
-    sym (ap look_number (c.in-Found.is))
+pub returns-in-Ok : goal.returns-in-Ok
+returns-in-Ok c =
+    sym (ap look_number (c.in-Ok.is))
 
-pub returns-in-Refused : goal.returns-in-Refused
-returns-in-Refused c =
-    c.number.ensures ∙ sym (ap look_number (c.in-Refused.is))
+pub returns-in-Err : goal.returns-in-Err
+returns-in-Err c =
+    c.number.ensures ∙ sym (ap look_number (c.in-Err.is))

@@ -1,4 +1,3 @@
-use borrow.Author.Tests.{not-true, not-false}
 use Rattle.message.proofs.Returns.{read-ill, read-padded, read-good}
 use Rattle.message.proofs.read_of.Goals as goal
 

@@ -1,4 +1,3 @@
-use borrow.Author.Tests.{not-true, not-false}
 use Rattle.message.proofs.Returns.{write-ill, write-padded, write-good}
 use Rattle.message.proofs.write_of.Goals as goal
 

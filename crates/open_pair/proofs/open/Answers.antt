@@ -25,27 +25,27 @@ returns-then-left-eq0 c =
     ∙ nothing_left (joined a.end.0 a.log.now a.waiting.now) a.e a.level a.nest a.s.now a.t.now a.left (sym c.equal.ensures ∙ c.if-equal.false)
     c.if-nest-gt16.false c.if-left-eq0.true f h
 
-pub returns-in-Refused : goal.returns-in-Refused
-returns-in-Refused c =
+pub returns-in-Err : goal.returns-in-Err
+returns-in-Err c =
     let a = c.args in
-    λ f h. c.one_unit-in-Refused.ensures ∙ ap one_unit c.refused-in-Refused.ensures
+    λ f h. c.one_unit-in-Err.ensures ∙ ap one_unit c.refused-in-Err.ensures
     ∙ first-not-read (joined a.end.0 a.log.now a.waiting.now) a.e a.level a.nest a.s.now a.t.now a.left (sym c.equal.ensures ∙ c.if-equal.false)
-    c.if-nest-gt16.false c.if-left-eq0.false _ (sym c.read_block-one.ensures ∙ c.in-Refused.is) f h
+    c.if-nest-gt16.false c.if-left-eq0.false _ (sym c.read_block-one.ensures ∙ c.in-Err.is) f h
 
-pub returns-in-Refused-other : goal.returns-in-Refused-other
-returns-in-Refused-other c =
+pub returns-in-Err-other : goal.returns-in-Err-other
+returns-in-Err-other c =
     let a = c.args in
-    let O = found_at _ _ _ _ _ (sym c.read_block-one.ensures ∙ c.in-Found.is) in
-    λ f h. c.one_unit.ensures ∙ ap one_unit c.refused-in-Refused-other.ensures
+    let O = found_at _ _ _ _ _ (sym c.read_block-one.ensures ∙ c.in-Ok.is) in
+    λ f h. c.one_unit.ensures ∙ ap one_unit c.refused-in-Err-other.ensures
     ∙ second-not-read (joined a.end.0 a.log.now a.waiting.now) a.e a.level a.nest a.s.now a.t.now a.left (sym c.equal.ensures ∙ c.if-equal.false)
-    c.if-nest-gt16.false c.if-left-eq0.false O _ (sym c.read_block-other.ensures ∙ c.in-Refused-other.is) f h
+    c.if-nest-gt16.false c.if-left-eq0.false O _ (sym c.read_block-other.ensures ∙ c.in-Err-other.is) f h
 
-pub returns-in-Found-other : goal.returns-in-Found-other
-returns-in-Found-other c =
+pub returns-in-Ok-other : goal.returns-in-Ok-other
+returns-in-Ok-other c =
     let a = c.args in
     let p = c.requires.0 in
-    let O = found_at _ _ _ _ _ (sym c.read_block-one.ensures ∙ c.in-Found.is) in
-    let O' = found_at _ _ _ _ _ (sym c.read_block-other.ensures ∙ c.in-Found-other.is) in (
+    let O = found_at _ _ _ _ _ (sym c.read_block-one.ensures ∙ c.in-Ok.is) in
+    let O' = found_at _ _ _ _ _ (sym c.read_block-other.ensures ∙ c.in-Ok-other.is) in (
       lies a.end.0 a.log.now a.waiting.now p O,
       lies a.end.0 a.log.now a.waiting.now p O',
       c.if-nest-gt16.false,

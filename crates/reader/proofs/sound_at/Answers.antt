@@ -3,12 +3,12 @@ use native.Mathlib.Omega.{arith}
 use borrow.Author.Tests.{not-true, not-false}
 use lib.ListN.{length, take, drop, length-take, length-drop}
 use Rattle.buffer.specs.Bytes.{Bytes}
-use Rattle.word.specs.Hex.{is_hex, read_bytes}
+use Rattle.hexadecimal.specs.Hex.{is_hex, read_bytes}
 use Rattle.sector.specs.Sector.{behind}
 use Rattle.sector.proofs.Dates.{front-most}
 use Rattle.block.specs.Log.{joined, at}
 use Rattle.block.proofs.At.{length_at}
-use Rattle.block_tests.proofs.Digits.{field_at}
+use Rattle.block_tested.proofs.Tests.{field_at}
 use Rattle.reader.proofs.Digits.{number-value, number_lt, unread, bytes_read}
 use Rattle.reader.proofs.Sound.{front-is, front_read, front-taken, no_kind, no_score, sound-read}
 use Rattle.reader.proofs.sound_at.Goals as goal

@@ -42,13 +42,13 @@ answer_read-requires c = let args = c.args in
     let border = border-here in
     let s = score-of.result.now in
     let J = joined border.result.0 a.log.now a.waiting.now in
-    let e = (counted-found a.count (look_up_by J _ a.kind s) _ (sym fetch-by.ensures ∙ c.in-Found.is)).0 in
+    let e = (counted-found a.count (look_up_by J _ a.kind s) _ (sym fetch-by.ensures ∙ c.in-Ok.is)).0 in
     let n = sectors-joined border.result.0 a.log.now a.waiting.now border.ensures.within in
     let found = look_by_found J _ a.kind s _ e in
     (border.ensures.within, found_within found _ n, found-most found, given.1)
 
-pub returns-in-Found : goal.returns-in-Found
-returns-in-Found c = let answer-read = c.answer_read in
+pub returns-in-Ok : goal.returns-in-Ok
+returns-in-Ok c = let answer-read = c.answer_read in
     let args = c.args in
     let border-here = c.border-end in
     let fetch-by = c.fetch_by-look in
@@ -62,10 +62,10 @@ returns-in-Found c = let answer-read = c.answer_read in
     let J = joined border.result.0 a.log.now a.waiting.now in
     read_as a.message.now a.index.now L _ _ tag_of.ensures a.kind a.count _ _ score-of.ensures
     (answer-read.ensures
-    ∙ read_found_lem a.kind a.count _ _ a.index.now L _ _ is_lawful.ensures if1.false J border.ensures.alike _ fetch-by.ensures _ c.in-Found.is)
+    ∙ read_found_lem a.kind a.count _ _ a.index.now L _ _ is_lawful.ensures if1.false J border.ensures.alike _ fetch-by.ensures _ c.in-Ok.is)
 
-pub returns-in-Refused : goal.returns-in-Refused
-returns-in-Refused c = let args = c.args in
+pub returns-in-Err : goal.returns-in-Err
+returns-in-Err c = let args = c.args in
     let border-here = c.border-end in
     let fetch-by = c.fetch_by-look in
     let if1 = c.if-not-is_lawful in
@@ -77,5 +77,5 @@ returns-in-Refused c = let args = c.args in
     let L = beside a.log.now a.waiting.now in
     let J = joined border.result.0 a.log.now a.waiting.now in
     read_as a.message.now a.index.now L _ _ tag_of.ensures a.kind a.count _ _ score-of.ensures
-    (c.refuse-in-Refused.ensures _ _
-    ∙ read-refused a.kind a.count _ _ a.index.now L _ _ is_lawful.ensures if1.false J border.ensures.alike _ fetch-by.ensures _ c.in-Refused.is)
+    (c.refuse-in-Err.ensures _ _
+    ∙ read-refused a.kind a.count _ _ a.index.now L _ _ is_lawful.ensures if1.false J border.ensures.alike _ fetch-by.ensures _ c.in-Err.is)

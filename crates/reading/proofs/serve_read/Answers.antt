@@ -19,16 +19,16 @@ pub answer_settled-requires : goal.answer_settled-requires
 answer_settled-requires c =
     let a = c.args in
     let w = settled-within a.kind c.score_of-score.result.now a.index.now a.log.now _
-    (c.find_settled-place.ensures _ c.in-At.is) in
+    (c.find_settled-place.ensures _ c.in-Some.is) in
     (w.0, w.1, c.requires.1)
 
-pub returns-in-At : goal.returns-in-At
-returns-in-At c =
+pub returns-in-Some : goal.returns-in-Some
+returns-in-Some c =
     let a = c.args in
     let score = c.score_of-score in
     let tag = c.tag_of in
     let told = c.answer_settled.ensures a.waiting.now in
-    let found = c.find_settled-place.ensures _ c.in-At.is in
+    let found = c.find_settled-place.ensures _ c.in-Some.is in
     read_as a.message.now a.index.now (beside a.log.now a.waiting.now) _ _ tag.ensures a.kind a.count _ _ score.ensures
     (read-settled a.kind score.result.now a.index.now a.log.now _ found a.count _ a.waiting.now _ _ c.is_lawful.ensures
     c.if-is_lawful.true _ told)

@@ -12,10 +12,6 @@ use Rattle.rebuild.proofs.enter_all.Given as goal
 -- `rebuild::enter_all` meets its contract: what is left to be entered, entered, gives the whole.
 abbrev pub invariant-loop-n : goal.invariant-loop-n
 invariant-loop-n l =
-    (l.n ≤ l.count)
-    × (l.count ≡ sectors (length l.log))
+    (l.count ≡ sectors (length l.log))
     × (length l.index ≡ length l.initial.index)
     × (entered_all l.index (found_from (sound l.log) (l.count - l.n) l.n) ≡ entered_all l.initial.index (blocks l.log))
-
-abbrev pub decreases-loop-n : goal.decreases-loop-n
-decreases-loop-n l = l.count - l.n

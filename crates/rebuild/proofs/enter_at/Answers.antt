@@ -9,7 +9,7 @@ returns-in_default c =
 pub enter_label-requires : goal.enter_label-requires
 enter_label-requires c =
     let a = c.args in
-    label_facts a.log.now a.n.0 _ c.sound_at-place.ensures _ c.in-At.is _ c.sector_at.ensures
+    label_facts a.log.now a.n.0 _ c.sound_at-place.ensures _ c.in-Some.is _ c.sector_at.ensures
 
 pub returns : goal.returns
 returns c = let args = c.args in
@@ -17,5 +17,5 @@ returns c = let args = c.args in
     let sector-at = c.sector_at in
     let sound-at = c.sound_at-place in
     let a = args in
-    entered-some a.log.now a.n.0 _ sound-at.ensures _ c.in-At.is _ sector-at.ensures
+    entered-some a.log.now a.n.0 _ sound-at.ensures _ c.in-Some.is _ sector-at.ensures
     a.index.now _ enter-label.ensures

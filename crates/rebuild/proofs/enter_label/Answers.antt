@@ -2,7 +2,7 @@ use mathlib.Core.Path.{ap, ap₂, ◌∙◌}
 use Prim.Native.Nat.{ℕ}
 use native.Mathlib.Omega.{arith}
 use Rattle.buffer.specs.Bytes.{Bytes}
-use Rattle.word.specs.Hex.{is_hex, hex_value, read_bytes}
+use Rattle.hexadecimal.specs.Hex.{is_hex, hex_value, read_bytes}
 use Rattle.sector.proofs.Dates.{front-most}
 use Rattle.index.specs.Index.{entered}
 use Rattle.rebuild.proofs.Turns.{kind_part, kind_fits, score_part, score-read}

@@ -16,4 +16,4 @@ pub returns : goal.returns
 returns c =
     print_report c.args.log.now c.args.d.now _ c.report-told.result (omega
     (arith, c.if-log-gt65024.false)) c.requires c.report-told.ensures
-    _ c.in-Written.is
+    _ c.in-Ok.is

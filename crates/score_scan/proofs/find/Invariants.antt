@@ -5,7 +5,7 @@ use native.Mathlib.Nat.{sub-zero}
 use native.Mathlib.Omega.{arith}
 use lib.ListN.{length}
 use Rattle.bedrock.specs.Places.{found_from}
-use Rattle.word.specs.Hex.{hex_bytes}
+use Rattle.hexadecimal.specs.Hex.{hex_bytes}
 use Rattle.block.specs.Log.{sectors, joined, sound}
 use Rattle.block.proofs.At.{length_at}
 use Rattle.block.proofs.Joined.{sectors-joined}
@@ -18,11 +18,6 @@ use Rattle.score_scan.proofs.find.Given as goal
 abbrev pub invariant-loop-n : goal.invariant-loop-n
 invariant-loop-n l =
     let both = joined l.end.0 l.log l.waiting in
-    (l.n ≤ l.count)
-    × (l.count ≡ sectors (length both))
+    (l.count ≡ sectors (length both))
     × (l.digits ≡ hex_bytes l.score)
     × (first_of l.kind l.score (found_from (sound both) (sectors (length both) - l.n) l.n) ≡ first_of l.kind l.score (blocks both))
-
-abbrev pub decreases-loop-n : goal.decreases-loop-n
-decreases-loop-n l =
-    l.count - l.n

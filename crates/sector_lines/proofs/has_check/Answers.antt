@@ -5,7 +5,7 @@ use lib.ListN.{length, take, drop, length-drop, replicate}
 use lib.Seq.{length-take-le, take_all}
 use Rattle.buffer.specs.Bytes.{same}
 use Rattle.buffer.proofs.Put.{put_whole}
-use Rattle.word.specs.Hex.{hex}
+use Rattle.hexadecimal.specs.Hex.{hex}
 use Rattle.sector.specs.Sector.{line, crc_name, check, fits}
 use Rattle.sector_lines.proofs.has_check.Goals as goal
 

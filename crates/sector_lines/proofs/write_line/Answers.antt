@@ -3,8 +3,8 @@ use Prim.Native.Nat.{◌+◌, ◌-◌}
 use native.Mathlib.Omega.{arith}
 use lib.ListN.{length}
 use Rattle.buffer.proofs.Put.{length-put}
-use Rattle.word.specs.Hex.{hex}
-use Rattle.word.proofs.HexLaws.{hex-length}
+use Rattle.hexadecimal.specs.Hex.{hex}
+use Rattle.hexadecimal.proofs.HexLaws.{hex-length}
 use Rattle.sector_lines.proofs.Written.{digits_part, line-written, line-length}
 use Rattle.sector_lines.proofs.write_line.Goals as goal
 

@@ -1,6 +1,6 @@
 use native.Mathlib.Omega.{arith}
-use Rattle.word.specs.Hex.{hex_bytes}
-use Rattle.word.proofs.HexLaws.{hex_bytes-length}
+use Rattle.hexadecimal.specs.Hex.{hex_bytes}
+use Rattle.hexadecimal.proofs.HexLaws.{hex_bytes-length}
 use Rattle.sector.specs.Sector.{score_name}
 use Rattle.sector_lines.proofs.Written.{line-written, line-length}
 use Rattle.sector_lines.proofs.write_score.Goals as goal

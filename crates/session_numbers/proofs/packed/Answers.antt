@@ -1,5 +1,5 @@
 use native.Mathlib.Omega.{arith}
-use Rattle.results.proofs.ServeLaws.{session-most}
+use Rattle.session_numbers.proofs.ServeLaws.{session-most}
 use Rattle.session_numbers.proofs.packed.Goals as goal
 
 pub overflow_mul-result : goal.overflow_mul-result

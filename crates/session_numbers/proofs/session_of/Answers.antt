@@ -1,4 +1,4 @@
-use Rattle.results.proofs.ServeLaws.{is-fresh, is-greeted, is_closed}
+use Rattle.session_numbers.proofs.ServeLaws.{is-fresh, is-greeted, is_closed}
 use Rattle.session_numbers.proofs.session_of.Goals as goal
 
 pub returns-then-n-eq0 : goal.returns-then-n-eq0

@@ -14,7 +14,7 @@ pub loop-p-init : goal.loop-p-init
 loop-p-init c =
     let a = c.args in
     let b = c.bucket_of-b in
-    (omega (arith, b.ensures.within.0), λ n. tell-starts a.index.now a.kind a.score.now n b.result b.ensures.places)
+    λ n. tell-starts a.index.now a.kind a.score.now n b.result b.ensures.places
 
 pub returns-then-end-first : goal.returns-then-end-first
 returns-then-end-first c =
@@ -28,7 +28,7 @@ returns-then-names c =
     let n = c.sector_at-first.result.0 in
     let more = c.loop-p-test.true in
     let told =
-    tell-here a.index.now a.kind a.score.now n l.p b.result.to more (l.invariant.1 n) _ c.names.ensures n
+    tell-here a.index.now a.kind a.score.now n l.p b.result.to more (l.invariant n) _ c.names.ensures n
     c.if-names.true c.sector_at-first.ensures in
     told-settled a.log.now a.index.now a.kind a.score.now _ c.is_zero_score.ensures c.if-is_zero_score.false n (sym told ∙ eq-eqb n n refl) _ c.sound_as.ensures
 
@@ -38,7 +38,7 @@ loop-p-preserved c =
     let l = c.loop-p in
     let b = c.bucket_of-b in
     let more = c.loop-p-test.true in
-    (omega (arith, more), λ n. tell-next a.index.now a.kind a.score.now n l.p b.result.to more (l.invariant.1 n) _ c.names.ensures c.if-names.false)
+    λ n. tell-next a.index.now a.kind a.score.now n l.p b.result.to more (l.invariant n) _ c.names.ensures c.if-names.false
 
 pub returns : goal.returns
 returns c =
@@ -48,4 +48,4 @@ returns c =
     let ends = c.loop-p-test.false in
     let zero = sym c.is_zero_score.ensures ∙ c.if-is_zero_score.false in
     scanned_settled a.log.now a.index.now a.kind a.score.now zero (λ n. sym (tell_ends a.index.now a.kind a.score.now n l.p b.result.to ends
-    (l.invariant.1 n))) _ c.find_held.ensures
+    (l.invariant n))) _ c.find_held.ensures

@@ -9,7 +9,4 @@ use Rattle.settled_lookup.proofs.find_settled.Given as goal
 
 -- `settled_lookup::find_settled` meets its contract: what the first of the entries that are left tells is what the first of all tells.
 abbrev pub invariant-loop-p : goal.invariant-loop-p
-invariant-loop-p l = (l.p ≤ l.b.to) × ((n : ℕ) → tells_from l.index l.kind l.score n (l.b.to - l.p) l.p ≡ tells l.index l.kind l.score n)
-
-abbrev pub decreases-loop-p : goal.decreases-loop-p
-decreases-loop-p l = l.b.to - l.p
+invariant-loop-p l = (n : ℕ) → tells_from l.index l.kind l.score n (l.to - l.p) l.p ≡ tells l.index l.kind l.score n

@@ -1,4 +1,4 @@
-use Rattle.word.specs.Number.{digits}
+use Rattle.digits.specs.Number.{digits}
 use Rattle.sha1_digest.specs.Sha1.{digest_of}
 use Rattle.sha1_digest.proofs.digest_bytes.Goals as goal
 

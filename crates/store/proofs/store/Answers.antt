@@ -41,7 +41,7 @@ compare-stored-requires c = let args = c.args in
     let a = args in
     let J = joined border.result.0 a.log.now a.waiting.now in (
       border.ensures.within,
-      found_within J a.kind _ _ _ _ find-held.ensures c.in-At.is
+      found_within J a.kind _ _ _ _ find-held.ensures c.in-Some.is
           (sectors-joined border.result.0 a.log.now a.waiting.now border.ensures.within),
     )
 
@@ -51,5 +51,5 @@ returns c =
     let border = c.border-end in
     let a = c.args in
     store_found a.log.now a.waiting.now _ a.kind a.date.now a.«data».now _ _ _ border.ensures.alike c.sha1-score.ensures find-held.ensures _
-    c.in-At.is
+    c.in-Some.is
     (c.compare-stored.ensures (beside a.log.now a.waiting.now))

@@ -1,4 +1,4 @@
-use Rattle.results.proofs.SurveyLaws.{report_short, reported_so}
+use Rattle.survey_calls.proofs.SurveyLaws.{report_short, reported_so}
 use Rattle.survey_calls.proofs.report.Goals as goal
 
 pub report_number-requires : goal.report_number-requires

@@ -1,5 +1,5 @@
 use native.Mathlib.Omega.{arith}
-use Rattle.results.proofs.Fills.{fills_few, filled_so}
+use Rattle.tree_calls.proofs.Fills.{fills_few, filled_so}
 use Rattle.tree_calls.proofs.fill.Goals as goal
 
 pub overflow_mul-result : goal.overflow_mul-result

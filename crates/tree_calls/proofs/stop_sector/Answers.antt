@@ -1,9 +1,9 @@
 use mathlib.Core.Path.{sym, ap, ◌∙◌}
-use Rattle.results.specs.Tree.{stop_sector}
+use Rattle.tree_calls.specs.Tree.{stop_sector}
 use Rattle.tree_calls.proofs.stop_sector.Goals as goal
 
-pub returns-in-Done : goal.returns-in-Done
-returns-in-Done c = sym (ap stop_sector c.in-Done.is)
+pub returns-in-Ok : goal.returns-in-Ok
+returns-in-Ok c = sym (ap stop_sector c.in-Ok.is)
 
-pub returns-in-Refused : goal.returns-in-Refused
-returns-in-Refused c = c.told_sector.ensures ∙ sym (ap stop_sector c.in-Refused.is)
+pub returns-in-Err : goal.returns-in-Err
+returns-in-Err c = c.told_sector.ensures ∙ sym (ap stop_sector c.in-Err.is)

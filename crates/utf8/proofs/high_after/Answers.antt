@@ -1,12 +1,13 @@
 use Rattle.utf8.proofs.Returns.{high_ed, high_f4, high-tail}
+use native.Mathlib.Omega.{arith}
 use Rattle.utf8.proofs.high_after.Goals as goal
 
 -- `utf8::high_after` meets its contract.
-pub returns-then-b-eq237 : goal.returns-then-b-eq237
-returns-then-b-eq237 c = high_ed _ c.if-b-eq237.true
+pub returns-in-237 : goal.returns-in-237
+returns-in-237 c = high_ed _ c.in-237.is
 
-pub returns-then-b-eq244 : goal.returns-then-b-eq244
-returns-then-b-eq244 c = high_f4 _ c.if-b-eq244.true
+pub returns-in-244 : goal.returns-in-244
+returns-in-244 c = high_f4 _ c.in-244.is
 
-pub returns : goal.returns
-returns c = high-tail _ c.if-b-eq237.false c.if-b-eq244.false
+pub returns-in_default : goal.returns-in_default
+returns-in_default c = high-tail _ (λ e. omega arith) (λ e. omega arith)

@@ -14,20 +14,20 @@ returns-in_default c =
 pub root_bytes-root-requires : goal.root_bytes-root-requires
 root_bytes-root-requires c =
     let p = c.requires.0 in
-    let K = found-known _ _ _ _ _ _ _ c.visit-m.ensures _ c.in-Found.is in
+    let K = found-known _ _ _ _ _ _ _ c.visit-m.ensures _ c.in-Ok.is in
     (p, in_both c.args.end.0 c.args.log.now c.args.waiting.now p _ K.in_log)
 
 pub returns-then-not-is_root : goal.returns-then-not-is_root
 returns-then-not-is_root c =
-    ill-formed-root (found-known _ _ _ _ _ _ _ c.visit-m.ensures _ c.in-Found.is) c.root_bytes-root.ensures c.is_root.ensures c.if-not-is_root.true
+    ill-formed-root (found-known _ _ _ _ _ _ _ c.visit-m.ensures _ c.in-Ok.is) c.root_bytes-root.ensures c.is_root.ensures c.if-not-is_root.true
 
 pub overflow_sub-left : goal.overflow_sub-left
 overflow_sub-left c =
-    let K = found-known _ _ _ _ _ _ _ c.visit-m.ensures _ c.in-Found.is in
+    let K = found-known _ _ _ _ _ _ _ c.visit-m.ensures _ c.in-Ok.is in
     omega (arith, K.some_left)
 
 pub returns : goal.returns
 returns c =
     c.one_more.ensures
-    ∙ root-found (found-known _ _ _ _ _ _ _ c.visit-m.ensures _ c.in-Found.is) c.root_bytes-root.ensures c.is_root.ensures c.if-not-is_root.false _
+    ∙ root-found (found-known _ _ _ _ _ _ _ c.visit-m.ensures _ c.in-Ok.is) c.root_bytes-root.ensures c.is_root.ensures c.if-not-is_root.false _
     c.walk_top.ensures.exact

@@ -14,18 +14,18 @@ returns-in_default c =
 
 pub overflow_sub-left : goal.overflow_sub-left
 overflow_sub-left c =
-    let K = found-known _ _ _ _ _ _ _ c.visit-m.ensures _ c.in-Found.is in
+    let K = found-known _ _ _ _ _ _ _ c.visit-m.ensures _ c.in-Ok.is in
     omega (arith, K.some_left)
 
 pub visit_directory-requires : goal.visit_directory-requires
 visit_directory-requires c =
-    let K = found-known _ _ _ _ _ _ _ c.visit-m.ensures _ c.in-Found.is in
+    let K = found-known _ _ _ _ _ _ _ c.visit-m.ensures _ c.in-Ok.is in
     let p = c.requires.0 in
     (p, in_both c.args.end.0 c.args.log.now c.args.waiting.now p _ K.in_log, K.not_many, K.not-deep)
 
 pub returns : goal.returns
 returns c =
-    let K = found-known _ _ _ _ _ _ _ c.visit-m.ensures _ c.in-Found.is in
+    let K = found-known _ _ _ _ _ _ _ c.visit-m.ensures _ c.in-Ok.is in
     let v = c.visit_directory in
     let r = top-found K v.result (v.ensures.within, v.ensures.exact) in
     record { within = rw c.one_more.ensures r.0; exact = c.one_more.ensures ∙ r.1 }

@@ -1,5 +1,5 @@
 use native.Mathlib.Omega.{arith}
-use Rattle.results.proofs.Visits.{walk-small, walked_so}
+use Rattle.walk_calls.proofs.Visits.{walk-small, walked_so}
 use Rattle.walk_calls.proofs.walk.Goals as goal
 
 -- `walk_calls::walk` meets its contract; the sum fits since the visits are few and the sector is one of the longest log and waiting part.

@@ -1,3 +1,5 @@
+use Rattle.leaf.specs.Fetch.{run_in}
+use Rattle.std.proofs.lemmas.Result.{err_from_is_err_and}
 use mathlib.Core.Path.{◌≡◌, refl, sym, ap, ◌∙◌}
 use Prim.Native.Nat.{ℕ, suc, ◌-◌, ◌/◌, ◌%◌, ◌^◌, ◌<◌}
 use native.Mathlib.Omega.{arith}
@@ -37,17 +39,17 @@ returns-then-is_zero_score c =
 pub type_at-kind-requires : goal.type_at-kind-requires
 type_at-kind-requires c = omega (arith, c.loop-level.invariant.0)
 
-pub fetch-look-requires : goal.fetch-look-requires
-fetch-look-requires c =
+pub fetch-requires : goal.fetch-requires
+fetch-requires c =
     let p = c.requires in
     let loop = c.loop-level in
     (p.0, loop.invariant.1)
 
-pub returns-in_default : goal.returns-in_default
-returns-in_default c =
+pub returns-in_err-b : goal.returns-in_err-b
+returns-in_err-b c =
     let a = c.args in
     let l = c.loop-level in
-    let fetch = c.fetch-look in
+    let fetch = c.fetch in
     let type_at = c.type_at-kind in
     let count_at = c.count_at in
     let loop-test = c.loop-level-test in
@@ -55,18 +57,19 @@ returns-in_default c =
     let is-zero-score = c.is_zero_score in
     let if1 = c.if-is_zero_score in
     let log = joined a.end.0 a.log.now a.waiting.now in
-    let e : l.level ≡ suc (l.level - 1) = omega (arith, loop-test.true) in record {
-      room = look_room log type_at.result l.score count_at.result fetch.result fetch.ensures _ (sectors-joined a.end.0 a.log.now a.waiting.now p.0);
-      run = λ page o q. level-refused log page a.e o l.level (l.level - 1) e l.score _ is-zero-score.ensures if1.false
-          _ type_at.ensures _ count_at.ensures fetch.result fetch.ensures _ c.in_default.is
+    let e : l.level ≡ suc (l.level - 1) = omega (arith, loop-test.true) in
+    let back = err_from_is_err_and c.from_residual.result c.from_residual.ensures.1 in rw (back.1, back.2) (record {
+      room = tt;
+      run = λ page o q. ap (run_in page a.e o) (sym c.in_err-b.was) ∙ level-refused log page a.e o l.level (l.level - 1) e l.score _ is-zero-score.ensures if1.false
+          _ type_at.ensures _ count_at.ensures fetch.result fetch.ensures _ c.in_err-b.was
           ∙ l.invariant.2 page o q;
-    }
+    })
 
 pub returns-then-b-ne0 : goal.returns-then-b-ne0
 returns-then-b-ne0 c =
     let a = c.args in
     let l = c.loop-level in
-    let fetch = c.fetch-look in
+    let fetch = c.fetch in
     let type_at = c.type_at-kind in
     let count_at = c.count_at in
     let loop-test = c.loop-level-test in
@@ -77,7 +80,7 @@ returns-then-b-ne0 c =
     let e : l.level ≡ suc (l.level - 1) = omega (arith, loop-test.true) in record {
       room = tt;
       run = λ page o q. level-ragged log page a.e o l.level (l.level - 1) e l.score _ is-zero-score.ensures if1.false
-          _ type_at.ensures _ count_at.ensures fetch.result fetch.ensures _ c.in-Found.is if2.true
+          _ type_at.ensures _ count_at.ensures fetch.result fetch.ensures _ c.in_ok-b.was if2.true
           ∙ l.invariant.2 page o q;
     }
 
@@ -94,14 +97,14 @@ score_at-score-requires c =
     let a = c.args in
     let p = c.requires in
     let l = c.loop-level in
-    let fetch = c.fetch-look in
+    let fetch = c.fetch in
     let type_at = c.type_at-kind in
     let count_at = c.count_at in
     let digit = c.digit-index in
     let if2 = c.if-b-ne0 in
     let log = joined a.end.0 a.log.now a.waiting.now in
     let room =
-    found-room log type_at.result l.score count_at.result fetch.result fetch.ensures _ (sectors-joined a.end.0 a.log.now a.waiting.now p.0) _ c.in-Found.is in
+    found-room log type_at.result l.score count_at.result fetch.result fetch.ensures _ (sectors-joined a.end.0 a.log.now a.waiting.now p.0) _ c.in_ok-b.was in
     let small = digit_small a.e.psize _ digit.result p.1.psize-from p.1.psize-to digit.ensures in
     (p.0, room, if2.false, omega (arith, small))
 
@@ -113,7 +116,7 @@ loop-level-preserved c =
     let a = c.args in
     let p = c.requires in
     let l = c.loop-level in
-    let fetch = c.fetch-look in
+    let fetch = c.fetch in
     let type_at = c.type_at-kind in
     let count_at = c.count_at in
     let if2 = c.if-b-ne0 in
@@ -124,28 +127,22 @@ loop-level-preserved c =
     let digit = c.digit-index in
     let log = joined a.end.0 a.log.now a.waiting.now in
     let room =
-    found-room log type_at.result l.score count_at.result fetch.result fetch.ensures _ (sectors-joined a.end.0 a.log.now a.waiting.now p.0) _ c.in-Found.is in
+    found-room log type_at.result l.score count_at.result fetch.result fetch.ensures _ (sectors-joined a.end.0 a.log.now a.waiting.now p.0) _ c.in_ok-b.was in
     let e : l.level ≡ suc (l.level - 1) = omega (arith, loop-test.true) in (
       omega (arith, l.invariant.0),
       next-score log _ _ _ room.1 score-at.ensures if2.false,
       λ page o q. level-next log page a.e o l.level (l.level - 1) e l.score _ is-zero-score.ensures if1.false
-          _ type_at.ensures _ count_at.ensures fetch.result fetch.ensures _ c.in-Found.is _ _ if2.false
+          _ type_at.ensures _ count_at.ensures fetch.result fetch.ensures _ c.in_ok-b.was _ _ if2.false
           (digit.ensures ∙ ap (λ (n : ℕ). n / pointers a.e ^ (l.level - 1) % pointers a.e) (sym q)) score-at.ensures
           ∙ l.invariant.2 page o q,
     )
-
-pub fetch-requires : goal.fetch-requires
-fetch-requires c =
-    let p = c.requires in
-    let loop = c.loop-level in
-    (p.0, loop.invariant.1)
 
 pub returns : goal.returns
 returns c =
     let a = c.args in
     let l = c.loop-level in
     let type_at = c.type_at in
-    let fetch2 = c.fetch in
+    let fetch2 = c.fetch-2 in
     let loop-test = c.loop-level-test in
     let p = c.requires in
     let log = joined a.end.0 a.log.now a.waiting.now in

@@ -34,21 +34,21 @@ pub slice_bounds-store_cut-count : goal.slice_bounds-store_cut-count
 slice_bounds-store_cut-count c =
     let a = c.args in
     let p = c.requires in
-    omega (arith, begins a.width a.i a.source.now p.2 p.5, c.smaller-to.ensures)
+    omega (arith, begins a.width a.i a.source.now p.2 p.5, c.min-to.ensures)
 
 pub slice_bounds-store_cut-start : goal.slice_bounds-store_cut-start
 slice_bounds-store_cut-start c =
     let a = c.args in
     let p = c.requires in
-    omega (arith, begins a.width a.i a.source.now p.2 p.5, c.smaller-to.ensures)
+    omega (arith, begins a.width a.i a.source.now p.2 p.5, c.min-to.ensures)
 
 pub slice_bounds-store_cut-end : goal.slice_bounds-store_cut-end
-slice_bounds-store_cut-end c = omega (arith, c.smaller-to.ensures)
+slice_bounds-store_cut-end c = omega (arith, c.min-to.ensures)
 
 pub store_cut-requires : goal.store_cut-requires
 store_cut-requires c =
     let a = c.args in
-    let p = part_piece a.width a.i c.smaller-to.result a.source.now c.smaller-to.ensures in
+    let p = part_piece a.width a.i c.min-to.result a.source.now c.min-to.ensures in
     let short : length (piece a.width a.i a.source.now) ≤ a.width = simp length-take (omega arith) in
     (omega (arith, ap length p, short, c.requires.3), c.requires.0, c.requires.1, ap (λ (x : Bytes). whole_units (unit_of a.kind) (length x)) p ∙ c.requires.6)
 
@@ -57,4 +57,4 @@ returns c =
     let a = c.args in
     c.store_cut.ensures
     ∙ ap (λ (x : Bytes). store (beside a.log.now a.waiting.now) a.date.now a.kind (cut_block a.kind x))
-    (part_piece a.width a.i c.smaller-to.result a.source.now c.smaller-to.ensures)
+    (part_piece a.width a.i c.min-to.result a.source.now c.min-to.ensures)

@@ -1,4 +1,6 @@
-use mathlib.Core.Path.{◌≡◌}
+use Rattle.std.specs.Prelude.{Err}
+use Rattle.std.proofs.lemmas.Result.{err_from_is_err_and}
+use mathlib.Core.Path.{◌≡◌, sym, ap, ◌∙◌}
 use Prim.Native.Nat.{ℕ, ◌*◌, ◌≤◌}
 use native.Mathlib.Omega.{arith}
 use lib.ListN.{length}
@@ -8,9 +10,11 @@ use Rattle.writer.proofs.Levels.{few_pieces, leaf-refused, leaves-stored, top-is
 use borrow.Author.Rules.{rules}
 use Rattle.write.proofs.write_blocks.Goals as goal
 
-pub returns-in_default : goal.returns-in_default
-returns-in_default c = let a = c.args in
-    let write-leaves = c.write_leaves-ended in record { blocks = leaf-refused a.slice.now a.dsize a.psize a.depth a.date.now (beside a.log.now a.waiting.now) _ _ write-leaves.ensures.blocks _ (c.in_default.is); top = λ q. let p = (c.in_default.is) in let z : ◌≡◌ {A = ℕ} 0 1 = cc in absurd (omega arith) }
+pub returns-in_err-write_leaves : goal.returns-in_err-write_leaves
+returns-in_err-write_leaves c = let a = c.args in
+    let write-leaves = c.write_leaves in
+    let back = err_from_is_err_and c.from_residual.result c.from_residual.ensures.1 in
+    rw (back.1 ∙ ap Err back.2 ∙ sym c.in_err-write_leaves.was) (record { blocks = leaf-refused a.slice.now a.dsize a.psize a.depth a.date.now (beside a.log.now a.waiting.now) _ _ write-leaves.ensures.blocks _ (c.in_err-write_leaves.was); top = λ q. let p = (c.in_err-write_leaves.was) in let z : ◌≡◌ {A = ℕ} 0 1 = cc in absurd (omega arith) })
 
 pub overflow_mul-psize : goal.overflow_mul-psize
 overflow_mul-psize c = omega (arith, (c.requires.5))
@@ -25,10 +29,10 @@ write_levels-requires c = let a = c.args in
 
 pub returns : goal.returns
 returns c = let a = c.args in
-    let write-leaves = c.write_leaves-ended in
+    let write-leaves = c.write_leaves in
     let write-levels = c.write_levels in
-    let f = write-leaves.ensures.scores c.in-Done.is in record {
-      blocks = leaves-stored a.slice.now a.dsize a.psize a.depth a.date.now (beside a.log.now a.waiting.now) _ _ write-leaves.ensures.blocks c.in-Done.is _ f _ _
+    let f = write-leaves.ensures.scores c.in_ok-write_leaves.was in record {
+      blocks = leaves-stored a.slice.now a.dsize a.psize a.depth a.date.now (beside a.log.now a.waiting.now) _ _ write-leaves.ensures.blocks c.in_ok-write_leaves.was _ f _ _
           write-levels.ensures.blocks;
       top = λ q. top-is a.slice.now a.dsize a.psize a.depth _ _ f (write-levels.ensures.top q);
     }

@@ -1,4 +1,6 @@
-use mathlib.Core.Path.{◌≡◌, refl, sym, ◌∙◌}
+use Rattle.std.specs.Prelude.{Err}
+use Rattle.std.proofs.lemmas.Result.{err_from_is_err_and}
+use mathlib.Core.Path.{◌≡◌, refl, sym, ◌∙◌, ap}
 use Prim.Native.Nat.{ℕ, ◌*◌, ◌<◌}
 use native.Mathlib.Omega.{arith}
 use lib.ListN.{length}
@@ -31,22 +33,23 @@ turn : {dsize : ℕ} {slice date : Bytes} {L₀ L L' : Lent} {count : ℕ} {scor
     → after_store r L' ≡ store L date 13 (cut_block 13 (piece dsize i slice)) → Turn 13 dsize slice date L₀ (parts_of dsize (length slice)) L scores i r L'
 turn lt e g s = record { one_left = omega arith; going = g; stored = s }
 
-pub keep_score-ended-requires : goal.keep_score-ended-requires
-keep_score-ended-requires c = (
+pub keep_score-requires : goal.keep_score-requires
+keep_score-requires c = (
   omega (arith, c.loop-i-test.true, c.pieces-count.ensures, c.loop-i.invariant.1, c.requires.4),
   score-length (turn c.loop-i-test.true c.pieces-count.ensures c.loop-i.invariant.0 c.store_piece-receipt.ensures),
 )
 
-pub returns-in_default : goal.returns-in_default
-returns-in_default c =
+pub returns-in_err-keep_score : goal.returns-in_err-keep_score
+returns-in_err-keep_score c =
     let T = turn c.loop-i-test.true c.pieces-count.ensures c.loop-i.invariant.0 c.store_piece-receipt.ensures in
-    record { blocks = going-stopped T c.keep_score-ended.ensures.end _ c.in_default.is; scores = refused-not-done _ c.in_default.is }
+    let back = err_from_is_err_and c.from_residual.result c.from_residual.ensures.1 in
+    rw (back.1 ∙ ap Err back.2 ∙ sym c.in_err-keep_score.was) (record { blocks = going-stopped T c.keep_score.ensures.end _ c.in_err-keep_score.was; scores = refused-not-done _ c.in_err-keep_score.was })
 
 pub loop-i-preserved : goal.loop-i-preserved
 loop-i-preserved c =
     let T = turn c.loop-i-test.true c.pieces-count.ensures c.loop-i.invariant.0 c.store_piece-receipt.ensures in
-    let d = c.in-Done.is in (
-      (going_next T c.keep_score-ended.ensures.end d (c.keep_score-ended.ensures.score d) (omega (arith, c.loop-i-test.true, c.pieces-count.ensures, c.loop-i.invariant.1, c.requires.4))).0,
+    let d = c.in_ok-keep_score.was in (
+      (going_next T c.keep_score.ensures.end d (c.keep_score.ensures.score d) (omega (arith, c.loop-i-test.true, c.pieces-count.ensures, c.loop-i.invariant.1, c.requires.4))).0,
       search rules,
       search rules,
     )

@@ -10,6 +10,3 @@ use Rattle.write.proofs.write_leaves.Given as goal
 abbrev pub invariant-loop-i : goal.invariant-loop-i
 invariant-loop-i l = Going 13 l.dsize l.slice l.date (beside l.log l.initial.waiting) (parts_of l.dsize (length l.slice)) (beside l.log l.waiting) l.scores l.i
     × (length l.scores ≡ length l.initial.scores) × (length l.waiting ≡ length l.initial.waiting)
-
-abbrev pub decreases-loop-i : goal.decreases-loop-i
-decreases-loop-i l = l.count - l.i

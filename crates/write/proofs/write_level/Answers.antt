@@ -1,3 +1,5 @@
+use Rattle.std.specs.Prelude.{Err}
+use Rattle.std.proofs.lemmas.Result.{err_from_is_err_and}
 use mathlib.Core.Path.{◌≡◌, refl, sym, ap, subst, ◌∙◌}
 use Prim.Native.Nat.{ℕ, ◌+◌, ◌*◌, ◌%◌, ◌≤◌, ◌<◌}
 use native.Mathlib.Omega.{arith}
@@ -54,22 +56,23 @@ room {width} {size} {count} {n} {i} hw hs h lt e z =
     let left : i < parts_of width size = omega arith in
     omega (arith, score-room width i size hw hs h left)
 
-pub keep_score-ended-requires : goal.keep_score-ended-requires
-keep_score-ended-requires c =
+pub keep_score-requires : goal.keep_score-requires
+keep_score-requires c =
     let T = turn c.requires.2 c.loop-i-test.true c.pieces-count.ensures c.loop-i.invariant.0 c.loop-i.invariant.3 c.store_piece-receipt.ensures in
     (room c.requires.4 c.requires.5 c.requires.2 c.loop-i-test.true c.pieces-count.ensures c.loop-i.invariant.1, score-length T)
 
-pub returns-in_default : goal.returns-in_default
-returns-in_default c =
+pub returns-in_err-keep_score : goal.returns-in_err-keep_score
+returns-in_err-keep_score c =
     let T = turn c.requires.2 c.loop-i-test.true c.pieces-count.ensures c.loop-i.invariant.0 c.loop-i.invariant.3 c.store_piece-receipt.ensures in
-    record { blocks = going-stopped T c.keep_score-ended.ensures.end _ c.in_default.is; scores = refused-not-done _ c.in_default.is }
+    let back = err_from_is_err_and c.from_residual.result c.from_residual.ensures.1 in
+    rw (back.1 ∙ ap Err back.2 ∙ sym c.in_err-keep_score.was) (record { blocks = going-stopped T c.keep_score.ensures.end _ c.in_err-keep_score.was; scores = refused-not-done _ c.in_err-keep_score.was })
 
 pub loop-i-preserved : goal.loop-i-preserved
 loop-i-preserved c =
     let l = c.loop-i in
     let T = turn c.requires.2 c.loop-i-test.true c.pieces-count.ensures c.loop-i.invariant.0 c.loop-i.invariant.3 c.store_piece-receipt.ensures in
-    let d = c.in-Done.is in
-    let g = going_next T c.keep_score-ended.ensures.end d (c.keep_score-ended.ensures.score d)
+    let d = c.in_ok-keep_score.was in
+    let g = going_next T c.keep_score.ensures.end d (c.keep_score.ensures.score d)
     (room c.requires.4 c.requires.5 c.requires.2 c.loop-i-test.true c.pieces-count.ensures c.loop-i.invariant.1) in
     let step : 20 * (l.i + 1) ≡ 20 * l.i + 20 = omega arith in
     let behind : (x : Bytes) → drop (20 * (l.i + 1)) x ≡ drop 20 (drop (20 * l.i) x) = λ x. ap (λ (m : ℕ). drop m x) step ∙ sym (drop-drop 20 (20 * l.i) x) in

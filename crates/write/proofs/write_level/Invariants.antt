@@ -10,6 +10,3 @@ use Rattle.write.proofs.write_level.Given as goal
 abbrev pub invariant-loop-i : goal.invariant-loop-i
 invariant-loop-i l = Going l.kind l.width l.initial.scores l.date (beside l.log l.initial.waiting) (parts_of l.width (length l.initial.scores)) (beside l.log l.waiting) l.scores l.i
     × (length l.scores ≡ length l.initial.scores) × (length l.waiting ≡ length l.initial.waiting) × (drop (20 * l.i) l.scores ≡ drop (20 * l.i) l.initial.scores)
-
-abbrev pub decreases-loop-i : goal.decreases-loop-i
-decreases-loop-i l = l.count - l.i

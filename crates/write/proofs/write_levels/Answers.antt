@@ -1,4 +1,6 @@
-use mathlib.Core.Path.{◌≡◌, refl, ap, ◌∙◌}
+use Rattle.std.specs.Prelude.{Err}
+use Rattle.std.proofs.lemmas.Result.{err_from_is_err_and}
+use mathlib.Core.Path.{◌≡◌, refl, ap, ◌∙◌, sym}
 use Prim.Native.Nat.{ℕ, ◌-◌, ◌*◌, ◌%◌, ◌≤◌}
 use native.Mathlib.Omega.{arith}
 use lib.ListN.{length, length-take}
@@ -14,19 +16,19 @@ use Rattle.write.proofs.write_levels.Goals as goal
 pub loop-k-init : goal.loop-k-init
 loop-k-init c = let a = c.args in
     let given = c.requires in
-    (climbing_start a.width a.scores.now a.date.now (beside a.log.now a.waiting.now) given.5, omega arith, refl, refl)
+    (climbing_start a.width a.scores.now a.date.now (beside a.log.now a.waiting.now) given.5, refl, refl)
 
 pub slice_bounds-write_level-end : goal.slice_bounds-write_level-end
-slice_bounds-write_level-end c = omega (arith, (c.loop-k.invariant.0).most, (c.loop-k.invariant.2))
+slice_bounds-write_level-end c = omega (arith, (c.loop-k.invariant.0).most, (c.loop-k.invariant.1))
 
 pub slice_bounds-write_level-end-in-loop-k : goal.slice_bounds-write_level-end-in-loop-k
 slice_bounds-write_level-end-in-loop-k c = let turn = c.loop-k in
-    let f : turn.n ≤ length turn.scores = omega (arith, turn.invariant.0.most, turn.invariant.2) in simp length-take (omega (arith, f))
+    let f : turn.n ≤ length turn.scores = omega (arith, turn.invariant.0.most, turn.invariant.1) in simp length-take (omega (arith, f))
 
-pub write_level-ended-requires : goal.write_level-ended-requires
-write_level-ended-requires c = let turn = c.loop-k in
+pub write_level-requires : goal.write_level-requires
+write_level-requires c = let turn = c.loop-k in
     let given = c.requires in
-    let l = length-take-le turn.n turn.scores (omega (arith, turn.invariant.0.most, turn.invariant.2)) in (
+    let l = length-take-le turn.n turn.scores (omega (arith, turn.invariant.0.most, turn.invariant.1)) in (
       given.0,
       pointer_type_lem turn.k (omega (arith, (c.loop-k-test.true), given.4)),
       given.1,
@@ -36,15 +38,17 @@ write_level-ended-requires c = let turn = c.loop-k in
       omega (arith, l, turn.invariant.0.most, given.6),
     )
 
-pub returns-in_default : goal.returns-in_default
-returns-in_default c = let a = c.args in
+pub returns-in_err-write_level : goal.returns-in_err-write_level
+returns-in_err-write_level c = let a = c.args in
     let turn = c.loop-k in
     let loop-test = c.loop-k-test in
-    let write-level = c.write_level-ended in record {
+    let write-level = c.write_level in
+    let back = err_from_is_err_and c.from_residual.result c.from_residual.ensures.1 in
+    rw (back.1 ∙ ap Err back.2 ∙ sym c.in_err-write_level.was) (record {
       blocks = climbing_stopped a.width a.scores.now a.date.now (beside a.log.now a.waiting.now) (beside a.log.now turn.waiting) turn.scores turn.n turn.k turn.invariant.0 _ _
-          write-level.ensures.blocks _ a.depth (c.in_default.is) loop-test.true;
-      top = λ q. let p = (c.in_default.is) in let z : ◌≡◌ {A = ℕ} 0 1 = cc in absurd (omega arith);
-    }
+          write-level.ensures.blocks _ a.depth (c.in_err-write_level.was) loop-test.true;
+      top = λ q. let p = (c.in_err-write_level.was) in let z : ◌≡◌ {A = ℕ} 0 1 = cc in absurd (omega arith);
+    })
 
 pub pieces-n-requires : goal.pieces-n-requires
 pieces-n-requires c = let turn = c.loop-k in
@@ -62,11 +66,10 @@ loop-k-preserved c = let a = c.args in
     let turn = c.loop-k in
     let loop-test = c.loop-k-test in
     let given = c.requires in
-    let write-level = c.write_level-ended in
+    let write-level = c.write_level in
     let e : 20 * (c.pieces-n.result) ≡ 20 * parts_of a.width turn.n = omega (arith, (c.pieces-n.ensures)) in (
       climbing_next a.width a.scores.now a.date.now (beside a.log.now a.waiting.now) (beside a.log.now turn.waiting) turn.scores turn.n turn.k turn.invariant.0 _ _
-          write-level.ensures.blocks given.1 c.in-Done.is _ (search rules) (write-level.ensures.scores c.in-Done.is) turn.invariant.2 _ refl _ e,
-      omega (arith, loop-test.true),
+          write-level.ensures.blocks given.1 c.in_ok-write_level.was _ (search rules) (write-level.ensures.scores c.in_ok-write_level.was) turn.invariant.1 _ refl _ e,
       search rules,
       search rules,
     )
@@ -74,9 +77,9 @@ loop-k-preserved c = let a = c.args in
 pub returns : goal.returns
 returns c = let a = c.args in
     let turn = c.loop-k in
-    let e : turn.k ≡ a.depth = omega (arith, (c.loop-k-test.false), turn.invariant.1) in
+    let e : turn.k ≡ a.depth = omega (arith, c.loop-k-test.false) in
     let g = turn.invariant.0 in record {
       blocks = g.blocks ∙ ap (λ (x : ℕ). store_all (beside a.log.now a.waiting.now) a.date.now (pointer_blocks a.width a.scores.now x)) e;
-      top = λ _. climbing_end a.width a.scores.now a.date.now (beside a.log.now a.waiting.now) (beside a.log.now turn.waiting) turn.scores turn.n turn.k turn.invariant.2 g
+      top = λ _. climbing_end a.width a.scores.now a.date.now (beside a.log.now a.waiting.now) (beside a.log.now turn.waiting) turn.scores turn.n turn.k turn.invariant.1 g
           ∙ ap (λ (x : ℕ). top_of (scores_at a.width a.scores.now x)) e;
     }

@@ -11,8 +11,5 @@ use Rattle.writer.proofs.Levels.{pointer_type_lem, fewer_scores, Climbing, climb
 use Rattle.write.proofs.write_levels.Given as goal
 
 abbrev pub invariant-loop-k : goal.invariant-loop-k
-invariant-loop-k l = Climbing l.width l.initial.scores l.date (beside l.log l.initial.waiting) (beside l.log l.waiting) l.scores l.n l.k × (l.k ≤ l.depth)
+invariant-loop-k l = Climbing l.width l.initial.scores l.date (beside l.log l.initial.waiting) (beside l.log l.waiting) l.scores l.n l.k
     × (length l.scores ≡ length l.initial.scores) × (length l.waiting ≡ length l.initial.waiting)
-
-abbrev pub decreases-loop-k : goal.decreases-loop-k
-decreases-loop-k l = l.depth - l.k

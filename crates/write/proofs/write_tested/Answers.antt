@@ -87,5 +87,5 @@ returns c =
     let write-blocks = c.write_blocks-ended in
     let f : 20 * pieces.result ≤ length a.scores.now = omega (arith, few_pieces a.dsize (length a.slice.now) given.2, pieces.ensures, given.1, given.8) in
     tested-done a.log.now a.waiting.now a.date.now a.slice.now a.dsize a.psize a.entry.now a.scores.now a.depth _ _ write-blocks.ensures.blocks _
-    write-blocks.ensures.top (20 * pieces.result) (ap (λ (k : ℕ). 20 * k) pieces.ensures) f _ clear.ensures c.in-Done.is _ make-entry.ensures _
+    write-blocks.ensures.top (20 * pieces.result) (ap (λ (k : ℕ). 20 * k) pieces.ensures) f _ clear.ensures c.in-Ok.is _ make-entry.ensures _
     (c.copy_at.ensures) (search rules) (search rules)

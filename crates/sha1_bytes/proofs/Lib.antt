@@ -1,0 +1,2 @@
+-- The laws that the answers cite.
+pub mod BeBytes
