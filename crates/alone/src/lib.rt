@@ -10,6 +10,7 @@ ghost use Rattle.sector_log.specs.Store.{store as store_of};
 use sector::SECTOR;
 use sector_log::Receipt;
 use sector_number::SectorNumber;
+use two_runs::Runs;
 
 // Stores a block of a type, with a date, in a log for which nothing waits: it is appended to the log itself.
 pub fn store_alone(log: &mut [u8], date: &[u8], kind: u8, data: &[u8]) -> Receipt
@@ -17,18 +18,16 @@ pub fn store_alone(log: &mut [u8], date: &[u8], kind: u8, data: &[u8]) -> Receip
     ensures { after_store result (alone log.new) ≡ store_of (alone log.old) date.now kind «data».now }
 {
     let score = sha1_digest::sha1(data);
-    let place = lookup::find_held(log, SectorNumber(0), log, kind, &score);
-    let Some(b) = place else {
+    let runs = Runs {
+        log,
+        end: SectorNumber(0),
+        waiting: log,
+    };
+    let Some(b) = lookup::find_held(runs, kind, &score) else {
         let most = log.len() / SECTOR;
         let stored = insert::append_new(most, SectorNumber(0), log, date, kind, &score, data);
-        return Receipt {
-            score: score,
-            stored: stored,
-        };
+        return Receipt { score, stored };
     };
-    let stored = store::compare(log, SectorNumber(0), log, b, data);
-    Receipt {
-        score: score,
-        stored: stored,
-    }
+    let stored = store::compare(runs, b, data);
+    Receipt { score, stored }
 }

@@ -1,25 +1,27 @@
 // The replies of a request: refusals, acknowledgements, a request in a fresh session, what a read and a write say.
 #![tactic(auto)]
 
-ghost use Rattle.std.specs.Prelude.{◌≡◌, [], ◌+◌, ◌≤◌, length};
+ghost use Rattle.std.specs.Prelude.{◌≡◌, [], ◌≤◌, length};
 ghost use Rattle.buffer.specs.Bytes.{Bytes};
 ghost use Rattle.kind.specs.Kind.{longest};
 ghost use Rattle.sector_log.specs.Parts.{beside};
 ghost use Rattle.block.specs.Block.{Inside};
-ghost use Rattle.block.specs.Log.{sectors, joined, bytes_of};
+ghost use Rattle.block.specs.Log.{bytes_of};
 ghost use Rattle.message.specs.Message.{head_length, tag_of, request_of};
 ghost use Rattle.message.specs.Reply.{read_reply};
 ghost use Rattle.message.specs.Reply.{reply as replyOf};
 ghost use Rattle.message.specs.declared.Request.TheVariants.{Hello, Read, Write};
 ghost use Rattle.request.specs.declared.Session.TheVariants.{Greeted, Closed as Shut};
 ghost use Rattle.request.specs.Step.{reply_room, outcome_of, silent, refused, granted, written, fresh};
+ghost use Rattle.two_runs.specs.Runs.{read_as_one, sectors_of_both, EndsWithin};
 
 use block::Block;
 use message::Request;
 use refusal::Refusal;
 use request::{Answer, Session};
-use sector_log::{Receipt, Stored};
+use sector_log::Receipt;
 use sector_number::SectorNumber;
+use two_runs::Runs;
 
 // The least length of a reply buffer.
 pub const REPLY_ROOM: usize = 57348;
@@ -30,7 +32,7 @@ pub fn refuse_silently(why: Refusal, session: Session) -> Answer
 {
     Answer {
         number: refusal::number(why),
-        session: session,
+        session,
     }
 }
 
@@ -42,7 +44,7 @@ pub fn refuse(why: Refusal, tag: u8, session: Session, reply: &mut [u8]) -> Answ
     reply::write_error(reply, tag, why);
     Answer {
         number: refusal::number(why),
-        session: session,
+        session,
     }
 }
 
@@ -106,20 +108,13 @@ pub fn serve_fresh(message: &[u8], reply: &mut [u8]) -> Answer
 }
 
 // The reply to a read of the block at a place.
-pub fn answer_read<'a>(
-    log: &'a [u8],
-    end: SectorNumber,
-    waiting: &'a [u8],
-    b: Block,
-    tag: u8,
-    reply: &mut [u8],
-) -> Answer
-    requires { (end.0 ≤ sectors (length log.now)) × Inside (end.0 + sectors (length waiting.now)) b × (b.size ≤ longest) × (reply_room ≤ length reply.old) }
-    ensures { outcome_of result log.now waiting.now reply.new
-        ≡ granted (read_reply tag (bytes_of (joined end.0 log.now waiting.now) b)) Greeted (beside log.now waiting.now) reply.old }
+pub fn answer_read<'a>(runs: Runs<'a>, b: Block, tag: u8, reply: &mut [u8]) -> Answer
+    requires { EndsWithin runs × Inside (sectors_of_both runs) b × (b.size ≤ longest) × (reply_room ≤ length reply.old) }
+    ensures { outcome_of result runs.entry.log.now runs.entry.waiting.now reply.new
+        ≡ granted (read_reply tag (bytes_of (read_as_one runs.entry) b)) Greeted (beside runs.entry.log.now runs.entry.waiting.now) reply.old }
 {
     reply::write_head(reply, message::READ_REPLY, tag, b.size);
-    reader::copy_out(log, end, waiting, b, &mut reply[message::HEAD..]);
+    reader::copy_out(runs, b, &mut reply[message::HEAD..]);
     Answer {
         number: 0,
         session: Session::Greeted,
@@ -132,8 +127,7 @@ pub fn answer_store(receipt: Receipt, tag: u8, reply: &mut [u8]) -> Answer
     ensures { (log waiting : Bytes) → outcome_of result log waiting reply.new ≡ written receipt.stored tag receipt.score (beside log waiting) reply.old }
 {
     let score = receipt.score;
-    let stored = receipt.stored;
-    if let Err(why) = stored {
+    if let Err(why) = receipt.stored {
         return refuse(why, tag, Session::Greeted, reply);
     }
     reply::write_reply(reply, message::WRITE_REPLY, tag, &score);

@@ -7,6 +7,7 @@ ghost use Rattle.comparison.specs.Differences.{directory_allowed, differences_of
 
 use comparison::Compared;
 use refusal::Refusal;
+use two_runs::Runs;
 use walk::MOST_ALLOWANCE;
 
 // Whether bytes are an active, well-formed directory entry.
@@ -43,5 +44,5 @@ pub fn differences<'a>(
         return compare_below::refused(Refusal::Entry);
     }
     let end = lookup::border(log, waiting);
-    compare_below::compare_entries(log, end, waiting, 0, x, y, allowance as usize)
+    compare_below::compare_entries(Runs { log, end, waiting }, 0, x, y, allowance as usize)
 }

@@ -2,12 +2,13 @@
 // are read as one, as in `two_runs`.
 #![tactic(auto)]
 
-ghost use Rattle.std.specs.Prelude.{◌≡◌, ℕ, ◌+◌, ◌≤◌, ◌<◌, max, length};
+ghost use Rattle.std.specs.Prelude.{◌≡◌, ℕ, ◌≤◌, ◌<◌, max, length};
 ghost use Rattle.kind.specs.Kind.{longest};
-ghost use Rattle.block.specs.Log.{sectors, joined, bytes_of};
+ghost use Rattle.block.specs.Log.{bytes_of};
 ghost use Rattle.walk.specs.Walk.{most_allowance};
 ghost use Rattle.comparison.specs.Compare.{most_leaf, positions, compare_blocks, compare_entries, compare_position, compare_below};
 ghost use Rattle.open_pair.specs.Lies.{Lies};
+ghost use Rattle.two_runs.specs.Runs.{read_as_one, sectors_of_both, EndsWithin};
 
 use block::Block;
 use comparison::Compared;
@@ -16,6 +17,7 @@ use open_pair::Pair;
 pub use open_pair::refused;
 use refusal::Refusal;
 use sector_number::SectorNumber;
+use two_runs::Runs;
 use verdict::Verdict;
 
 // How many positions a block of a size has at a level.
@@ -39,17 +41,9 @@ fn positions_of_both(level: usize, a: usize, b: usize) -> usize
 
 // Compares two entries in directories at a nest.
 #[cycle(compare_below_compare_blocks_compare_entries_compare_position)]
-pub fn compare_entries<'a>(
-    log: &'a [u8],
-    end: SectorNumber,
-    waiting: &'a [u8],
-    nest: usize,
-    x: &[u8],
-    y: &[u8],
-    left: usize,
-) -> Compared
-    requires { (end.0 ≤ sectors (length log.now)) × (length x.now ≡ 40) × (length y.now ≡ 40) × (nest ≤ 16) × (left ≤ most_allowance) }
-    ensures { (f : ℕ) → left < f → result ≡ compare_entries f (joined end.0 log.now waiting.now) nest x.now y.now left }
+pub fn compare_entries<'a>(runs: Runs<'a>, nest: usize, x: &[u8], y: &[u8], left: usize) -> Compared
+    requires { EndsWithin runs × (length x.now ≡ 40) × (length y.now ≡ 40) × (nest ≤ 16) × (left ≤ most_allowance) }
+    ensures { (f : ℕ) → left < f → result ≡ compare_entries f (read_as_one runs.entry) nest x.now y.now left }
 {
     let verdict = verdict::judge(x, y);
     match verdict {
@@ -66,9 +60,7 @@ pub fn compare_entries<'a>(
         Verdict::Open => {
             let e = entry::entry_at(x, 0);
             compare_blocks(
-                log,
-                end,
-                waiting,
+                runs,
                 e,
                 e.depth,
                 nest + 1,
@@ -88,9 +80,7 @@ pub fn compare_entries<'a>(
 // Compares the blocks of two opened directories under two scores, at a level.
 #[cycle(compare_below_compare_blocks_compare_entries_compare_position)]
 fn compare_blocks<'a>(
-    log: &'a [u8],
-    end: SectorNumber,
-    waiting: &'a [u8],
+    runs: Runs<'a>,
     e: Entry,
     level: usize,
     nest: usize,
@@ -98,14 +88,14 @@ fn compare_blocks<'a>(
     t: &[u8],
     left: usize,
 ) -> Compared
-    requires { (end.0 ≤ sectors (length log.now)) × (length s.now ≡ 20) × (length t.now ≡ 20) × (level ≤ 7) × (e.dsize ≤ most_leaf) × (left ≤ most_allowance) }
-    ensures { (f : ℕ) → left < f → result ≡ compare_blocks f (joined end.0 log.now waiting.now) e level nest s.now t.now left }
+    requires { EndsWithin runs × (length s.now ≡ 20) × (length t.now ≡ 20) × (level ≤ 7) × (e.dsize ≤ most_leaf) × (left ≤ most_allowance) }
+    ensures { (f : ℕ) → left < f → result ≡ compare_blocks f (read_as_one runs.entry) e level nest s.now t.now left }
 {
-    let pair = open_pair::open(log, end, waiting, e, level, nest, s, t, left);
+    let pair = open_pair::open(runs, e, level, nest, s, t, left);
     match pair {
         Pair::Ended(c) => c,
         Pair::Both(b, c) => {
-            open_pair::one_unit(compare_below(log, end, waiting, e, level, nest, b, c, left - 1))
+            open_pair::one_unit(compare_below(runs, e, level, nest, b, c, left - 1))
         }
     }
 }
@@ -113,9 +103,7 @@ fn compare_blocks<'a>(
 // Compares two blocks of a level, position by position.
 #[cycle(compare_below_compare_blocks_compare_entries_compare_position)]
 fn compare_below<'a>(
-    log: &'a [u8],
-    end: SectorNumber,
-    waiting: &'a [u8],
+    runs: Runs<'a>,
     e: Entry,
     level: usize,
     nest: usize,
@@ -123,32 +111,32 @@ fn compare_below<'a>(
     c: Block,
     left: usize,
 ) -> Compared
-    requires { (end.0 ≤ sectors (length log.now)) × Lies level b (end.0 + sectors (length waiting.now))
-        × Lies level c (end.0 + sectors (length waiting.now)) × (level ≤ 7) × (nest ≤ 16) × (e.dsize ≤ most_leaf) × (left < most_allowance) }
+    requires { EndsWithin runs × Lies level b (sectors_of_both runs)
+        × Lies level c (sectors_of_both runs) × (level ≤ 7) × (nest ≤ 16) × (e.dsize ≤ most_leaf) × (left < most_allowance) }
     ensures { (f : ℕ) → left < f →
-        result ≡ compare_below f (joined end.0 log.now waiting.now) e level nest
-        (bytes_of (joined end.0 log.now waiting.now) b) (bytes_of (joined end.0 log.now waiting.now) c)
+        result ≡ compare_below f (read_as_one runs.entry) e level nest
+        (bytes_of (read_as_one runs.entry) b) (bytes_of (read_as_one runs.entry) c)
         left }
 {
     let most = positions_of_both(level, b.size, c.size);
     let mut count: usize = 0;
     let mut units: usize = 0;
     for i in 0..most {
-        let r = compare_position(log, end, waiting, e, level, nest, b, c, i, left - units);
+        let r = compare_position(runs, e, level, nest, b, c, i, left - units);
         let ended = r.end;
         count += r.count;
         units += r.units;
         let Ok(()) = ended else {
             return Compared {
-                count: count,
-                units: units,
+                count,
+                units,
                 end: ended,
             };
         };
     }
     Compared {
-        count: count,
-        units: units,
+        count,
+        units,
         end: Ok(()),
     }
 }
@@ -156,9 +144,7 @@ fn compare_below<'a>(
 // Compares one position of two blocks of a level: two entries of leaves, or two scores above them.
 #[cycle(compare_below_compare_blocks_compare_entries_compare_position)]
 fn compare_position<'a>(
-    log: &'a [u8],
-    end: SectorNumber,
-    waiting: &'a [u8],
+    runs: Runs<'a>,
     e: Entry,
     level: usize,
     nest: usize,
@@ -167,19 +153,19 @@ fn compare_position<'a>(
     i: usize,
     left: usize,
 ) -> Compared
-    requires { (end.0 ≤ sectors (length log.now)) × Lies level b (end.0 + sectors (length waiting.now))
-        × Lies level c (end.0 + sectors (length waiting.now)) × (level ≤ 7) × (nest ≤ 16) × (e.dsize ≤ most_leaf) × (left ≤ most_allowance) × (i ≤ longest) }
+    requires { EndsWithin runs × Lies level b (sectors_of_both runs)
+        × Lies level c (sectors_of_both runs) × (level ≤ 7) × (nest ≤ 16) × (e.dsize ≤ most_leaf) × (left ≤ most_allowance) × (i ≤ longest) }
     ensures { (f : ℕ) → left < f →
-        result ≡ compare_position f (joined end.0 log.now waiting.now) e level nest
-        (bytes_of (joined end.0 log.now waiting.now) b) (bytes_of (joined end.0 log.now waiting.now) c)
+        result ≡ compare_position f (read_as_one runs.entry) e level nest
+        (bytes_of (read_as_one runs.entry) b) (bytes_of (read_as_one runs.entry) c)
         i left }
 {
     if level == 0 {
-        let x = visit::entry_bytes(log, end, waiting, b, i);
-        let y = visit::entry_bytes(log, end, waiting, c, i);
-        return compare_entries(log, end, waiting, nest, &x, &y, left);
+        let x = visit::entry_bytes(runs, b, i);
+        let y = visit::entry_bytes(runs, c, i);
+        return compare_entries(runs, nest, &x, &y, left);
     }
-    let s = tree::score_at(log, end, waiting, b, i);
-    let t = tree::score_at(log, end, waiting, c, i);
-    compare_blocks(log, end, waiting, e, level - 1, nest, &s, &t, left)
+    let s = tree::score_at(runs, b, i);
+    let t = tree::score_at(runs, c, i);
+    compare_blocks(runs, e, level - 1, nest, &s, &t, left)
 }

@@ -6,6 +6,7 @@ ghost use Rattle.std.specs.Prelude.{◌≡◌};
 ghost use Rattle.copying.specs.Copy.{copied, copy_allowed, copy_of};
 
 use refusal::Refusal;
+use two_runs::Runs;
 use visit::Walked;
 use walk::MOST_ALLOWANCE;
 
@@ -49,5 +50,11 @@ pub fn copy<'a>(
         };
     }
     let end = lookup::border(log, waiting);
-    copy_root::copy_root(log, end, waiting, second, date, score, allowance as usize)
+    copy_root::copy_root(
+        Runs { log, end, waiting },
+        second,
+        date,
+        score,
+        allowance as usize,
+    )
 }

@@ -5,52 +5,49 @@
 ghost use Rattle.std.specs.Prelude.{◌≡◌, ℕ, ◌+◌, ◌%◌, ◌≤◌, ◌<◌, length};
 ghost use Rattle.kind.specs.Kind.{longest};
 ghost use Rattle.block.specs.Block.{Inside};
-ghost use Rattle.block.specs.Log.{sectors, joined, bytes_of};
+ghost use Rattle.block.specs.Log.{bytes_of};
 ghost use Rattle.descent.specs.Descent.{entries_of};
 ghost use Rattle.descent.specs.Parts.{entry_in};
 ghost use Rattle.copying.specs.Copy.{copied, copy_directory, copy_entry};
 ghost use Rattle.copying.specs.Parts.{copy_listed, copy_scores, copy_below};
+ghost use Rattle.two_runs.specs.Runs.{read_as_one, sectors_of_both, EndsWithin};
 
 use block::Block;
 use descent::{Below, Judged};
 use entry::Entry;
 pub use keep::keep;
 use sector_number::SectorNumber;
+use two_runs::Runs;
 use visit::Walked;
 
 // Copies what the entries of a directory block name, one after the other.
 #[cycle(copy_below_copy_directory_copy_entry_copy_listed_copy_scores)]
 pub fn copy_directory<'a>(
-    log: &'a [u8],
-    end: SectorNumber,
-    waiting: &'a [u8],
+    runs: Runs<'a>,
     second: &mut [u8],
     date: &[u8],
     b: Block,
     nest: usize,
     left: usize,
 ) -> Walked
-    requires { (end.0 ≤ sectors (length log.now)) × Inside (end.0 + sectors (length waiting.now)) b × (b.size ≤ longest) × (nest ≤ 16) × (length date.now ≡ 8) }
+    requires { EndsWithin runs × Inside (sectors_of_both runs) b × (b.size ≤ longest) × (nest ≤ 16) × (length date.now ≡ 8) }
     ensures within { result.visits ≤ left }
     ensures exact { (f : ℕ) → left + left + 2 ≤ f → copied result second.new
-        ≡ copy_directory f (joined end.0 log.now waiting.now) date.now nest
-        (bytes_of (joined end.0 log.now waiting.now) b) left second.old }
+        ≡ copy_directory f (read_as_one runs.entry) date.now nest
+        (bytes_of (read_as_one runs.entry) b) left second.old }
 {
     let count = (b.size + entry::ROUND_UP) / entry::ENTRY;
     let mut visits: usize = 0;
     for i in 0..count {
-        let w = copy_listed(log, end, waiting, second, date, b, i, nest, left - visits);
+        let w = copy_listed(runs, second, date, b, i, nest, left - visits);
         let ended = w.end;
         visits += w.visits;
         let Ok(()) = ended else {
-            return Walked {
-                visits: visits,
-                end: ended,
-            };
+            return Walked { visits, end: ended };
         };
     }
     Walked {
-        visits: visits,
+        visits,
         end: Ok(()),
     }
 }
@@ -58,9 +55,7 @@ pub fn copy_directory<'a>(
 // Copies what entry i of a directory block names: an inactive one is skipped, and an ill-formed active one is refused.
 #[cycle(copy_below_copy_directory_copy_entry_copy_listed_copy_scores)]
 fn copy_listed<'a>(
-    log: &'a [u8],
-    end: SectorNumber,
-    waiting: &'a [u8],
+    runs: Runs<'a>,
     second: &mut [u8],
     date: &[u8],
     b: Block,
@@ -68,14 +63,14 @@ fn copy_listed<'a>(
     nest: usize,
     left: usize,
 ) -> Walked
-    requires { (end.0 ≤ sectors (length log.now)) × Inside (end.0 + sectors (length waiting.now)) b × (b.size ≤ longest) × (nest ≤ 16)
+    requires { EndsWithin runs × Inside (sectors_of_both runs) b × (b.size ≤ longest) × (nest ≤ 16)
         × (i < entries_of b.size) × (length date.now ≡ 8) }
     ensures within { result.visits ≤ left }
     ensures exact { (f : ℕ) → left + left + 1 ≤ f → copied result second.new
-        ≡ copy_listed f (joined end.0 log.now waiting.now) date.now nest
-        (entry_in (bytes_of (joined end.0 log.now waiting.now) b) i) left second.old }
+        ≡ copy_listed f (read_as_one runs.entry) date.now nest
+        (entry_in (bytes_of (read_as_one runs.entry) b) i) left second.old }
 {
-    let bytes = visit::entry_bytes(log, end, waiting, b, i);
+    let bytes = visit::entry_bytes(runs, b, i);
     let e = entry::entry_at(&bytes, 0);
     let judged = descent::judge(e);
     match judged {
@@ -84,9 +79,7 @@ fn copy_listed<'a>(
             end: ended,
         },
         Judged::Visited => copy_entry(
-            log,
-            end,
-            waiting,
+            runs,
             second,
             date,
             e,
@@ -101,9 +94,7 @@ fn copy_listed<'a>(
 // Copies a block of an entry at a level, behind all that is below it.
 #[cycle(copy_below_copy_directory_copy_entry_copy_listed_copy_scores)]
 fn copy_entry<'a>(
-    log: &'a [u8],
-    end: SectorNumber,
-    waiting: &'a [u8],
+    runs: Runs<'a>,
     second: &mut [u8],
     date: &[u8],
     e: Entry,
@@ -112,27 +103,24 @@ fn copy_entry<'a>(
     nest: usize,
     left: usize,
 ) -> Walked
-    requires { (end.0 ≤ sectors (length log.now)) × (length score.now ≡ 20) × (level ≤ 7) × (length date.now ≡ 8) }
+    requires { EndsWithin runs × (length score.now ≡ 20) × (level ≤ 7) × (length date.now ≡ 8) }
     ensures within { result.visits ≤ left }
     ensures exact { (f : ℕ) → left + left + 1 ≤ f → copied result second.new
-        ≡ copy_entry f (joined end.0 log.now waiting.now) date.now e level nest score.now left second.old }
+        ≡ copy_entry f (read_as_one runs.entry) date.now e level nest score.now left second.old }
 {
-    let m = visit::visit_level(log, end, waiting, e, score, level, nest, left);
-    let look = m.look;
-    let Ok(b) = look else {
+    let m = visit::visit_level(runs, e, score, level, nest, left);
+    let Ok(b) = m.look else {
         return visit::answer(m);
     };
-    let below = copy_below(log, end, waiting, second, date, e, b, level, nest, left - 1);
+    let below = copy_below(runs, second, date, e, b, level, nest, left - 1);
     let kind = tree::type_at(e, level);
-    keep::keep(log, end, waiting, second, date, kind, b, below)
+    keep::keep(runs, second, date, kind, b, below)
 }
 
 // Copies what is below a block of an entry at a level: a pointer block's scores, or the entries of a directory.
 #[cycle(copy_below_copy_directory_copy_entry_copy_listed_copy_scores)]
 fn copy_below<'a>(
-    log: &'a [u8],
-    end: SectorNumber,
-    waiting: &'a [u8],
+    runs: Runs<'a>,
     second: &mut [u8],
     date: &[u8],
     e: Entry,
@@ -141,11 +129,11 @@ fn copy_below<'a>(
     nest: usize,
     left: usize,
 ) -> Walked
-    requires { (end.0 ≤ sectors (length log.now)) × Inside (end.0 + sectors (length waiting.now)) b × (b.size ≤ longest) × (level ≤ 7) × (nest ≤ 16) × (length date.now ≡ 8) }
+    requires { EndsWithin runs × Inside (sectors_of_both runs) b × (b.size ≤ longest) × (level ≤ 7) × (nest ≤ 16) × (length date.now ≡ 8) }
     ensures within { result.visits ≤ left }
     ensures exact { (f : ℕ) → left + left + 2 ≤ f → copied result second.new
-        ≡ copy_below f (joined end.0 log.now waiting.now) date.now e level nest left
-        (bytes_of (joined end.0 log.now waiting.now) b) second.old }
+        ≡ copy_below f (read_as_one runs.entry) date.now e level nest left
+        (bytes_of (read_as_one runs.entry) b) second.old }
 {
     let below = descent::below_block(e, level, b.size);
     match below {
@@ -153,19 +141,15 @@ fn copy_below<'a>(
             visits: 0,
             end: ended,
         },
-        Below::Entries => copy_directory(log, end, waiting, second, date, b, nest, left),
-        Below::Scores => {
-            copy_scores(log, end, waiting, second, date, e, b, level - 1, nest, left)
-        }
+        Below::Entries => copy_directory(runs, second, date, b, nest, left),
+        Below::Scores => { copy_scores(runs, second, date, e, b, level - 1, nest, left) }
     }
 }
 
 // Copies what the scores of a pointer block name, one after the other: blocks of an entry at a level.
 #[cycle(copy_below_copy_directory_copy_entry_copy_listed_copy_scores)]
 fn copy_scores<'a>(
-    log: &'a [u8],
-    end: SectorNumber,
-    waiting: &'a [u8],
+    runs: Runs<'a>,
     second: &mut [u8],
     date: &[u8],
     e: Entry,
@@ -174,39 +158,25 @@ fn copy_scores<'a>(
     nest: usize,
     left: usize,
 ) -> Walked
-    requires { (end.0 ≤ sectors (length log.now)) × Inside (end.0 + sectors (length waiting.now)) b × (b.size ≤ longest) × (b.size % 20 ≡ 0) × (level ≤ 7) × (length date.now ≡ 8) }
+    requires { EndsWithin runs × Inside (sectors_of_both runs) b × (b.size ≤ longest) × (b.size % 20 ≡ 0) × (level ≤ 7) × (length date.now ≡ 8) }
     ensures within { result.visits ≤ left }
     ensures exact { (f : ℕ) → left + left + 1 ≤ f → copied result second.new
-        ≡ copy_scores f (joined end.0 log.now waiting.now) date.now e level nest
-        (bytes_of (joined end.0 log.now waiting.now) b) left second.old }
+        ≡ copy_scores f (read_as_one runs.entry) date.now e level nest
+        (bytes_of (read_as_one runs.entry) b) left second.old }
 {
     let count = b.size / 20;
     let mut visits: usize = 0;
     for i in 0..count {
-        let s = tree::score_at(log, end, waiting, b, i);
-        let w = copy_entry(
-            log,
-            end,
-            waiting,
-            second,
-            date,
-            e,
-            &s,
-            level,
-            nest,
-            left - visits,
-        );
+        let s = tree::score_at(runs, b, i);
+        let w = copy_entry(runs, second, date, e, &s, level, nest, left - visits);
         let ended = w.end;
         visits += w.visits;
         let Ok(()) = ended else {
-            return Walked {
-                visits: visits,
-                end: ended,
-            };
+            return Walked { visits, end: ended };
         };
     }
     Walked {
-        visits: visits,
+        visits,
         end: Ok(()),
     }
 }

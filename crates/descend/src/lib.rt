@@ -5,67 +5,51 @@
 ghost use Rattle.std.specs.Prelude.{◌≡◌, ℕ, ◌+◌, ◌%◌, ◌≤◌, ◌<◌, length};
 ghost use Rattle.kind.specs.Kind.{longest};
 ghost use Rattle.block.specs.Block.{Inside};
-ghost use Rattle.block.specs.Log.{sectors, joined, bytes_of};
+ghost use Rattle.block.specs.Log.{bytes_of};
 ghost use Rattle.descent.specs.Descent.{entries_of, visit_directory, visit_entry};
 ghost use Rattle.descent.specs.Parts.{entry_in, visit_listed, visit_scores};
+ghost use Rattle.two_runs.specs.Runs.{read_as_one, sectors_of_both, EndsWithin};
 
 use block::Block;
 use descent::{Below, Judged};
 use entry::Entry;
 use sector_number::SectorNumber;
+use two_runs::Runs;
 use visit::Walked;
 
 // Visits the entries of a directory block, one after the other.
 #[cycle(visit_directory_visit_entry_visit_listed_visit_scores)]
-pub fn visit_directory<'a>(
-    log: &'a [u8],
-    end: SectorNumber,
-    waiting: &'a [u8],
-    b: Block,
-    nest: usize,
-    left: usize,
-) -> Walked
-    requires { (end.0 ≤ sectors (length log.now)) × Inside (end.0 + sectors (length waiting.now)) b × (b.size ≤ longest) × (nest ≤ 16) }
+pub fn visit_directory<'a>(runs: Runs<'a>, b: Block, nest: usize, left: usize) -> Walked
+    requires { EndsWithin runs × Inside (sectors_of_both runs) b × (b.size ≤ longest) × (nest ≤ 16) }
     ensures within { result.visits ≤ left }
     ensures exact { (f : ℕ) → left + left + 2 ≤ f →
-        result ≡ visit_directory f (joined end.0 log.now waiting.now) nest (bytes_of (joined end.0 log.now waiting.now) b) left }
+        result ≡ visit_directory f (read_as_one runs.entry) nest (bytes_of (read_as_one runs.entry) b) left }
 {
     let count = (b.size + entry::ROUND_UP) / entry::ENTRY;
     let mut visits: usize = 0;
     for i in 0..count {
-        let w = visit_listed(log, end, waiting, b, i, nest, left - visits);
+        let w = visit_listed(runs, b, i, nest, left - visits);
         let ended = w.end;
         visits += w.visits;
         let Ok(()) = ended else {
-            return Walked {
-                visits: visits,
-                end: ended,
-            };
+            return Walked { visits, end: ended };
         };
     }
     Walked {
-        visits: visits,
+        visits,
         end: Ok(()),
     }
 }
 
 // Visits entry i of a directory block: an inactive one is skipped, and an ill-formed active one is refused.
 #[cycle(visit_directory_visit_entry_visit_listed_visit_scores)]
-fn visit_listed<'a>(
-    log: &'a [u8],
-    end: SectorNumber,
-    waiting: &'a [u8],
-    b: Block,
-    i: usize,
-    nest: usize,
-    left: usize,
-) -> Walked
-    requires { (end.0 ≤ sectors (length log.now)) × Inside (end.0 + sectors (length waiting.now)) b × (b.size ≤ longest) × (nest ≤ 16) × (i < entries_of b.size) }
+fn visit_listed<'a>(runs: Runs<'a>, b: Block, i: usize, nest: usize, left: usize) -> Walked
+    requires { EndsWithin runs × Inside (sectors_of_both runs) b × (b.size ≤ longest) × (nest ≤ 16) × (i < entries_of b.size) }
     ensures within { result.visits ≤ left }
     ensures exact { (f : ℕ) → left + left + 1 ≤ f →
-        result ≡ visit_listed f (joined end.0 log.now waiting.now) nest (entry_in (bytes_of (joined end.0 log.now waiting.now) b) i) left }
+        result ≡ visit_listed f (read_as_one runs.entry) nest (entry_in (bytes_of (read_as_one runs.entry) b) i) left }
 {
-    let bytes = visit::entry_bytes(log, end, waiting, b, i);
+    let bytes = visit::entry_bytes(runs, b, i);
     let e = entry::entry_at(&bytes, 0);
     let judged = descent::judge(e);
     match judged {
@@ -74,9 +58,7 @@ fn visit_listed<'a>(
             end: ended,
         },
         Judged::Visited => visit_entry(
-            log,
-            end,
-            waiting,
+            runs,
             e,
             &bytes[entry::SCORE..],
             e.depth,
@@ -89,22 +71,19 @@ fn visit_listed<'a>(
 // Visits a block of an entry at a level, and what is below it: a pointer block's scores, or the entries of a directory.
 #[cycle(visit_directory_visit_entry_visit_listed_visit_scores)]
 fn visit_entry<'a>(
-    log: &'a [u8],
-    end: SectorNumber,
-    waiting: &'a [u8],
+    runs: Runs<'a>,
     e: Entry,
     score: &[u8],
     level: usize,
     nest: usize,
     left: usize,
 ) -> Walked
-    requires { (end.0 ≤ sectors (length log.now)) × (length score.now ≡ 20) × (level ≤ 7) }
+    requires { EndsWithin runs × (length score.now ≡ 20) × (level ≤ 7) }
     ensures within { result.visits ≤ left }
-    ensures exact { (f : ℕ) → left + left + 1 ≤ f → result ≡ visit_entry f (joined end.0 log.now waiting.now) e level nest score.now left }
+    ensures exact { (f : ℕ) → left + left + 1 ≤ f → result ≡ visit_entry f (read_as_one runs.entry) e level nest score.now left }
 {
-    let m = visit::visit_level(log, end, waiting, e, score, level, nest, left);
-    let look = m.look;
-    let Ok(b) = look else {
+    let m = visit::visit_level(runs, e, score, level, nest, left);
+    let Ok(b) = m.look else {
         return visit::answer(m);
     };
     let below = descent::below_block(e, level, b.size);
@@ -113,46 +92,39 @@ fn visit_entry<'a>(
             visits: 1,
             end: ended,
         },
-        Below::Entries => { visit::one_more(visit_directory(log, end, waiting, b, nest, left - 1)) }
-        Below::Scores => {
-            visit::one_more(visit_scores(log, end, waiting, e, b, level - 1, nest, left - 1))
-        }
+        Below::Entries => { visit::one_more(visit_directory(runs, b, nest, left - 1)) }
+        Below::Scores => { visit::one_more(visit_scores(runs, e, b, level - 1, nest, left - 1)) }
     }
 }
 
 // Visits the scores of a pointer block, one after the other: blocks of an entry at a level.
 #[cycle(visit_directory_visit_entry_visit_listed_visit_scores)]
 fn visit_scores<'a>(
-    log: &'a [u8],
-    end: SectorNumber,
-    waiting: &'a [u8],
+    runs: Runs<'a>,
     e: Entry,
     b: Block,
     level: usize,
     nest: usize,
     left: usize,
 ) -> Walked
-    requires { (end.0 ≤ sectors (length log.now)) × Inside (end.0 + sectors (length waiting.now)) b × (b.size ≤ longest) × (b.size % 20 ≡ 0) × (level ≤ 7) }
+    requires { EndsWithin runs × Inside (sectors_of_both runs) b × (b.size ≤ longest) × (b.size % 20 ≡ 0) × (level ≤ 7) }
     ensures within { result.visits ≤ left }
     ensures exact { (f : ℕ) → left + left + 1 ≤ f →
-        result ≡ visit_scores f (joined end.0 log.now waiting.now) e level nest (bytes_of (joined end.0 log.now waiting.now) b) left }
+        result ≡ visit_scores f (read_as_one runs.entry) e level nest (bytes_of (read_as_one runs.entry) b) left }
 {
     let count = b.size / 20;
     let mut visits: usize = 0;
     for i in 0..count {
-        let s = tree::score_at(log, end, waiting, b, i);
-        let w = visit_entry(log, end, waiting, e, &s, level, nest, left - visits);
+        let s = tree::score_at(runs, b, i);
+        let w = visit_entry(runs, e, &s, level, nest, left - visits);
         let ended = w.end;
         visits += w.visits;
         let Ok(()) = ended else {
-            return Walked {
-                visits: visits,
-                end: ended,
-            };
+            return Walked { visits, end: ended };
         };
     }
     Walked {
-        visits: visits,
+        visits,
         end: Ok(()),
     }
 }

@@ -96,8 +96,7 @@ pub fn locate(a: &[u8], b: &[u8]) -> Result<Difference, Refusal>
 pub fn read<'a>(a: &'a [u8], b: &'a [u8]) -> &'a [u8]
     ensures { part_of (difference_of a.now b.now) a.entry b.entry result }
 {
-    let located = locate(a, b);
-    let Ok(found) = located else {
+    let Ok(found) = locate(a, b) else {
         return &a[..0];
     };
     match found {

@@ -49,7 +49,5 @@ located log waiting page entry offset =
 
 -- "a second answer gives the number, 0 for none"
 abbrev pub answer_of : Result Located Refusal → ℕ
-answer_of (Ok (part.Stored at length)) = 0
-answer_of (Ok (part.Waiting at length)) = 0
-answer_of (Ok (part.Zeros length)) = 0
+answer_of (Ok run) = 0
 answer_of (Err w) = number_of w

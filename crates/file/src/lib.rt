@@ -2,7 +2,7 @@
 // lent page of zeros.
 #![tactic(auto)]
 
-ghost use Rattle.std.specs.Prelude.{◌≡◌, ◌*◌, ◌<◌, length};
+ghost use Rattle.std.specs.Prelude.{◌≡◌, ◌*◌, ◌<◌};
 ghost use Rattle.block.specs.Log.{addressable};
 ghost use Rattle.file.specs.File.{page_allowed, entry_readable, located, answer_of};
 ghost use Rattle.file.specs.File.{split as splitAt};
@@ -13,9 +13,10 @@ use leaf::Extent;
 use refusal::Refusal;
 use sector::SECTOR;
 use sector_number::SectorNumber;
+use two_runs::Runs;
 pub use way_down::descend;
 
-// Where it lies in what is lent: at a byte of the log or of the waiting part, or at the front of the page; or why there is none.
+// Where it lies in what is lent: at a byte of the log or of the waiting part, or at the front of the page.
 #[derive(Clone, Copy)]
 pub enum Located {
     Stored { at: usize, length: usize },
@@ -29,21 +30,17 @@ fn split(end: SectorNumber, run: Result<Extent, Refusal>) -> Result<Located, Ref
     ensures { result ≡ splitAt (sector_length * end.0) run }
 {
     let border = SECTOR * end.0;
-    match run {
-        Ok(Extent::Stored { at, length }) => {
+    match run? {
+        Extent::Stored { at, length } => {
             if at < border {
-                return Ok(Located::Stored {
-                    at: at,
-                    length: length,
-                });
+                return Ok(Located::Stored { at, length });
             }
             Ok(Located::Waiting {
                 at: at - border,
-                length: length,
+                length,
             })
         }
-        Ok(Extent::Zeros { length }) => Ok(Located::Zeros { length: length }),
-        Err(why) => Err(why),
+        Extent::Zeros { length } => Ok(Located::Zeros { length }),
     }
 }
 
@@ -95,7 +92,12 @@ pub fn locate<'a>(
         return Err(Refusal::Offset);
     }
     let end = lookup::border(log, waiting);
-    let look = way_down::descend(log, end, waiting, e, offset, &entry[entry::SCORE..ENTRY]);
+    let look = way_down::descend(
+        Runs { log, end, waiting },
+        e,
+        offset,
+        &entry[entry::SCORE..ENTRY],
+    );
     split(end, leaf::run_in(look, page.len(), e, offset))
 }
 
@@ -104,9 +106,7 @@ pub fn number(run: Result<Located, Refusal>) -> u8
     ensures { result ≡ answer_of run }
 {
     match run {
-        Ok(Located::Stored { at: _, length: _ }) => 0,
-        Ok(Located::Waiting { at: _, length: _ }) => 0,
-        Ok(Located::Zeros { length: _ }) => 0,
+        Ok(_) => 0,
         Err(why) => refusal::number(why),
     }
 }

@@ -16,8 +16,7 @@ pub fn read<'a>(
 ) -> &'a [u8]
     ensures { run_of (located log.now waiting.now page.now entry.now offset) log.entry waiting.entry page.entry result }
 {
-    let located = file::locate(log, waiting, page, entry, offset);
-    let Ok(run) = located else {
+    let Ok(run) = file::locate(log, waiting, page, entry, offset) else {
         return &page[..0];
     };
     match run {

@@ -1,19 +1,21 @@
 // Filling a lent buffer from a file: leaf by leaf, each leaf looked for once.
 #![tactic(auto)]
 
-ghost use Rattle.std.specs.Prelude.{◌≡◌, ◌-◌, ◌%◌, ◌≤◌, ◌<◌, min, length};
-ghost use Rattle.block.specs.Log.{sectors, joined};
+ghost use Rattle.std.specs.Prelude.{◌≡◌, ◌-◌, ◌%◌, ◌<◌, min, length};
 ghost use Rattle.leaf.specs.Fetch.{Open};
 ghost use Rattle.fill.specs.Fill.{stop_number, fill_outcome, filled_with, byte_below, gathered};
+ghost use Rattle.two_runs.specs.Runs.{read_as_one, EndsWithin};
 
 use entry::Entry;
 use refusal::Refusal;
 use sector_number::SectorNumber;
+use two_runs::Runs;
 
 // What filling a buffer answers: how many bytes are written to its front, and how it ended.
 #[derive(Clone, Copy)]
 pub struct Filled {
     pub count: usize,
+    // Ok where the buffer or the file is full, else the refusal at the first offset that has one.
     pub stop: Result<(), Refusal>,
 }
 
@@ -36,26 +38,18 @@ fn lesser(a: usize, b: u64) -> usize
 
 // Fills d from an offset on, up to its end or that of the leaf in which the offset lies, below the score at the top level. The leaf is
 // looked for once; where it is missing nothing is written, and the look-up's refusal is the end.
-fn fill_leaf<'a>(
-    log: &'a [u8],
-    end: SectorNumber,
-    waiting: &'a [u8],
-    e: Entry,
-    top: &[u8],
-    offset: u64,
-    d: &mut [u8],
-) -> Filled
-    requires { (end.0 ≤ sectors (length log.now)) × Open e offset × (length top.now ≡ 20) × (0 < length d.old) }
+fn fill_leaf<'a>(runs: Runs<'a>, e: Entry, top: &[u8], offset: u64, d: &mut [u8]) -> Filled
+    requires { EndsWithin runs × Open e offset × (length top.now ≡ 20) × (0 < length d.old) }
     ensures { fill_outcome result d.new
         ≡ filled_with d.old
-        (gathered (byte_below (joined end.0 log.now waiting.now) e top.now) (min (length d.old) (e.dsize - offset % e.dsize)) offset) }
+        (gathered (byte_below (read_as_one runs.entry) e top.now) (min (length d.old) (e.dsize - offset % e.dsize)) offset) }
 {
-    let look = file::descend(log, end, waiting, e, offset, top);
+    let look = file::descend(runs, e, offset, top);
     match look {
         Ok(b) => {
             let k = (offset % e.dsize as u64) as usize;
             let n = lesser(d.len(), (e.dsize - k) as u64);
-            tree::read_part(log, end, waiting, b, k, &mut d[..n]);
+            tree::read_part(runs, b, k, &mut d[..n]);
             Filled {
                 count: n,
                 stop: Ok(()),
@@ -69,32 +63,21 @@ fn fill_leaf<'a>(
 }
 
 // Fills d from an offset on, up to its end or the file's, below the score at the top level: leaf by leaf.
-pub fn fill_leaves<'a>(
-    log: &'a [u8],
-    end: SectorNumber,
-    waiting: &'a [u8],
-    e: Entry,
-    top: &[u8],
-    offset: u64,
-    d: &mut [u8],
-) -> Filled
-    requires { (end.0 ≤ sectors (length log.now)) × Open e offset × (length top.now ≡ 20) }
+pub fn fill_leaves<'a>(runs: Runs<'a>, e: Entry, top: &[u8], offset: u64, d: &mut [u8]) -> Filled
+    requires { EndsWithin runs × Open e offset × (length top.now ≡ 20) }
     ensures { fill_outcome result d.new
         ≡ filled_with d.old
-        (gathered (byte_below (joined end.0 log.now waiting.now) e top.now) (min (length d.old) (e.size - offset)) offset) }
+        (gathered (byte_below (read_as_one runs.entry) e top.now) (min (length d.old) (e.size - offset)) offset) }
 {
     let count = lesser(d.len(), e.size - offset);
     let mut done: usize = 0;
     while done < count {
         let o = offset + done as u64;
-        let leaf = fill_leaf(log, end, waiting, e, top, o, &mut d[done..count]);
+        let leaf = fill_leaf(runs, e, top, o, &mut d[done..count]);
         let stop = leaf.stop;
         done += leaf.count;
         let Ok(()) = stop else {
-            return Filled {
-                count: done,
-                stop: stop,
-            };
+            return Filled { count: done, stop };
         };
     }
     Filled {

@@ -7,6 +7,7 @@ ghost use Rattle.fill.specs.Fill.{fill_outcome, fill_of};
 use entry::{ENTRY, SCORE};
 use fill::Filled;
 use refusal::Refusal;
+use two_runs::Runs;
 
 // Fills d with the bytes of a file from an offset on: any log, waiting part, entry, offset and buffer.
 pub fn fill<'a>(log: &'a [u8], waiting: &'a [u8], entry: &[u8], offset: u64, d: &mut [u8]) -> Filled
@@ -32,5 +33,11 @@ pub fn fill<'a>(log: &'a [u8], waiting: &'a [u8], entry: &[u8], offset: u64, d: 
         };
     }
     let end = lookup::border(log, waiting);
-    fill::fill_leaves(log, end, waiting, e, &entry[SCORE..ENTRY], offset, d)
+    fill::fill_leaves(
+        Runs { log, end, waiting },
+        e,
+        &entry[SCORE..ENTRY],
+        offset,
+        d,
+    )
 }

@@ -5,17 +5,19 @@
 ghost use Rattle.std.specs.Prelude.{◌≡◌, ℕ, ◌+◌, ◌≤◌, ◌<◌, ◌^◌, length};
 ghost use Rattle.kind.specs.Kind.{longest};
 ghost use Rattle.block.specs.Block.{Inside};
-ghost use Rattle.block.specs.Log.{sectors, joined, bytes_of};
+ghost use Rattle.block.specs.Log.{bytes_of};
 ghost use Rattle.sector_log.specs.Parts.{alone};
 ghost use Rattle.sector_log.specs.Store.{store as store_of};
 ghost use Rattle.visit.specs.Visit.{walked};
 ghost use Rattle.copying.specs.Copy.{copied, store_end, stored_in, kept};
+ghost use Rattle.two_runs.specs.Runs.{read_as_one, sectors_of_both, EndsWithin};
 
 use block::Block;
 use kind::LONGEST;
 use refusal::Refusal;
 use sector_log::Stored;
 use sector_number::SectorNumber;
+use two_runs::Runs;
 use visit::Walked;
 
 // How a copy goes on behind a store in the second log.
@@ -31,20 +33,18 @@ fn end_of(stored: Result<Stored, Refusal>) -> Result<(), Refusal>
 
 // Stores a block of the first log in the second, byte for byte as it lies there.
 fn store_block<'a>(
-    log: &'a [u8],
-    end: SectorNumber,
-    waiting: &'a [u8],
+    runs: Runs<'a>,
     second: &mut [u8],
     date: &[u8],
     kind: u8,
     b: Block,
 ) -> Result<(), Refusal>
-    requires { (end.0 ≤ sectors (length log.now)) × Inside (end.0 + sectors (length waiting.now)) b × (b.size ≤ longest) × (length date.now ≡ 8) }
+    requires { EndsWithin runs × Inside (sectors_of_both runs) b × (b.size ≤ longest) × (length date.now ≡ 8) }
     ensures { (n : ℕ) → copied (walked n result) second.new
-        ≡ stored_in n (store_of (alone second.old) date.now kind (bytes_of (joined end.0 log.now waiting.now) b)) }
+        ≡ stored_in n (store_of (alone second.old) date.now kind (bytes_of (read_as_one runs.entry) b)) }
 {
     let mut page = [0u8; LONGEST];
-    reader::copy_out(log, end, waiting, b, &mut page);
+    reader::copy_out(runs, b, &mut page);
     let receipt = alone::store_alone(second, date, kind, &page[..b.size]);
     let stored = receipt.stored;
     end_of(stored)
@@ -52,31 +52,26 @@ fn store_block<'a>(
 
 // A block behind all that is below it: stored if that is done. Its own visit is counted here.
 pub fn keep<'a>(
-    log: &'a [u8],
-    end: SectorNumber,
-    waiting: &'a [u8],
+    runs: Runs<'a>,
     second: &mut [u8],
     date: &[u8],
     kind: u8,
     b: Block,
     below: Walked,
 ) -> Walked
-    requires { (end.0 ≤ sectors (length log.now)) × Inside (end.0 + sectors (length waiting.now)) b × (b.size ≤ longest) × (length date.now ≡ 8) × (below.visits + 1 < 2 ^ 64) }
+    requires { EndsWithin runs × Inside (sectors_of_both runs) b × (b.size ≤ longest) × (length date.now ≡ 8) × (below.visits + 1 < 2 ^ 64) }
     ensures count { result.visits ≡ below.visits + 1 }
     ensures exact { copied result second.new
-        ≡ kept date.now kind (bytes_of (joined end.0 log.now waiting.now) b) (copied below second.old) }
+        ≡ kept date.now kind (bytes_of (read_as_one runs.entry) b) (copied below second.old) }
 {
     let ended = below.end;
     let visits = below.visits + 1;
     let Ok(()) = ended else {
-        return Walked {
-            visits: visits,
-            end: ended,
-        };
+        return Walked { visits, end: ended };
     };
-    let stored = store_block(log, end, waiting, second, date, kind, b);
+    let stored = store_block(runs, second, date, kind, b);
     Walked {
-        visits: visits,
+        visits,
         end: stored,
     }
 }

@@ -12,6 +12,7 @@ ghost use Rattle.known_request.specs.Quick.{knowing, read_known};
 use known::Known;
 use refusal::Refusal;
 use request::{Answer, Session};
+use two_runs::Runs;
 
 // A read: test 9, the block that is found by what is known, test 13.
 pub fn serve_read<'a>(
@@ -33,8 +34,7 @@ pub fn serve_read<'a>(
         return answer::refuse(Refusal::BlockType, tag, Session::Greeted, reply);
     }
     let score = message::score_of(message);
-    let place = known_store::find_known(log, waiting, index, known, kind, score);
-    let Some(b) = place else {
+    let Some(b) = known_store::find_known(log, waiting, index, known, kind, score) else {
         let doubt = known.doubt;
         let why = known_store::missing_by(doubt);
         return answer::refuse(why, tag, Session::Greeted, reply);
@@ -43,5 +43,5 @@ pub fn serve_read<'a>(
         return answer::refuse(Refusal::OverCount, tag, Session::Greeted, reply);
     }
     let end = known.used;
-    answer::answer_read(log, end, waiting, b, tag, reply)
+    answer::answer_read(Runs { log, end, waiting }, b, tag, reply)
 }

@@ -16,6 +16,7 @@ use refusal::Refusal;
 use sector::SECTOR;
 use sector_log::{Receipt, Stored};
 use sector_number::SectorNumber;
+use two_runs::Runs;
 
 // Whether what is said to be known can belong to a log and a waiting part of these lengths.
 pub fn belongs(known: Known, log: usize, waiting: usize) -> bool
@@ -29,8 +30,7 @@ pub fn belongs(known: Known, log: usize, waiting: usize) -> bool
     if waiting / SECTOR < waits.0 {
         return false;
     }
-    let doubt = known.doubt;
-    let Some(n) = doubt else {
+    let Some(n) = known.doubt else {
         return true;
     };
     n.0 < used.0 + waits.0
@@ -62,17 +62,16 @@ pub fn find_known<'a>(
     let end = known.used;
     if kind::is_lawful(kind) {
         if kind::is_zero_score(score) {
-            return lookup::find_held(log, end, waiting, kind, score);
+            return lookup::find_held(Runs { log, end, waiting }, kind, score);
         }
     }
-    let place = index_lookup::find_hint(log, end, waiting, index, kind, score);
-    if let Some(b) = place {
+    if let Some(b) = index_lookup::find_hint(Runs { log, end, waiting }, index, kind, score) {
         return Some(b);
     }
     if known.exact {
         return None;
     }
-    lookup::find_held(log, end, waiting, kind, score)
+    lookup::find_held(Runs { log, end, waiting }, kind, score)
 }
 
 // The block that a write of this type and score has to be compared with, if there is one.
@@ -91,7 +90,7 @@ fn find_owner<'a>(
         return find_known(log, waiting, index, known, kind, score);
     }
     let end = known.used;
-    lookup::find_held(log, end, waiting, kind, score)
+    lookup::find_held(Runs { log, end, waiting }, kind, score)
 }
 
 // Stores a block of a type, with a date, by what is known.
@@ -109,8 +108,7 @@ pub fn store_known(
         ≡ store_known known log.now waiting.old index.now date.now kind «data».now }
 {
     let score = sha1_digest::sha1(data);
-    let place = find_owner(log, waiting, index, known, kind, &score);
-    let Some(b) = place else {
+    let Some(b) = find_owner(log, waiting, index, known, kind, &score) else {
         let used = known.used;
         let waits = known.waits;
         let stored = insert::append_behind(
@@ -123,17 +121,11 @@ pub fn store_known(
             &score,
             data,
         );
-        return Receipt {
-            score: score,
-            stored: stored,
-        };
+        return Receipt { score, stored };
     };
     let end = known.used;
-    let stored = store::compare(log, end, waiting, b, data);
-    Receipt {
-        score: score,
-        stored: stored,
-    }
+    let stored = store::compare(Runs { log, end, waiting }, b, data);
+    Receipt { score, stored }
 }
 
 // Whether the index leads to every sound block still, with one more at the end that is known.
@@ -171,10 +163,10 @@ pub fn known_after(
     let doubt = known.doubt;
     let more = waits.0 + count;
     Known {
-        used: used,
+        used,
         waits: SectorNumber(more),
-        doubt: doubt,
-        exact: exact,
+        doubt,
+        exact,
     }
 }
 
@@ -203,7 +195,7 @@ pub fn after_sync(known: Known) -> Known
     Known {
         used: SectorNumber(end),
         waits: SectorNumber(0),
-        doubt: doubt,
-        exact: exact,
+        doubt,
+        exact,
     }
 }

@@ -41,7 +41,7 @@ fn store_block(
     let after = known_store::known_after(index, receipt.stored, &receipt.score, kind, count, known);
     let answer = answer::answer_store(receipt, tag, reply);
     Served {
-        answer: answer,
+        answer,
         known: after,
     }
 }
@@ -65,18 +65,12 @@ pub fn serve_write(
     let tag = message::tag_of(message);
     if !kind::is_lawful(kind) {
         let answer = answer::refuse(Refusal::BlockType, tag, Session::Greeted, reply);
-        return Served {
-            answer: answer,
-            known: known,
-        };
+        return Served { answer, known };
     }
     let data = message::data_of(message);
     if LONGEST < data.len() {
         let answer = answer::refuse(Refusal::DataLength, tag, Session::Greeted, reply);
-        return Served {
-            answer: answer,
-            known: known,
-        };
+        return Served { answer, known };
     }
     store_block(known, date, log, waiting, index, reply, kind, tag, data)
 }
@@ -95,15 +89,12 @@ pub fn serve_sync(
 {
     if !known_store::settle_known(log, waiting, known) {
         let answer = answer::refuse(Refusal::NoRoom, tag, Session::Greeted, reply);
-        return Served {
-            answer: answer,
-            known: known,
-        };
+        return Served { answer, known };
     }
     let answer = answer::acknowledge(message::SYNC_REPLY, tag, reply);
     let settled = known_store::after_sync(known);
     Served {
-        answer: answer,
+        answer,
         known: settled,
     }
 }

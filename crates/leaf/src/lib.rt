@@ -13,7 +13,7 @@ use entry::Entry;
 use refusal::Refusal;
 use sector::SECTOR;
 
-// Where the run at an offset lies in one log of bytes: at a byte of it, or at the front of the page; or why there is none.
+// Where the run at an offset lies in one log of bytes: at a byte of it, or at the front of the page.
 #[derive(Clone, Copy)]
 pub enum Extent {
     Stored { at: usize, length: usize },

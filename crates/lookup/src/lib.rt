@@ -5,6 +5,7 @@ ghost use Rattle.std.specs.Prelude.{◌≡◌, ◌≤◌, length};
 ghost use Rattle.block.specs.Log.{sectors, Alike, joined};
 ghost use Rattle.sector_log.specs.Parts.{tape};
 ghost use Rattle.sector_log.specs.LookUp.{look_up, counted, look_number, look_up_asked};
+ghost use Rattle.two_runs.specs.Runs.{read_as_one, EndsWithin};
 
 use block::Block;
 pub use doubt::why_absent;
@@ -13,6 +14,7 @@ use refusal::Refusal;
 pub use score_scan::find_held;
 use sector::SECTOR;
 use sector_number::SectorNumber;
+use two_runs::Runs;
 
 // The number of a look-up: 0 for a block that is found.
 pub fn number(look: Result<Block, Refusal>) -> u8
@@ -37,37 +39,23 @@ pub fn border(log: &[u8], waiting: &[u8]) -> SectorNumber
     SectorNumber(log.len() / SECTOR)
 }
 
-// Look-up of a score and type.
-pub fn look_up<'a>(
-    log: &'a [u8],
-    end: SectorNumber,
-    waiting: &'a [u8],
-    kind: u8,
-    score: &[u8],
-) -> Result<Block, Refusal>
-    requires { (end.0 ≤ sectors (length log.now)) × (length score.now ≡ 20) }
-    ensures { result ≡ look_up (joined end.0 log.now waiting.now) kind score.now }
+// Look-up of a score and type. The empty block is found at sector 0 with size 0.
+pub fn look_up<'a>(runs: Runs<'a>, kind: u8, score: &[u8]) -> Result<Block, Refusal>
+    requires { EndsWithin runs × (length score.now ≡ 20) }
+    ensures { result ≡ look_up (read_as_one runs.entry) kind score.now }
 {
-    let place = find_held(log, end, waiting, kind, score);
-    let Some(b) = place else {
-        return Err(why_absent(log, end, waiting));
+    let Some(b) = find_held(runs, kind, score) else {
+        return Err(why_absent(runs));
     };
     Ok(b)
 }
 
 // Look-up of a block that must not be longer than count. The refusal of a missing one is handed on.
-pub fn fetch<'a>(
-    log: &'a [u8],
-    end: SectorNumber,
-    waiting: &'a [u8],
-    kind: u8,
-    score: &[u8],
-    count: usize,
-) -> Result<Block, Refusal>
-    requires { (end.0 ≤ sectors (length log.now)) × (length score.now ≡ 20) }
-    ensures { result ≡ counted count (look_up (joined end.0 log.now waiting.now) kind score.now) }
+pub fn fetch<'a>(runs: Runs<'a>, kind: u8, score: &[u8], count: usize) -> Result<Block, Refusal>
+    requires { EndsWithin runs × (length score.now ≡ 20) }
+    ensures { result ≡ counted count (look_up (read_as_one runs.entry) kind score.now) }
 {
-    let b = look_up(log, end, waiting, kind, score)?;
+    let b = look_up(runs, kind, score)?;
     if count < b.size {
         return Err(Refusal::OverCount);
     }
@@ -90,5 +78,5 @@ pub fn ask<'a>(
         return Err(Refusal::BlockType);
     }
     let end = border(log, waiting);
-    look_up(log, end, waiting, kind, score)
+    look_up(Runs { log, end, waiting }, kind, score)
 }

@@ -2,17 +2,18 @@
 // `two_runs`.
 #![tactic(auto)]
 
-ghost use Rattle.std.specs.Prelude.{◌≡◌, ◌+◌, ◌≤◌, length};
-ghost use Rattle.block.specs.Log.{sectors, joined};
+ghost use Rattle.std.specs.Prelude.{◌≡◌, ◌≤◌, length};
 ghost use Rattle.walk.specs.Walk.{most_allowance};
 ghost use Rattle.comparison.specs.Compared.{one_unit, refused as refused_by};
 ghost use Rattle.open_pair.specs.Opens.{Opens};
+ghost use Rattle.two_runs.specs.Runs.{read_as_one, sectors_of_both, EndsWithin};
 
 use block::Block;
 use comparison::Compared;
 use entry::Entry;
 use refusal::Refusal;
 use sector_number::SectorNumber;
+use two_runs::Runs;
 
 // What opening a pair gives: what the comparison of the pair is, or where its two blocks are.
 #[derive(Clone, Copy)]
@@ -41,16 +42,14 @@ pub fn one_unit(c: Compared) -> Compared
     Compared {
         count: c.count,
         units: c.units + 1,
-        end: end,
+        end,
     }
 }
 
 // Opens the pair of blocks under two scores, at a level: equal scores are skipped, else the first block is read and checked before the
 // second. A block that can't be read is its refusal, and its unit is spent.
 pub fn open<'a>(
-    log: &'a [u8],
-    end: SectorNumber,
-    waiting: &'a [u8],
+    runs: Runs<'a>,
     e: Entry,
     level: usize,
     nest: usize,
@@ -58,8 +57,8 @@ pub fn open<'a>(
     t: &[u8],
     left: usize,
 ) -> Pair
-    requires { (end.0 ≤ sectors (length log.now)) × (length s.now ≡ 20) × (length t.now ≡ 20) × (level ≤ 7) }
-    ensures { Opens (joined end.0 log.now waiting.now) (end.0 + sectors (length waiting.now)) e level nest s.now t.now left result }
+    requires { EndsWithin runs × (length s.now ≡ 20) × (length t.now ≡ 20) × (level ≤ 7) }
+    ensures { Opens (read_as_one runs.entry) (sectors_of_both runs.entry) e level nest s.now t.now left result }
 {
     if buffer::equal(s, t) {
         return Pair::Ended(Compared {
@@ -74,10 +73,10 @@ pub fn open<'a>(
     if left == 0 {
         return Pair::Ended(refused(Refusal::Spent));
     }
-    let one = pair::read_block(log, end, waiting, e, s, level);
+    let one = pair::read_block(runs, e, s, level);
     match one {
         Ok(b) => {
-            let other = pair::read_block(log, end, waiting, e, t, level);
+            let other = pair::read_block(runs, e, t, level);
             match other {
                 Ok(c) => Pair::Both(b, c),
                 Err(why) => Pair::Ended(one_unit(refused(why))),

@@ -29,10 +29,7 @@ fn hand_on(
         ≡ knowing known (step_by session message.now (some date.now) index.old (beside log.old waiting.old) reply.old) }
 {
     let answer = archive::serve(session, message, date, log, waiting, index, reply);
-    Served {
-        answer: answer,
-        known: known,
-    }
+    Served { answer, known }
 }
 
 fn is_greeted(session: Session) -> bool
@@ -95,7 +92,7 @@ fn serve_admitted(
                 current, message, log, waiting, index, reply, kind, count,
             );
             Served {
-                answer: answer,
+                answer,
                 known: current,
             }
         }

@@ -19,6 +19,7 @@ use refusal::Refusal;
 use request::{Answer, Session};
 use sector::SECTOR;
 use sector_number::SectorNumber;
+use two_runs::Runs;
 
 // A read: test 9, the look-up by index among the log's sectors and those that wait, test 13.
 fn read_anywhere<'a>(
@@ -40,9 +41,9 @@ fn read_anywhere<'a>(
     }
     let end = lookup::border(log, waiting);
     let score = message::score_of(message);
-    let look = index_lookup::fetch_by(log, end, waiting, index, kind, score, count);
+    let look = index_lookup::fetch_by(Runs { log, end, waiting }, index, kind, score, count);
     match look {
-        Ok(b) => answer::answer_read(log, end, waiting, b, tag, reply),
+        Ok(b) => answer::answer_read(Runs { log, end, waiting }, b, tag, reply),
         Err(why) => answer::refuse(why, tag, Session::Greeted, reply),
     }
 }
@@ -57,7 +58,16 @@ fn answer_settled(log: &[u8], b: Block, count: usize, tag: u8, reply: &mut [u8])
         return answer::refuse(Refusal::OverCount, tag, Session::Greeted, reply);
     }
     let end = log.len() / SECTOR;
-    answer::answer_read(log, SectorNumber(end), &log[..0], b, tag, reply)
+    answer::answer_read(
+        Runs {
+            log,
+            end: SectorNumber(end),
+            waiting: &log[..0],
+        },
+        b,
+        tag,
+        reply,
+    )
 }
 
 // A read. Where a block is found among the log's own sectors, by the index or without an entry by scan, those that wait are not looked at.
@@ -76,8 +86,7 @@ pub fn serve_read<'a>(
 {
     if kind::is_lawful(kind) {
         let score = message::score_of(message);
-        let place = settled_lookup::find_settled(log, index, kind, score);
-        if let Some(b) = place {
+        if let Some(b) = settled_lookup::find_settled(log, index, kind, score) {
             return answer_settled(log, b, count, message::tag_of(message), reply);
         }
     }

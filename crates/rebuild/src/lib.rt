@@ -13,6 +13,7 @@ ghost use Rattle.rebuild.specs.Rebuild.{entered_found};
 use refusal::Refusal;
 use sector::{KIND, KIND_WIDTH, SCORE, SCORE_WIDTH, SECTOR};
 use sector_number::SectorNumber;
+use two_runs::Runs;
 
 // The type that two hex digits name.
 pub fn read_kind(digits: &[u8]) -> u8
@@ -44,12 +45,15 @@ fn enter_at(log: &[u8], n: SectorNumber, index: &mut [u8])
     ensures { index.new ≡ entered_found index.old (sound log.now n.0) }
 {
     let none = [0u8; 0];
-    let whole = SectorNumber(log.len() / SECTOR);
-    let place = reader::sound_at(log, whole, &none, n);
-    let Some(_) = place else {
+    let runs = Runs {
+        log,
+        end: SectorNumber(log.len() / SECTOR),
+        waiting: &none,
+    };
+    let Some(_) = reader::sound_at(runs, n) else {
         return;
     };
-    enter_label(reader::sector_at(log, whole, &none, n), n, index);
+    enter_label(reader::sector_at(runs, n), n, index);
 }
 
 // Enters each sound block, in log order.

@@ -7,7 +7,7 @@ ghost use Rattle.report.specs.Report.{report_outcome, report_of};
 use refusal::Refusal;
 use sector::SECTOR;
 
-// The report of any log, at the front of the lent buffer.
+// The report of any log, at the front of the lent buffer: how many bytes it fills.
 pub fn report(log: &[u8], buffer: &mut [u8]) -> Result<usize, Refusal>
     ensures { report_outcome result buffer.new ≡ report_of log.now buffer.old }
 {

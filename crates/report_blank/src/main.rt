@@ -6,8 +6,7 @@ use std::io;
 fn main(rt: HostRuntime) -> io::Result<()> {
     let log = [0u8; 1024];
     let mut text = [0u8; 128];
-    let told = report::report(&log, &mut text);
-    let Ok(n) = told else {
+    let Ok(n) = report::report(&log, &mut text) else {
         return Ok(());
     };
     rt.write_all(&text[..n])

@@ -25,8 +25,7 @@ fn answer(log: &[u8], d: &mut [u8]) -> usize
     if 65024 < log.len() {
         return refuse(d);
     }
-    let told = report::report(log, d);
-    let Ok(n) = told else {
+    let Ok(n) = report::report(log, d) else {
         return refuse(d);
     };
     n

@@ -1,16 +1,17 @@
 // The first sound block of a score and type, by scan of a log and the sectors that wait behind its used part.
 #![tactic(auto)]
 
-ghost use Rattle.std.specs.Prelude.{◌≡◌, ◌≤◌, length};
-ghost use Rattle.block.specs.Log.{sectors, joined};
+ghost use Rattle.std.specs.Prelude.{◌≡◌, length};
 ghost use Rattle.sector_log.specs.LookUp.{blocks, first_of, held};
 ghost use Rattle.reader.specs.Reader.{placed};
 ghost use Rattle.score_scan.specs.Digits.{may_hold};
 ghost use Rattle.sector.specs.Sector.{sector_length, score_width};
+ghost use Rattle.two_runs.specs.Runs.{read_as_one, EndsWithin};
 
 use block::Block;
 use sector::{FRONT, LABEL, SCORE, SCORE_WIDTH, SECTOR};
 use sector_number::SectorNumber;
+use two_runs::Runs;
 
 // Where the digits of the score begin and end in a sector that begins with the line of a date.
 const DATED: usize = FRONT + SCORE;
@@ -37,24 +38,17 @@ fn may_hold(s: &[u8], digits: &[u8]) -> bool
 }
 
 // The first sound block of a type and score. Only a block whose label has the score is looked at.
-fn find<'a>(
-    log: &'a [u8],
-    end: SectorNumber,
-    waiting: &'a [u8],
-    kind: u8,
-    score: &[u8],
-) -> Option<Block>
-    requires { (end.0 ≤ sectors (length log.now)) × (length score.now ≡ 20) }
-    ensures { result ≡ placed (first_of kind score.now (blocks (joined end.0 log.now waiting.now))) }
+fn find<'a>(runs: Runs<'a>, kind: u8, score: &[u8]) -> Option<Block>
+    requires { EndsWithin runs × (length score.now ≡ 20) }
+    ensures { result ≡ placed (first_of kind score.now (blocks (read_as_one runs.entry))) }
 {
     let mut digits = [0u8; SCORE_WIDTH];
     hexadecimal::put_hex_bytes(&mut digits, score);
-    let count = end.0 + waiting.len() / SECTOR;
+    let count = runs.end.0 + runs.waiting.len() / SECTOR;
     for n in 0..count {
-        let s = reader::sector_at(log, end, waiting, SectorNumber(n));
+        let s = reader::sector_at(runs, SectorNumber(n));
         if may_hold(s, &digits) {
-            let place = reader::sound_as(log, end, waiting, SectorNumber(n), kind, score);
-            if let Some(b) = place {
+            if let Some(b) = reader::sound_as(runs, SectorNumber(n), kind, score) {
                 return Some(b);
             }
         }
@@ -63,15 +57,9 @@ fn find<'a>(
 }
 
 // What look-up finds: the empty block for the zero score, else the first sound block.
-pub fn find_held<'a>(
-    log: &'a [u8],
-    end: SectorNumber,
-    waiting: &'a [u8],
-    kind: u8,
-    score: &[u8],
-) -> Option<Block>
-    requires { (end.0 ≤ sectors (length log.now)) × (length score.now ≡ 20) }
-    ensures { result ≡ placed (held (joined end.0 log.now waiting.now) kind score.now) }
+pub fn find_held<'a>(runs: Runs<'a>, kind: u8, score: &[u8]) -> Option<Block>
+    requires { EndsWithin runs × (length score.now ≡ 20) }
+    ensures { result ≡ placed (held (read_as_one runs.entry) kind score.now) }
 {
     if kind::is_lawful(kind) {
         if kind::is_zero_score(score) {
@@ -82,5 +70,5 @@ pub fn find_held<'a>(
             });
         }
     }
-    find(log, end, waiting, kind, score)
+    find(runs, kind, score)
 }

@@ -8,6 +8,7 @@ ghost use Rattle.settled_lookup.specs.Settled.{FoundSettled};
 use block::Block;
 use sector::SECTOR;
 use sector_number::SectorNumber;
+use two_runs::Runs;
 
 // The block to which the first entry leads that names the score and type, or where none does the first by scan, if it is among the log's own sectors: then nobody
 // needs to look at those that wait.
@@ -27,8 +28,25 @@ pub fn find_settled(log: &[u8], index: &[u8], kind: u8, score: &[u8]) -> Option<
             if end <= first.0 {
                 return None;
             }
-            return reader::sound_as(log, SectorNumber(end), &log[..0], first, kind, score);
+            return reader::sound_as(
+                Runs {
+                    log,
+                    end: SectorNumber(end),
+                    waiting: &log[..0],
+                },
+                first,
+                kind,
+                score,
+            );
         }
     }
-    lookup::find_held(log, SectorNumber(end), &log[..0], kind, score)
+    lookup::find_held(
+        Runs {
+            log,
+            end: SectorNumber(end),
+            waiting: &log[..0],
+        },
+        kind,
+        score,
+    )
 }

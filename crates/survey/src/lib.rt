@@ -7,6 +7,7 @@ ghost use Rattle.survey.specs.Survey.{survey_of};
 
 use sector::SECTOR;
 use sector_number::SectorNumber;
+use two_runs::Runs;
 
 // The sound blocks of a log and its doubtful sectors, counted.
 #[derive(Clone, Copy)]
@@ -26,7 +27,14 @@ pub fn scan(log: &[u8], end: SectorNumber) -> Survey
     let mut doubtful: usize = 0;
     let mut n: usize = 0;
     while n < end.0 {
-        let place = reader::sound_at(log, whole, &none, SectorNumber(n));
+        let place = reader::sound_at(
+            Runs {
+                log,
+                end: whole,
+                waiting: &none,
+            },
+            SectorNumber(n),
+        );
         match place {
             Some(b) => {
                 let parts = block::parts_of(b.label, b.size);

@@ -8,6 +8,7 @@ ghost use Rattle.survey_calls.specs.Survey.{text_length, report_number, reported
 use refusal::Refusal;
 use sector::SECTOR;
 use sector_number::SectorNumber;
+use two_runs::Runs;
 
 // The result of a report: 256 times the length of its text, or the number of the refusal.
 fn report_number(told: Result<usize, Refusal>) -> u32
@@ -39,7 +40,14 @@ pub fn sound_at(log: &[u8], n: usize) -> u32
         return 0;
     }
     let none = [0u8; 0];
-    let place = reader::sound_at(log, SectorNumber(count), &none, SectorNumber(n));
+    let place = reader::sound_at(
+        Runs {
+            log,
+            end: SectorNumber(count),
+            waiting: &none,
+        },
+        SectorNumber(n),
+    );
     match place {
         Some(b) => 256 * (b.size as u32),
         None => 0,

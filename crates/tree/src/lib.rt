@@ -5,12 +5,14 @@
 ghost use Rattle.std.specs.Prelude.{◌≡◌, ◌+◌, ◌-◌, ◌%◌, ◌^◌, ◌≤◌, ◌<◌, min, length, take, drop};
 ghost use Rattle.sector.specs.Sector.{payload_of, filled};
 ghost use Rattle.block.specs.Block.{Inside};
-ghost use Rattle.block.specs.Log.{sectors, joined, bytes_of};
+ghost use Rattle.block.specs.Log.{bytes_of};
 ghost use Rattle.tree.specs.Tree.{type_at, count_at, pointer};
+ghost use Rattle.two_runs.specs.Runs.{read_as_one, sectors_of_both, EndsWithin};
 
 use block::Block;
 use entry::Entry;
 use sector_number::SectorNumber;
+use two_runs::Runs;
 
 // The least of three.
 pub fn least(a: usize, b: usize, c: u64) -> usize
@@ -20,37 +22,23 @@ pub fn least(a: usize, b: usize, c: u64) -> usize
 }
 
 // The bytes of a block from byte k on, where they lie: up to the end of the payload, of the block or of the room.
-fn piece_from<'a>(
-    log: &'a [u8],
-    end: SectorNumber,
-    waiting: &'a [u8],
-    b: Block,
-    k: usize,
-    room: usize,
-) -> &'a [u8]
-    requires { (end.0 ≤ sectors (length log.now)) × Inside (end.0 + sectors (length waiting.now)) b × (k < b.size) }
-    ensures { result.now ≡ take (min (payload_of b.label - k % payload_of b.label) (min (b.size - k) room)) (drop k (bytes_of (joined end.0 log.now waiting.now) b)) }
+fn piece_from<'a>(runs: Runs<'a>, b: Block, k: usize, room: usize) -> &'a [u8]
+    requires { EndsWithin runs × Inside (sectors_of_both runs) b × (k < b.size) }
+    ensures { result.now ≡ take (min (payload_of b.label - k % payload_of b.label) (min (b.size - k) room)) (drop k (bytes_of (read_as_one runs.entry) b)) }
 {
     let p = block::payload_of(b.label);
     let at = k % p;
     let n = b.first.0 + k / p;
-    let s = reader::sector_at(log, end, waiting, SectorNumber(n));
+    let s = reader::sector_at(runs, SectorNumber(n));
     let from = b.label + at;
     let to = from + least(p - at, b.size - k, room as u64);
     &s[from..to]
 }
 
 // Fills d with the bytes of a block from `from` on, and zeros past its end: payload by payload.
-pub fn read_part<'a>(
-    log: &'a [u8],
-    end: SectorNumber,
-    waiting: &'a [u8],
-    b: Block,
-    from: usize,
-    d: &mut [u8],
-)
-    requires { (end.0 ≤ sectors (length log.now)) × Inside (end.0 + sectors (length waiting.now)) b × (from + length d.old < 2 ^ 64) }
-    ensures { d.new ≡ filled (length d.old) (drop from (bytes_of (joined end.0 log.now waiting.now) b)) }
+pub fn read_part<'a>(runs: Runs<'a>, b: Block, from: usize, d: &mut [u8])
+    requires { EndsWithin runs × Inside (sectors_of_both runs) b × (from + length d.old < 2 ^ 64) }
+    ensures { d.new ≡ filled (length d.old) (drop from (bytes_of (read_as_one runs.entry) b)) }
 {
     let mut done: usize = 0;
     while done < d.len() {
@@ -59,29 +47,23 @@ pub fn read_part<'a>(
             buffer::clear(&mut d[done..]);
             return;
         }
-        let piece = piece_from(log, end, waiting, b, k, d.len() - done);
+        let piece = piece_from(runs, b, k, d.len() - done);
         buffer::copy_at(d, done, piece);
         done += piece.len();
     }
 }
 
 // Score i of a pointer block; past its end the zero score.
-pub fn score_at<'a>(
-    log: &'a [u8],
-    end: SectorNumber,
-    waiting: &'a [u8],
-    b: Block,
-    i: usize,
-) -> [u8; 20]
-    requires { (end.0 ≤ sectors (length log.now)) × Inside (end.0 + sectors (length waiting.now)) b × (b.size % 20 ≡ 0) × (i < 2 ^ 32) }
-    ensures { result ≡ pointer (bytes_of (joined end.0 log.now waiting.now) b) i }
+pub fn score_at<'a>(runs: Runs<'a>, b: Block, i: usize) -> [u8; 20]
+    requires { EndsWithin runs × Inside (sectors_of_both runs) b × (b.size % 20 ≡ 0) × (i < 2 ^ 32) }
+    ensures { result ≡ pointer (bytes_of (read_as_one runs.entry) b) i }
 {
     let from = 20 * i;
     if b.size <= from {
         return kind::zero_score();
     }
     let mut d = [0u8; 20];
-    read_part(log, end, waiting, b, from, &mut d);
+    read_part(runs, b, from, &mut d);
     d
 }
 

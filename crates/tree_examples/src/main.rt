@@ -27,10 +27,8 @@ fn print_number(rt: &impl Print, name: &[u8], n: u64) -> io::Result<()> {
 // A name and bytes in hexadecimal.
 fn print_bytes(rt: &impl Print, name: &[u8], s: &[u8]) -> io::Result<()> {
     print(rt, name)?;
-    let mut i: usize = 0;
-    while i < s.len() {
-        print!(rt; "{:02x}", wide(s[i]))?;
-        i += 1;
+    for b in s {
+        print!(rt; "{b:02x}")?;
     }
     Ok(())
 }
@@ -57,10 +55,8 @@ fn put(log: &mut [u8], kind: u8, data: &[u8]) -> [u8; 20] {
 
 // Fills d with the bytes of the example file from an offset on: byte k of it is k modulo 251, plus 1.
 fn fill(d: &mut [u8], from: usize) {
-    let mut i: usize = 0;
-    while i < d.len() {
+    for i in 0..d.len() {
         d[i] = ((from % 251 + i % 251) % 251 + 1) as u8;
-        i += 1;
     }
 }
 
@@ -85,11 +81,9 @@ fn put_leaves(log: &mut [u8], scores: &mut [u8], n: usize) -> [u8; 20]
     requires { (n ≤ 27) × (540 ≡ length scores.old) }
 {
     let mut last = kind::zero_score();
-    let mut k: usize = 0;
-    while k < n {
+    for k in 0..n {
         last = put_leaf(log, 5 * k, 5);
         set_score(scores, k, &last);
-        k += 1;
     }
     last
 }
@@ -99,13 +93,11 @@ fn put_pointers(log: &mut [u8], kind: u8, scores: &mut [u8], n: usize) -> [u8; 2
     requires { (n ≤ 9) × (540 ≡ length scores.old) }
 {
     let mut last = kind::zero_score();
-    let mut k: usize = 0;
-    while k < n {
+    for k in 0..n {
         let from = 60 * k;
         let to = from + 60;
         last = put(log, kind, &scores[from..to]);
         set_score(scores, k, &last);
-        k += 1;
     }
     last
 }
@@ -129,11 +121,9 @@ fn put_tree(log: &mut [u8], depth: usize) -> [u8; 20]
     let mut scores = [0u8; 540];
     let mut n = leaves(depth);
     let mut top = put_leaves(log, &mut scores, n);
-    let mut level: usize = 0;
-    while level < depth {
+    for level in 0..depth {
         n = n / 3;
         top = put_pointers(log, (3 + level) as u8, &mut scores, n);
-        level += 1;
     }
     top
 }
@@ -505,11 +495,9 @@ fn nest(rt: &impl Print, log: &mut [u8], name: &[u8], n: usize) -> io::Result<()
     begin(rt, log, name)?;
     let leaf = put_leaf(log, 0, 5);
     let mut e = entry(rt, 5, 1, 5, &leaf)?;
-    let mut k: usize = 1;
-    while k < n {
+    for _ in 1..n {
         let s = put(log, 2, &e);
         e = entry(rt, 40, 3, 40, &s)?;
-        k += 1;
     }
     walk_above(rt, log, &e)
 }

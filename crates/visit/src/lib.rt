@@ -4,16 +4,18 @@
 ghost use Rattle.std.specs.Prelude.{◌≡◌, ◌+◌, ◌*◌, ◌≤◌, ◌<◌, ◌^◌, length, drop};
 ghost use Rattle.sector.specs.Sector.{filled};
 ghost use Rattle.block.specs.Block.{Inside};
-ghost use Rattle.block.specs.Log.{sectors, joined, bytes_of};
+ghost use Rattle.block.specs.Log.{bytes_of};
 ghost use Rattle.tree.specs.Tree.{type_at, count_at};
 ghost use Rattle.visit.specs.Visit.{more};
 ghost use Rattle.visit.specs.Met.{met_of, answer_of};
+ghost use Rattle.two_runs.specs.Runs.{read_as_one, sectors_of_both, EndsWithin};
 
 use block::Block;
 use entry::Entry;
 pub use lookup::{are_allowed, border};
 use refusal::Refusal;
 use sector_number::SectorNumber;
+use two_runs::Runs;
 
 // What a walk answers: the visits spent, and how it ended.
 #[derive(Clone, Copy)]
@@ -30,44 +32,36 @@ pub struct Met {
 }
 
 // Entry i of a directory block.
-pub fn entry_bytes<'a>(
-    log: &'a [u8],
-    end: SectorNumber,
-    waiting: &'a [u8],
-    b: Block,
-    i: usize,
-) -> [u8; 40]
-    requires { (end.0 ≤ sectors (length log.now)) × Inside (end.0 + sectors (length waiting.now)) b × (i < 2 ^ 32) }
-    ensures { result ≡ filled 40 (drop (40 * i) (bytes_of (joined end.0 log.now waiting.now) b)) }
+pub fn entry_bytes<'a>(runs: Runs<'a>, b: Block, i: usize) -> [u8; 40]
+    requires { EndsWithin runs × Inside (sectors_of_both runs) b × (i < 2 ^ 32) }
+    ensures { result ≡ filled 40 (drop (40 * i) (bytes_of (read_as_one runs.entry) b)) }
 {
     let mut d = [0u8; 40];
-    tree::read_part(log, end, waiting, b, 40 * i, &mut d);
+    tree::read_part(runs, b, 40 * i, &mut d);
     d
 }
 
 // A root, padded.
-pub fn root_bytes<'a>(log: &'a [u8], end: SectorNumber, waiting: &'a [u8], b: Block) -> [u8; 300]
-    requires { (end.0 ≤ sectors (length log.now)) × Inside (end.0 + sectors (length waiting.now)) b }
-    ensures { result ≡ filled 300 (drop 0 (bytes_of (joined end.0 log.now waiting.now) b)) }
+pub fn root_bytes<'a>(runs: Runs<'a>, b: Block) -> [u8; 300]
+    requires { EndsWithin runs × Inside (sectors_of_both runs) b }
+    ensures { result ≡ filled 300 (drop 0 (bytes_of (read_as_one runs.entry) b)) }
 {
     let mut d = [0u8; 300];
-    tree::read_part(log, end, waiting, b, 0, &mut d);
+    tree::read_part(runs, b, 0, &mut d);
     d
 }
 
 // A visit: refusal 20, then 21, then one is spent, then the look-up and its count.
 pub fn visit<'a>(
-    log: &'a [u8],
-    end: SectorNumber,
-    waiting: &'a [u8],
+    runs: Runs<'a>,
     nest: usize,
     left: usize,
     kind: u8,
     count: usize,
     score: &[u8],
 ) -> Met
-    requires { (end.0 ≤ sectors (length log.now)) × (length score.now ≡ 20) }
-    ensures { result ≡ met_of (joined end.0 log.now waiting.now) nest left kind count score.now }
+    requires { EndsWithin runs × (length score.now ≡ 20) }
+    ensures { result ≡ met_of (read_as_one runs.entry) nest left kind count score.now }
 {
     if 16 < nest {
         return Met {
@@ -83,28 +77,24 @@ pub fn visit<'a>(
     }
     Met {
         spent: 1,
-        look: lookup::fetch(log, end, waiting, kind, score, count),
+        look: lookup::fetch(runs, kind, score, count),
     }
 }
 
 // A visit of a block of an entry at a level.
 pub fn visit_level<'a>(
-    log: &'a [u8],
-    end: SectorNumber,
-    waiting: &'a [u8],
+    runs: Runs<'a>,
     e: Entry,
     score: &[u8],
     level: usize,
     nest: usize,
     left: usize,
 ) -> Met
-    requires { (end.0 ≤ sectors (length log.now)) × (length score.now ≡ 20) × (level ≤ 7) }
-    ensures { result ≡ met_of (joined end.0 log.now waiting.now) nest left (type_at e level) (count_at e level) score.now }
+    requires { EndsWithin runs × (length score.now ≡ 20) × (level ≤ 7) }
+    ensures { result ≡ met_of (read_as_one runs.entry) nest left (type_at e level) (count_at e level) score.now }
 {
     visit(
-        log,
-        end,
-        waiting,
+        runs,
         nest,
         left,
         tree::type_at(e, level),
@@ -138,6 +128,6 @@ pub fn one_more(w: Walked) -> Walked
     let end = w.end;
     Walked {
         visits: w.visits + 1,
-        end: end,
+        end,
     }
 }

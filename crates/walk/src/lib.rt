@@ -2,14 +2,15 @@
 #![tactic(auto)]
 
 ghost use Rattle.std.specs.Prelude.{◌≡◌, ◌≤◌, length};
-ghost use Rattle.block.specs.Log.{sectors, joined};
 ghost use Rattle.visit.specs.Visit.{end_number};
 ghost use Rattle.walk.specs.Walk.{walk_top, walk_root, walk_of};
+ghost use Rattle.two_runs.specs.Runs.{read_as_one, EndsWithin};
 
 use entry::{ROOT_SCORE, ROOT_SCORE_END};
 use kind::LONGEST;
 use refusal::Refusal;
 use sector_number::SectorNumber;
+use two_runs::Runs;
 use visit::Walked;
 
 // The largest allowance.
@@ -26,55 +27,35 @@ pub fn number(end: Result<(), Refusal>) -> u8
 }
 
 // Visits a root's directory block, and what is below it.
-fn walk_top<'a>(
-    log: &'a [u8],
-    end: SectorNumber,
-    waiting: &'a [u8],
-    score: &[u8],
-    left: usize,
-) -> Walked
-    requires { (end.0 ≤ sectors (length log.now)) × (length score.now ≡ 20) }
+fn walk_top<'a>(runs: Runs<'a>, score: &[u8], left: usize) -> Walked
+    requires { EndsWithin runs × (length score.now ≡ 20) }
     ensures within { result.visits ≤ left }
-    ensures exact { result ≡ walk_top (joined end.0 log.now waiting.now) score.now left }
+    ensures exact { result ≡ walk_top (read_as_one runs.entry) score.now left }
 {
-    let m = visit::visit(log, end, waiting, 1, left, 2, LONGEST, score);
-    let look = m.look;
-    let Ok(b) = look else {
+    let m = visit::visit(runs, 1, left, 2, LONGEST, score);
+    let Ok(b) = m.look else {
         return visit::answer(m);
     };
-    visit::one_more(descend::visit_directory(log, end, waiting, b, 1, left - 1))
+    visit::one_more(descend::visit_directory(runs, b, 1, left - 1))
 }
 
 // Visits a root, and what is below it. The score of the root before it isn't followed.
-fn walk_root<'a>(
-    log: &'a [u8],
-    end: SectorNumber,
-    waiting: &'a [u8],
-    score: &[u8],
-    left: usize,
-) -> Walked
-    requires { (end.0 ≤ sectors (length log.now)) × (length score.now ≡ 20) }
-    ensures { result ≡ walk_root (joined end.0 log.now waiting.now) score.now left }
+fn walk_root<'a>(runs: Runs<'a>, score: &[u8], left: usize) -> Walked
+    requires { EndsWithin runs × (length score.now ≡ 20) }
+    ensures { result ≡ walk_root (read_as_one runs.entry) score.now left }
 {
-    let m = visit::visit(log, end, waiting, 0, left, 1, 300, score);
-    let look = m.look;
-    let Ok(b) = look else {
+    let m = visit::visit(runs, 0, left, 1, 300, score);
+    let Ok(b) = m.look else {
         return visit::answer(m);
     };
-    let root = visit::root_bytes(log, end, waiting, b);
+    let root = visit::root_bytes(runs, b);
     if !entry::is_root(&root) {
         return Walked {
             visits: 1,
             end: Err(Refusal::Entry),
         };
     }
-    visit::one_more(walk_top(
-        log,
-        end,
-        waiting,
-        &root[ROOT_SCORE..ROOT_SCORE_END],
-        left - 1,
-    ))
+    visit::one_more(walk_top(runs, &root[ROOT_SCORE..ROOT_SCORE_END], left - 1))
 }
 
 // Walks from a root score, for any log, waiting part, score and allowance.
@@ -94,5 +75,5 @@ pub fn walk<'a>(log: &'a [u8], waiting: &'a [u8], score: &[u8; 20], allowance: u
         };
     }
     let end = visit::border(log, waiting);
-    walk_root(log, end, waiting, score, allowance as usize)
+    walk_root(Runs { log, end, waiting }, score, allowance as usize)
 }

@@ -1,16 +1,17 @@
 // The way down to the leaf of an offset, through the pointer blocks.
 #![tactic(auto)]
 
-ghost use Rattle.std.specs.Prelude.{◌≡◌, ℕ, ◌+◌, ◌/◌, ◌%◌, ◌^◌, ◌≤◌, ◌<◌, length};
-ghost use Rattle.block.specs.Log.{sectors, joined};
+ghost use Rattle.std.specs.Prelude.{◌≡◌, ℕ, ◌/◌, ◌%◌, ◌^◌, ◌<◌, length};
 ghost use Rattle.leaf.specs.Leaf.{under};
 ghost use Rattle.leaf.specs.Fetch.{LiesIn, run_in, Open};
+ghost use Rattle.two_runs.specs.Runs.{read_as_one, sectors_of_both, EndsWithin};
 
 use block::Block;
 use entry::Entry;
 use refusal::Refusal;
 use sector::LABEL;
 use sector_number::SectorNumber;
+use two_runs::Runs;
 
 // The digit of weight p to the power d of n in base p. Repeated division: the power itself may pass 64 bits.
 fn digit(n: u64, p: u64, d: usize) -> u64
@@ -26,18 +27,11 @@ fn digit(n: u64, p: u64, d: usize) -> u64
 
 // The leaf in which an offset lies, from the score at the top level down; below a zero score it is the empty block. A block that is
 // missing is refused: the look-up's refusal is handed on. So it is for every offset of that leaf.
-pub fn descend<'a>(
-    log: &'a [u8],
-    end: SectorNumber,
-    waiting: &'a [u8],
-    e: Entry,
-    offset: u64,
-    top: &[u8],
-) -> Result<Block, Refusal>
-    requires { (end.0 ≤ sectors (length log.now)) × Open e offset × (length top.now ≡ 20) }
-    ensures room { LiesIn (end.0 + sectors (length waiting.now)) result }
+pub fn descend<'a>(runs: Runs<'a>, e: Entry, offset: u64, top: &[u8]) -> Result<Block, Refusal>
+    requires { EndsWithin runs × Open e offset × (length top.now ≡ 20) }
+    ensures room { LiesIn (sectors_of_both runs.entry) result }
     ensures run { (page o : ℕ) → o / e.dsize ≡ offset / e.dsize → run_in page e o result
-        ≡ under (joined end.0 log.now waiting.now) page e o e.depth top.now }
+        ≡ under (read_as_one runs.entry) page e o e.depth top.now }
 {
     let mut score = [0u8; 20];
     buffer::copy_at(&mut score, 0, top);
@@ -53,13 +47,13 @@ pub fn descend<'a>(
             });
         }
         let kind = tree::type_at(e, level);
-        let b = lookup::fetch(log, end, waiting, kind, &score, tree::count_at(e, level))?;
+        let b = lookup::fetch(runs, kind, &score, tree::count_at(e, level))?;
         if b.size % 20 != 0 {
             return Err(Refusal::Pointers);
         }
         level -= 1;
         let index = digit(leaf, p, level);
-        score = tree::score_at(log, end, waiting, b, index as usize);
+        score = tree::score_at(runs, b, index as usize);
     }
-    lookup::fetch(log, end, waiting, tree::type_at(e, 0), &score, e.dsize)
+    lookup::fetch(runs, tree::type_at(e, 0), &score, e.dsize)
 }

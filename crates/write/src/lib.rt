@@ -237,14 +237,12 @@ fn write_tested(
     );
     let e = make_entry(psize, dsize, depth, slice.len(), &scores[..n]);
     buffer::clear(&mut scores[..n]);
-    let Ok(()) = ended else {
-        return ended;
-    };
+    ended?;
     buffer::copy_at(entry, 0, &e);
     Ok(())
 }
 
-// Writes a file: any log, waiting part, date, slice, sizes, and lent buffers.
+// Writes a file: any log, waiting part, date, slice, sizes, and lent buffers. Ok where all blocks are stored.
 pub fn write_file(
     log: &[u8],
     waiting: &mut [u8],

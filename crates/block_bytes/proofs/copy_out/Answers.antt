@@ -29,7 +29,7 @@ pub copy_at-requires : goal.copy_at-requires
 copy_at-requires c =
     let a = c.args in
     let q = c.requires in
-    let log = joined a.end.0 a.log.now a.waiting.now in
+    let log = joined a.runs.end.0 a.runs.log.now a.runs.waiting.now in
     let l = c.loop-done in
     let test = c.loop-done-test in
     omega (arith, piece-length a.b.label q.1.1 log l.n a.b.size l.done test.true _ c.piece_at-piece.ensures)
@@ -38,7 +38,7 @@ pub overflow_add-done : goal.overflow_add-done
 overflow_add-done c =
     let a = c.args in
     let q = c.requires in
-    let log = joined a.end.0 a.log.now a.waiting.now in
+    let log = joined a.runs.end.0 a.runs.log.now a.runs.waiting.now in
     let l = c.loop-done in
     let test = c.loop-done-test in
     let piece-at = c.piece_at-piece in
@@ -55,7 +55,7 @@ pub loop-done-smaller : goal.loop-done-smaller
 loop-done-smaller c =
     let a = c.args in
     let q = c.requires in
-    let log = joined a.end.0 a.log.now a.waiting.now in
+    let log = joined a.runs.end.0 a.runs.log.now a.runs.waiting.now in
     let l = c.loop-done in
     let test = c.loop-done-test in
     let piece-at = c.piece_at-piece in
@@ -69,7 +69,7 @@ loop-done-preserved c = let args = c.args in
     let given = c.requires in
     let a = args in
     let q = given in
-    let log = joined a.end.0 a.log.now a.waiting.now in
+    let log = joined a.runs.end.0 a.runs.log.now a.runs.waiting.now in
     let l = turn in
     let test = if1 in
     let piece-at = piece-at-here in
@@ -90,6 +90,6 @@ pub returns : goal.returns
 returns c =
     let a = c.args in
     let q = c.requires in
-    let log = joined a.end.0 a.log.now a.waiting.now in
+    let log = joined a.runs.end.0 a.runs.log.now a.runs.waiting.now in
     let l = c.loop-done in
     sym (ap (put l.d l.done) (piece-none a.b.label log l.n a.b.size l.done c.loop-done-test.false) ∙ put-none l.d l.done) ∙ l.invariant.3

@@ -12,7 +12,7 @@ use Rattle.block_bytes.proofs.digest.Goals as goal
 pub loop-done-init : goal.loop-done-init
 loop-done-init c =
     let a = c.args in
-    let log = joined a.end.0 a.log.now a.waiting.now in
+    let log = joined a.runs.end.0 a.runs.log.now a.runs.waiting.now in
     let q = c.requires in
     rw (sub-zero a.b.size) (omega arith, q.1.0, taken_none _ (bytes_of log a.b) c.start-s.ensures)
 
@@ -27,7 +27,7 @@ pub overflow_add-done : goal.overflow_add-done
 overflow_add-done c =
     let a = c.args in
     let q = c.requires in
-    let log = joined a.end.0 a.log.now a.waiting.now in
+    let log = joined a.runs.end.0 a.runs.log.now a.runs.waiting.now in
     let l = c.loop-done in
     let test = c.loop-done-test in
     omega (arith, piece-length a.b.label q.1.1 log l.n a.b.size l.done test.true _ c.piece_at-piece.ensures)
@@ -37,14 +37,14 @@ overflow_add-n c =
     let a = c.args in
     let q = c.requires in
     let l = c.loop-done in
-    let h : l.n < a.end.0 + sectors (length a.waiting.now) = piece-here a.b.label l.n a.b.size l.done _ q.1.1 c.loop-done-test.true l.invariant.1 in
+    let h : l.n < a.runs.end.0 + sectors (length a.runs.waiting.now) = piece-here a.b.label l.n a.b.size l.done _ q.1.1 c.loop-done-test.true l.invariant.1 in
     omega (arith, h, q.0, c.well_formed)
 
 pub loop-done-smaller : goal.loop-done-smaller
 loop-done-smaller c =
     let a = c.args in
     let q = c.requires in
-    let log = joined a.end.0 a.log.now a.waiting.now in
+    let log = joined a.runs.end.0 a.runs.log.now a.runs.waiting.now in
     let l = c.loop-done in
     let test = c.loop-done-test in
     omega (arith, piece-length a.b.label q.1.1 log l.n a.b.size l.done test.true _ c.piece_at-piece.ensures)
@@ -53,7 +53,7 @@ pub loop-done-preserved : goal.loop-done-preserved
 loop-done-preserved c =
     let a = c.args in
     let q = c.requires in
-    let log = joined a.end.0 a.log.now a.waiting.now in
+    let log = joined a.runs.end.0 a.runs.log.now a.runs.waiting.now in
     let l = c.loop-done in
     let test = c.loop-done-test in
     let t = test.true in
@@ -67,6 +67,6 @@ pub returns : goal.returns
 returns c =
     let a = c.args in
     let q = c.requires in
-    let log = joined a.end.0 a.log.now a.waiting.now in
+    let log = joined a.runs.end.0 a.runs.log.now a.runs.waiting.now in
     let l = c.loop-done in
     c.finish.ensures _ (taken-all _ _ _ (piece-none a.b.label log l.n a.b.size l.done c.loop-done-test.false) l.invariant.2)

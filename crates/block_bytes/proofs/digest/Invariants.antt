@@ -13,8 +13,8 @@ use Rattle.block_bytes.proofs.digest.Given as goal
 abbrev pub invariant-loop-done : goal.invariant-loop-done
 invariant-loop-done l =
     (l.done ≤ l.b.size)
-    × (l.n + parts_of (payload_of l.b.label) (l.b.size - l.done) ≤ l.end.0 + sectors (length l.waiting))
-    × Taken l.s (bytes_of (joined l.end.0 l.log l.waiting) (block_at l.b.label l.n (l.b.size - l.done))) (bytes_of (joined l.end.0 l.log l.waiting) l.b)
+    × (l.n + parts_of (payload_of l.b.label) (l.b.size - l.done) ≤ l.runs.end.0 + sectors (length l.runs.waiting.now))
+    × Taken l.s (bytes_of (joined l.runs.end.0 l.runs.log.now l.runs.waiting.now) (block_at l.b.label l.n (l.b.size - l.done))) (bytes_of (joined l.runs.end.0 l.runs.log.now l.runs.waiting.now) l.b)
 
 abbrev pub decreases-loop-done : goal.decreases-loop-done
 decreases-loop-done l = l.b.size - l.done

@@ -16,11 +16,11 @@ pub loop-done-init : goal.loop-done-init
 loop-done-init c =
     let a = c.args in
     let q = c.requires in
-    let log = joined a.end.0 a.log.now a.waiting.now in
+    let log = joined a.runs.end.0 a.runs.log.now a.runs.waiting.now in
     let x = a.«data».now in
     let e : length x - 0 ≡ a.b.size = sub-zero (length x) ∙ sym q.2 in (
       omega arith,
-      subst (λ (m : ℕ). a.b.first.0 + parts_of (payload_of a.b.label) m ≤ a.end.0 + sectors (length a.waiting.now)) (sym e) q.1.0,
+      subst (λ (m : ℕ). a.b.first.0 + parts_of (payload_of a.b.label) m ≤ a.runs.end.0 + sectors (length a.runs.waiting.now)) (sym e) q.1.0,
       ap (λ (m : ℕ). same (bytes_of log (block_at a.b.label a.b.first.0 m)) x) e,
     )
 
@@ -35,7 +35,7 @@ pub overflow_add-next : goal.overflow_add-next
 overflow_add-next c =
     let a = c.args in
     let q = c.requires in
-    let log = joined a.end.0 a.log.now a.waiting.now in
+    let log = joined a.runs.end.0 a.runs.log.now a.runs.waiting.now in
     let l = c.loop-done in
     omega (arith, piece-length a.b.label q.1.1 log l.n (length a.«data».now) l.done c.loop-done-test.true _ c.piece_at-piece.ensures)
 
@@ -43,7 +43,7 @@ pub slice_bounds-agree-end : goal.slice_bounds-agree-end
 slice_bounds-agree-end c =
     let a = c.args in
     let q = c.requires in
-    let log = joined a.end.0 a.log.now a.waiting.now in
+    let log = joined a.runs.end.0 a.runs.log.now a.runs.waiting.now in
     let l = c.loop-done in
     omega (arith, piece-length a.b.label q.1.1 log l.n (length a.«data».now) l.done c.loop-done-test.true _ c.piece_at-piece.ensures)
 
@@ -51,7 +51,7 @@ pub returns-then-not-agree : goal.returns-then-not-agree
 returns-then-not-agree c =
     let a = c.args in
     let q = c.requires in
-    let log = joined a.end.0 a.log.now a.waiting.now in
+    let log = joined a.runs.end.0 a.runs.log.now a.runs.waiting.now in
     let l = c.loop-done in
     let test = c.loop-done-test in
     let piece-at = c.piece_at-piece in
@@ -74,7 +74,7 @@ pub loop-done-smaller : goal.loop-done-smaller
 loop-done-smaller c =
     let a = c.args in
     let q = c.requires in
-    let log = joined a.end.0 a.log.now a.waiting.now in
+    let log = joined a.runs.end.0 a.runs.log.now a.runs.waiting.now in
     let l = c.loop-done in
     let test = c.loop-done-test in
     let piece-at = c.piece_at-piece in
@@ -84,7 +84,7 @@ pub loop-done-preserved : goal.loop-done-preserved
 loop-done-preserved c =
     let a = c.args in
     let q = c.requires in
-    let log = joined a.end.0 a.log.now a.waiting.now in
+    let log = joined a.runs.end.0 a.runs.log.now a.runs.waiting.now in
     let l = c.loop-done in
     let test = c.loop-done-test in
     let piece-at = c.piece_at-piece in
@@ -103,7 +103,7 @@ pub returns : goal.returns
 returns c =
     let a = c.args in
     let q = c.requires in
-    let log = joined a.end.0 a.log.now a.waiting.now in
+    let log = joined a.runs.end.0 a.runs.log.now a.runs.waiting.now in
     let l = c.loop-done in
     let test = c.loop-done-test in
     let x = a.«data».now in

@@ -16,8 +16,8 @@ use Rattle.block_bytes.proofs.same_bytes.Given as goal
 abbrev pub invariant-loop-done : goal.invariant-loop-done
 invariant-loop-done l =
     (l.done ≤ length l.data)
-    × (l.n + parts_of (payload_of l.b.label) (length l.data - l.done) ≤ l.end.0 + sectors (length l.waiting))
-    × (same (bytes_of (joined l.end.0 l.log l.waiting) (block_at l.b.label l.n (length l.data - l.done))) (drop l.done l.data) ≡ same (bytes_of (joined l.end.0 l.log l.waiting) l.b) l.data)
+    × (l.n + parts_of (payload_of l.b.label) (length l.data - l.done) ≤ l.runs.end.0 + sectors (length l.runs.waiting.now))
+    × (same (bytes_of (joined l.runs.end.0 l.runs.log.now l.runs.waiting.now) (block_at l.b.label l.n (length l.data - l.done))) (drop l.done l.data) ≡ same (bytes_of (joined l.runs.end.0 l.runs.log.now l.runs.waiting.now) l.b) l.data)
 
 abbrev pub decreases-loop-done : goal.decreases-loop-done
 decreases-loop-done l = length l.data - l.done

@@ -4,7 +4,6 @@ use native.Mathlib.Omega.{arith}
 use borrow.Author.Tests.{not-true, not-false}
 use lib.ListN.{length}
 use Rattle.buffer.specs.Bytes.{Bytes, same}
-use Rattle.buffer.proofs.Bytes.{small_all}
 use Rattle.sector.specs.Sector.{payload_of, date_field}
 use Rattle.block.specs.Log.{joined, at, checked}
 use Rattle.block.proofs.Facts.{some-parts}
@@ -36,7 +35,7 @@ has_label-requires c =
     let a = c.args in
     let q = c.requires in
     let sector-at = c.sector_at-s in
-    let log = joined a.end.0 a.log.now a.waiting.now in
+    let log = joined a.runs.end.0 a.runs.log.now a.runs.waiting.now in
     (omega (arith, q.2.1, ap length sector-at.ensures, length_at log a.b.first.0), q.5)
 
 pub returns-then-not-has_label : goal.returns-then-not-has_label
@@ -47,7 +46,7 @@ returns-then-not-has_label c =
     let sector-at = c.sector_at-s in
     let has-label = c.has_label in
     let if1 = c.if-not-has_label in
-    let log = joined a.end.0 a.log.now a.waiting.now in
+    let log = joined a.runs.end.0 a.runs.log.now a.runs.waiting.now in
     let tested =
     label-tested log (date_field (at log a.b.first.0)) a.score.now _ a.front.now parts-of.result a.b.first.0 a.kind a.b.size 0 _ (sym q.4)
     (sector-at.ensures ∙ ap (at log) (sym (add-zero a.b.first.0))) has-label.ensures in
@@ -59,7 +58,7 @@ returns-then-not-checks_fit c =
     let parts-of = c.parts_of-of in
     let checks-fit = c.checks_fit in
     let if2 = c.if-not-checks_fit in
-    let log = joined a.end.0 a.log.now a.waiting.now in
+    let log = joined a.runs.end.0 a.runs.log.now a.runs.waiting.now in
     sym (all_fails (sector_tests log a.b a.kind a.score.now) 1
     (ap (λ m. checked log m a.b.first.0) (sym parts-of.ensures) ∙ sym checks-fit.ensures ∙ if2.true))
 
@@ -69,7 +68,7 @@ returns-then-not-labels_agree c =
     let q = c.requires in
     let labels-agree = c.labels_agree in
     let if3 = c.if-not-labels_agree in
-    let log = joined a.end.0 a.log.now a.waiting.now in
+    let log = joined a.runs.end.0 a.runs.log.now a.runs.waiting.now in
     sym (all_fails (sector_tests log a.b a.kind a.score.now) 0
     (sym (labels-agree.ensures (date_field (at log a.b.first.0)) (sym q.4)) ∙ if3.true))
 
@@ -78,7 +77,7 @@ returns-then-not-rest_is_zero c =
     let a = c.args in
     let rest-is-zero = c.rest_is_zero in
     let if4 = c.if-not-rest_is_zero in
-    let log = joined a.end.0 a.log.now a.waiting.now in
+    let log = joined a.runs.end.0 a.runs.log.now a.runs.waiting.now in
     sym (all_fails (sector_tests log a.b a.kind a.score.now) 2 (sym rest-is-zero.ensures ∙ if4.true))
 
 pub returns : goal.returns
@@ -94,10 +93,8 @@ returns c =
     let if4 = c.if-not-rest_is_zero in
     let digest = c.digest-d in
     let equal = c.equal in
-    let log = joined a.end.0 a.log.now a.waiting.now in
-    let log-small = small_all a.log.now (λ m. (c.type_inv.log m).fits) in
-    let waiting-small = small_all a.waiting.now (λ m. (c.type_inv.waiting m).fits) in
-    let bytes = small-joined a.end.0 a.log.now a.waiting.now q.0 log-small waiting-small in
+    let log = joined a.runs.end.0 a.runs.log.now a.runs.waiting.now in
+    let bytes = small-joined a.runs.end.0 a.runs.log.now a.runs.waiting.now q.0 c.are_bytes.ensures.log c.are_bytes.ensures.waiting in
     equal.ensures ∙ ap (λ (x : Bytes). same x a.score.now) digest.ensures
     ∙ sym (last_decides _
     (sym (labels-agree.ensures (date_field (at log a.b.first.0)) (sym q.4)) ∙ if3.false)

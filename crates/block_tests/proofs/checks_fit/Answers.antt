@@ -12,7 +12,7 @@ use Rattle.block_tests.proofs.checks_fit.Goals as goal
 pub loop-n-init : goal.loop-n-init
 loop-n-init c =
     let a = c.args in
-    let log = joined a.end.0 a.log.now a.waiting.now in
+    let log = joined a.runs.end.0 a.runs.log.now a.runs.waiting.now in
     let n = a.first.0 in
     let k = a.count in
     let e : n + k - n ≡ k = omega arith in
@@ -21,7 +21,7 @@ loop-n-init c =
 pub has_check-requires : goal.has_check-requires
 has_check-requires c =
     let a = c.args in
-    let log = joined a.end.0 a.log.now a.waiting.now in
+    let log = joined a.runs.end.0 a.runs.log.now a.runs.waiting.now in
     let l = c.loop-n in (
       c.low-low.ensures,
       c.high-high.ensures,
@@ -33,7 +33,7 @@ pub returns-then-not-has_check : goal.returns-then-not-has_check
 unfolding checked
 returns-then-not-has_check c =
     let a = c.args in
-    let log = joined a.end.0 a.log.now a.waiting.now in
+    let log = joined a.runs.end.0 a.runs.log.now a.runs.waiting.now in
     let l = c.loop-n in
     let sector-at = c.sector_at-s in
     let z = sym (ap fits sector-at.ensures) ∙ sym c.has_check.ensures ∙ c.if-not-has_check.true in
@@ -43,7 +43,7 @@ pub loop-n-preserved : goal.loop-n-preserved
 unfolding checked
 loop-n-preserved c =
     let a = c.args in
-    let log = joined a.end.0 a.log.now a.waiting.now in
+    let log = joined a.runs.end.0 a.runs.log.now a.runs.waiting.now in
     let l = c.loop-n in
     let sector-at = c.sector_at-s in
     let z = sym (ap fits sector-at.ensures) ∙ sym c.has_check.ensures ∙ c.if-not-has_check.false in
@@ -53,6 +53,6 @@ pub returns : goal.returns
 unfolding checked
 returns c =
     let a = c.args in
-    let log = joined a.end.0 a.log.now a.waiting.now in
+    let log = joined a.runs.end.0 a.runs.log.now a.runs.waiting.now in
     let l = c.loop-n in
     sym (all_end (checked log) (λ m. refl) (a.first.0 + a.count) l.n (omega arith)) ∙ l.invariant

@@ -11,4 +11,4 @@ use Rattle.block_tests.proofs.checks_fit.Given as goal
 
 -- `block_tests::checks_fit` meets its contract: the test of the sectors that are left is that of all.
 abbrev pub invariant-loop-n : goal.invariant-loop-n
-invariant-loop-n l = checked (joined l.end.0 l.log l.waiting) (l.last - l.n) l.n ≡ checked (joined l.end.0 l.log l.waiting) l.count l.initial.n
+invariant-loop-n l = checked (joined l.runs.end.0 l.runs.log.now l.runs.waiting.now) (l.last - l.n) l.n ≡ checked (joined l.runs.end.0 l.runs.log.now l.runs.waiting.now) l.count l.initial.n

@@ -14,20 +14,20 @@ pub overflow_add-from : goal.overflow_add-from
 overflow_add-from c =
     let q = c.requires in
     let a = c.args in
-    omega (arith, q.2, front-most (at (joined a.end.0 a.log.now a.waiting.now) a.n.0))
+    omega (arith, q.2, front-most (at (joined a.runs.end.0 a.runs.log.now a.runs.waiting.now) a.n.0))
 
 pub overflow_add-to : goal.overflow_add-to
 overflow_add-to c =
     let q = c.requires in
     let a = c.args in
-    omega (arith, q.2, front-most (at (joined a.end.0 a.log.now a.waiting.now) a.n.0))
+    omega (arith, q.2, front-most (at (joined a.runs.end.0 a.runs.log.now a.runs.waiting.now) a.n.0))
 
 pub slice_bounds-read_hex-end : goal.slice_bounds-read_hex-end
 slice_bounds-read_hex-end c =
     let a = c.args in
     let q = c.requires in
     let sector-at = c.sector_at-s in
-    let log = joined a.end.0 a.log.now a.waiting.now in
+    let log = joined a.runs.end.0 a.runs.log.now a.runs.waiting.now in
     omega (arith, ap length sector-at.ensures ∙ length_at log a.n.0, q.2, front-most (at log a.n.0))
 
 pub returns : goal.returns
@@ -36,4 +36,4 @@ returns c =
     c.unwrap_or.ensures
     ∙ ap (λ (o : Option ℕ). unwrap_or o 0) c.read_hex.ensures
     ∙ value-number _
-    ∙ digits-at (joined a.end.0 a.log.now a.waiting.now) a.n.0 _ a.front a.field a.width c.sector_at-s.ensures c.requires.2
+    ∙ digits-at (joined a.runs.end.0 a.runs.log.now a.runs.waiting.now) a.n.0 _ a.front a.field a.width c.sector_at-s.ensures c.requires.2

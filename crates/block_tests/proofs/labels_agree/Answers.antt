@@ -21,7 +21,7 @@ parts_of-of-requires c =
 pub loop-i-init : goal.loop-i-init
 loop-i-init c =
     let a = c.args in
-    let log = joined a.end.0 a.log.now a.waiting.now in
+    let log = joined a.runs.end.0 a.runs.log.now a.runs.waiting.now in
     let of = c.parts_of-of.result in
     let e : of - 0 ≡ of = omega arith in
     λ date _. ap (λ (k : ℕ). labelled log date of a.b.first.0 a.kind a.b.size a.score.now k 0) e
@@ -35,7 +35,7 @@ sector_at-s-requires c = omega (arith, c.parts_of-of.ensures)
 pub has_label-requires : goal.has_label-requires
 has_label-requires c =
     let a = c.args in
-    let log = joined a.end.0 a.log.now a.waiting.now in
+    let log = joined a.runs.end.0 a.runs.log.now a.runs.waiting.now in
     let q = c.requires in
     let l = c.loop-i in
     (omega (arith, ap length c.sector_at-s.ensures ∙ length_at log (a.b.first.0 + l.i)), q.3)
@@ -44,7 +44,7 @@ pub returns-then-not-has_label : goal.returns-then-not-has_label
 unfolding labelled
 returns-then-not-has_label c =
     let a = c.args in
-    let log = joined a.end.0 a.log.now a.waiting.now in
+    let log = joined a.runs.end.0 a.runs.log.now a.runs.waiting.now in
     let parts-of = c.parts_of-of in
     let l = c.loop-i in
     let test = c.loop-i-test in
@@ -64,7 +64,7 @@ pub loop-i-preserved : goal.loop-i-preserved
 unfolding labelled
 loop-i-preserved c =
     let a = c.args in
-    let log = joined a.end.0 a.log.now a.waiting.now in
+    let log = joined a.runs.end.0 a.runs.log.now a.runs.waiting.now in
     let parts-of = c.parts_of-of in
     let l = c.loop-i in
     let test = c.loop-i-test in
@@ -83,7 +83,7 @@ pub returns : goal.returns
 unfolding labelled
 returns c =
     let a = c.args in
-    let log = joined a.end.0 a.log.now a.waiting.now in
+    let log = joined a.runs.end.0 a.runs.log.now a.runs.waiting.now in
     let parts-of = c.parts_of-of in
     let l = c.loop-i in
     let of = parts-of.result in

@@ -15,5 +15,5 @@ use Rattle.block_tests.proofs.labels_agree.Given as goal
 -- `block_tests::labels_agree` meets its contract: the test of the parts that are left is that of all.
 abbrev pub invariant-loop-i : goal.invariant-loop-i
 invariant-loop-i l =
-    (date : Bytes) → front_of date ≡ l.front → labelled (joined l.end.0 l.log l.waiting) date l.of l.b.first.0 l.kind l.b.size l.score (l.of - l.i) l.i
-    ≡ labelled (joined l.end.0 l.log l.waiting) date l.of l.b.first.0 l.kind l.b.size l.score l.of 0
+    (date : Bytes) → front_of date ≡ l.front → labelled (joined l.runs.end.0 l.runs.log.now l.runs.waiting.now) date l.of l.b.first.0 l.kind l.b.size l.score (l.of - l.i) l.i
+    ≡ labelled (joined l.runs.end.0 l.runs.log.now l.runs.waiting.now) date l.of l.b.first.0 l.kind l.b.size l.score l.of 0

@@ -15,7 +15,7 @@ use Rattle.block_tests.proofs.number_at.Goals as goal
 pub slice_bounds-read_hex-end : goal.slice_bounds-read_hex-end
 slice_bounds-read_hex-end c =
     let a = c.args in
-    let log = joined a.end.0 a.log.now a.waiting.now in
+    let log = joined a.runs.end.0 a.runs.log.now a.runs.waiting.now in
     omega (arith, ap length c.sector_at-s.ensures ∙ length_at log a.n.0)
 
 pub returns : goal.returns

@@ -73,13 +73,13 @@ slice_bounds-is_zero-end c =
     let q = c.requires in
     let p = c.payload_of-p.result in
     let pos : 0 < p = omega (arith, c.payload_of-p.ensures) in
-    let log = joined a.end.0 a.log.now a.waiting.now in
+    let log = joined a.runs.end.0 a.runs.log.now a.runs.waiting.now in
     omega (arith, ap length c.sector_at-s.ensures ∙ length_at log _, c.payload_of-p.ensures, last-bounds p pos a.b.size q.1)
 
 pub returns : goal.returns
 returns c =
     let a = c.args in
-    let log = joined a.end.0 a.log.now a.waiting.now in
+    let log = joined a.runs.end.0 a.runs.log.now a.runs.waiting.now in
     let q = c.requires in
     let sector-at = c.sector_at-s in
     let p = c.payload_of-p in

@@ -18,12 +18,12 @@ use Rattle.compare_below.proofs.+compare_below_compare_blocks_compare_entries_co
 pub compare_entries-returns-in-Skip : goal.compare_entries-returns-in-Skip
 compare_entries-returns-in-Skip t c =
     let a = c.args in
-    λ f h. by_verdict_lem f (joined a.end.0 a.log.now a.waiting.now) _ _ _ _ (sym c.judge-verdict.ensures ∙ c.in-Skip.is)
+    λ f h. by_verdict_lem f (joined a.runs.end.0 a.runs.log.now a.runs.waiting.now) _ _ _ _ (sym c.judge-verdict.ensures ∙ c.in-Skip.is)
 
 pub compare_entries-returns-in-IllFormed : goal.compare_entries-returns-in-IllFormed
 compare_entries-returns-in-IllFormed t c =
     let a = c.args in
-    λ f h. by_verdict_lem f (joined a.end.0 a.log.now a.waiting.now) _ _ _ _ (sym c.judge-verdict.ensures ∙ c.in-IllFormed.is)
+    λ f h. by_verdict_lem f (joined a.runs.end.0 a.runs.log.now a.runs.waiting.now) _ _ _ _ (sym c.judge-verdict.ensures ∙ c.in-IllFormed.is)
 
 pub compare_entries-compare_blocks-requires : goal.compare_entries-compare_blocks-requires
 compare_entries-compare_blocks-requires t c =
@@ -37,12 +37,12 @@ compare_entries-returns-in-Open t c =
     let a = c.args in
     let p = c.requires in
     let r = entry_read a.x.now a.y.now p.1 p.2 (sym c.judge-verdict.ensures ∙ c.in-Open.is) c.entry_at-e.ensures in
-    λ f h. c.compare_blocks.ensures f h ∙ by_blocks r f (joined a.end.0 a.log.now a.waiting.now) a.nest a.left
+    λ f h. c.compare_blocks.ensures f h ∙ by_blocks r f (joined a.runs.end.0 a.runs.log.now a.runs.waiting.now) a.nest a.left
 
 pub compare_entries-returns-in-Differ : goal.compare_entries-returns-in-Differ
 compare_entries-returns-in-Differ t c =
     let a = c.args in
-    λ f h. by_verdict_lem f (joined a.end.0 a.log.now a.waiting.now) _ _ _ _ (sym c.judge-verdict.ensures ∙ c.in-Differ.is)
+    λ f h. by_verdict_lem f (joined a.runs.end.0 a.runs.log.now a.runs.waiting.now) _ _ _ _ (sym c.judge-verdict.ensures ∙ c.in-Differ.is)
 
 -- `compare_below::compare_blocks`: what opening the pair gives, or what is below
 pub compare_blocks-returns-in-Ended : goal.compare_blocks-returns-in-Ended
@@ -66,7 +66,7 @@ pub compare_blocks-one_unit-requires : goal.compare_blocks-one_unit-requires
 compare_blocks-one_unit-requires t c =
     let a = c.args in
     let p = c.requires in
-    let log = joined a.end.0 a.log.now a.waiting.now in
+    let log = joined a.runs.end.0 a.runs.log.now a.runs.waiting.now in
     omega (arith, few_units log a.e a.level a.nest (bytes_of log c.in-Both.b) (bytes_of log c.in-Both.c) (a.left - 1) p.4 c.compare_below.ensures, p.5)
 
 pub compare_blocks-returns-in-Both : goal.compare_blocks-returns-in-Both
@@ -98,7 +98,7 @@ compare_below-overflow_add-count t c =
     let p = c.requires in
     let few : c.loop-i.i ≤ longest =
     omega (arith, c.positions_of_both-most.ensures, positions_few a.level a.b.size a.c.size p.1.not_many p.2.not_many, c.loop-i-test.true) in
-    let log = joined a.end.0 a.log.now a.waiting.now in
+    let log = joined a.runs.end.0 a.runs.log.now a.runs.waiting.now in
     let b = within log a.e a.level a.nest (bytes_of log a.b) (bytes_of log a.c) c.loop-i.i (a.left - c.loop-i.units) p.5 c.compare_position-r.ensures in
     omega (arith, c.loop-i.invariant.counted, c.loop-i.invariant.spent, b.0, b.1, few, p.6)
 
@@ -106,7 +106,7 @@ pub compare_below-overflow_add-units : goal.compare_below-overflow_add-units
 compare_below-overflow_add-units t c =
     let a = c.args in
     let p = c.requires in
-    let log = joined a.end.0 a.log.now a.waiting.now in
+    let log = joined a.runs.end.0 a.runs.log.now a.runs.waiting.now in
     let b = within log a.e a.level a.nest (bytes_of log a.b) (bytes_of log a.c) c.loop-i.i (a.left - c.loop-i.units) p.5 c.compare_position-r.ensures in
     omega (arith, c.loop-i.invariant.spent, b.0, p.6)
 
@@ -114,14 +114,14 @@ pub compare_below-returns-in_default : goal.compare_below-returns-in_default
 compare_below-returns-in_default t c =
     let a = c.args in
     let p = c.requires in
-    of-below (joined a.end.0 a.log.now a.waiting.now) a.e a.level a.nest a.b a.c _ p.1 p.2 a.left c.positions_of_both-most.ensures _
+    of-below (joined a.runs.end.0 a.runs.log.now a.runs.waiting.now) a.e a.level a.nest a.b a.c _ p.1 p.2 a.left c.positions_of_both-most.ensures _
     (refused_stops c.loop-i.invariant c.loop-i-test.true _ c.compare_position-r.ensures _ c.in_default.is)
 
 pub compare_below-loop-i-preserved : goal.compare_below-loop-i-preserved
 compare_below-loop-i-preserved t c =
     let a = c.args in
     let p = c.requires in
-    let log = joined a.end.0 a.log.now a.waiting.now in
+    let log = joined a.runs.end.0 a.runs.log.now a.runs.waiting.now in
     let b = within log a.e a.level a.nest (bytes_of log a.b) (bytes_of log a.c) c.loop-i.i (a.left - c.loop-i.units) p.5 c.compare_position-r.ensures in
     rest_goes_on c.loop-i.invariant c.loop-i-test.true _ c.compare_position-r.ensures b c.in-Ok.is
 
@@ -129,7 +129,7 @@ pub compare_below-returns : goal.compare_below-returns
 compare_below-returns t c =
     let a = c.args in
     let p = c.requires in
-    of-below (joined a.end.0 a.log.now a.waiting.now) a.e a.level a.nest a.b a.c _ p.1 p.2 a.left c.positions_of_both-most.ensures _
+    of-below (joined a.runs.end.0 a.runs.log.now a.runs.waiting.now) a.e a.level a.nest a.b a.c _ p.1 p.2 a.left c.positions_of_both-most.ensures _
     (all_done c.loop-i.invariant c.loop-i-test.false)
 
 -- `compare_below::compare_position`: two entries, or two scores
@@ -148,7 +148,7 @@ pub compare_position-returns-then-level-eq0 : goal.compare_position-returns-then
 compare_position-returns-then-level-eq0 t c =
     let a = c.args in
     λ f h. c.compare_entries.ensures f h
-    ∙ in_leaves f (joined a.end.0 a.log.now a.waiting.now) a.e a.level a.nest _ _ a.i a.left c.if-level-eq0.true c.entry_bytes-x.ensures c.entry_bytes-y.ensures
+    ∙ in_leaves f (joined a.runs.end.0 a.runs.log.now a.runs.waiting.now) a.e a.level a.nest _ _ a.i a.left c.if-level-eq0.true c.entry_bytes-x.ensures c.entry_bytes-y.ensures
 
 pub compare_position-score_at-s-requires : goal.compare_position-score_at-s-requires
 compare_position-score_at-s-requires t c = let p = c.requires in (p.0, p.1.before, p.1.full-scores c.if-level-eq0.false, omega (arith, p.7))
@@ -160,7 +160,7 @@ pub compare_position-compare_blocks-requires : goal.compare_position-compare_blo
 compare_position-compare_blocks-requires t c =
     let a = c.args in
     let p = c.requires in
-    let log = joined a.end.0 a.log.now a.waiting.now in (
+    let log = joined a.runs.end.0 a.runs.log.now a.runs.waiting.now in (
       omega arith,
       (
         p.0,
@@ -176,4 +176,4 @@ pub compare_position-returns : goal.compare_position-returns
 compare_position-returns t c =
     let a = c.args in
     λ f h. c.compare_blocks.ensures f h
-    ∙ above_leaves f (joined a.end.0 a.log.now a.waiting.now) a.e a.level a.nest _ _ a.i a.left c.if-level-eq0.false c.score_at-s.ensures c.score_at-t.ensures
+    ∙ above_leaves f (joined a.runs.end.0 a.runs.log.now a.runs.waiting.now) a.e a.level a.nest _ _ a.i a.left c.if-level-eq0.false c.score_at-s.ensures c.score_at-t.ensures

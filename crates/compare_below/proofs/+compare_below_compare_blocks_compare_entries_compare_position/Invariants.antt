@@ -20,5 +20,5 @@ decreases-compare_position l = 4 * l.left + 2
 
 abbrev pub invariant-compare_below-loop-i : goal.invariant-compare_below-loop-i
 invariant-compare_below-loop-i l =
-    let log = joined l.end.0 l.log l.waiting in
+    let log = joined l.runs.end.0 l.runs.log.now l.runs.waiting.now in
     Rest (λ f j a. compare_position f log l.e l.level l.nest (bytes_of log l.b) (bytes_of log l.c) j a) l.left l.most l.count l.units l.i

@@ -69,7 +69,7 @@ met h = record { met = h }
 pub copy_entry-returns-in_default : goal.copy_entry-returns-in_default
 copy_entry-returns-in_default t c =
     let a = c.args in
-    let log = joined a.end.0 a.log.now a.waiting.now in
+    let log = joined a.runs.end.0 a.runs.log.now a.runs.waiting.now in
     let v =
     refused_ends log a.date.now a.e a.level a.nest a.score.now a.left a.second.now _ c.visit_level-m.ensures _ c.in_default.is _ c.answer.ensures in
     record { within = v.0; exact = v.1 }
@@ -84,7 +84,7 @@ copy_entry-copy_below-below-requires t c =
     let a = c.args in
     let k = block-known (met c.visit_level-m.ensures) c.in-Ok.is in
     let p = c.requires in
-    (omega (arith, k.some_left), (p.0, in_both a.end.0 a.log.now a.waiting.now p.0 _ k.in_log, k.not_many, p.2, k.not-deep, p.3))
+    (omega (arith, k.some_left), (p.0, in_both a.runs.end.0 a.runs.log.now a.runs.waiting.now p.0 _ k.in_log, k.not_many, p.2, k.not-deep, p.3))
 
 pub copy_entry-keep-requires : goal.copy_entry-keep-requires
 copy_entry-keep-requires t c =
@@ -93,12 +93,12 @@ copy_entry-keep-requires t c =
     let p = c.requires in
     let w = c.copy_below-below in
     let h : w.result.visits + 1 < 2 ^ 64 = omega (arith, k.some_left, w.ensures.within, c.ranges.left) in
-    (p.0, in_both a.end.0 a.log.now a.waiting.now p.0 _ k.in_log, k.not_many, p.3, h)
+    (p.0, in_both a.runs.end.0 a.runs.log.now a.runs.waiting.now p.0 _ k.in_log, k.not_many, p.3, h)
 
 pub copy_entry-returns : goal.copy_entry-returns
 copy_entry-returns t c =
     let a = c.args in
-    let log = joined a.end.0 a.log.now a.waiting.now in
+    let log = joined a.runs.end.0 a.runs.log.now a.runs.waiting.now in
     let b = c.copy_below-below.ensures in
     let v =
     kept-behind log a.date.now a.e a.level a.nest a.score.now a.left a.second.now _ c.visit_level-m.ensures _ c.in-Ok.is _ _ (b.within, b.exact)
@@ -109,13 +109,13 @@ copy_entry-returns t c =
 pub copy_below-returns-in-Ends-clause-exact : goal.copy_below-returns-in-Ends-clause-exact
 copy_below-returns-in-Ends-clause-exact t c =
     let a = c.args in
-    let log = joined a.end.0 a.log.now a.waiting.now in
+    let log = joined a.runs.end.0 a.runs.log.now a.runs.waiting.now in
     (below-ended log a.date.now a.e a.level a.nest a.left a.b c.requires.1.1 a.second.now c.below_block-below.ensures _ c.in-Ends.is).1
 
 pub copy_below-returns-in-Entries-clause-exact : goal.copy_below-returns-in-Entries-clause-exact
 copy_below-returns-in-Entries-clause-exact t c =
     let a = c.args in
-    let log = joined a.end.0 a.log.now a.waiting.now in
+    let log = joined a.runs.end.0 a.runs.log.now a.runs.waiting.now in
     let d = c.copy_directory.ensures in
     (below-directory log a.date.now a.e a.level a.nest a.left a.b c.requires.1.1 a.second.now c.below_block-below.ensures c.in-Entries.is _ _
     (d.within, d.exact)).1
@@ -131,7 +131,7 @@ copy_below-copy_scores-requires t c =
 pub copy_below-returns-in-Scores-clause-exact : goal.copy_below-returns-in-Scores-clause-exact
 copy_below-returns-in-Scores-clause-exact t c =
     let a = c.args in
-    let log = joined a.end.0 a.log.now a.waiting.now in
+    let log = joined a.runs.end.0 a.runs.log.now a.runs.waiting.now in
     let d = c.copy_scores.ensures in
     (below-scores log a.date.now a.e a.level a.nest a.left a.b c.requires.1.1 a.second.now c.below_block-below.ensures c.in-Scores.is _ _
     (d.within, d.exact)).1
@@ -148,7 +148,7 @@ copy_scores-copy_entry-w-requires t c =
 pub copy_scores-returns-in_default : goal.copy_scores-returns-in_default
 copy_scores-returns-in_default t c =
     let a = c.args in
-    let log = joined a.end.0 a.log.now a.waiting.now in
+    let log = joined a.runs.end.0 a.runs.log.now a.runs.waiting.now in
     let short = c.requires.1.1 in
     let w = c.copy_entry-w.ensures in
     let h = c.loop-i-test.true in
@@ -160,7 +160,7 @@ copy_scores-returns-in_default t c =
 pub copy_scores-loop-i-preserved : goal.copy_scores-loop-i-preserved
 copy_scores-loop-i-preserved t c =
     let a = c.args in
-    let log = joined a.end.0 a.log.now a.waiting.now in
+    let log = joined a.runs.end.0 a.runs.log.now a.runs.waiting.now in
     let w = c.copy_entry-w.ensures in
     let h = c.loop-i-test.true in
     rest_goes_on c.loop-i.invariant h _ _ w.within (score-copied log a.date.now a.b c.requires.1.1 _ _ _ _ _ _ h c.score_at-s.ensures w.exact) c.in-Ok.is
@@ -168,6 +168,6 @@ copy_scores-loop-i-preserved t c =
 pub copy_scores-returns : goal.copy_scores-returns
 copy_scores-returns t c =
     let a = c.args in
-    let log = joined a.end.0 a.log.now a.waiting.now in
+    let log = joined a.runs.end.0 a.runs.log.now a.runs.waiting.now in
     let v = scores-one_by_one log a.date.now a.b c.requires.1.1 _ _ _ _ _ _ _ (all_done c.loop-i.invariant c.loop-i-test.false) in
     record { within = v.0; exact = v.1 }

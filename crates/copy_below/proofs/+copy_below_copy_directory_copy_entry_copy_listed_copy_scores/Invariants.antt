@@ -26,10 +26,10 @@ decreases-copy_scores l = 4 * l.left + 1
 
 abbrev pub invariant-copy_directory-loop-i : goal.invariant-copy_directory-loop-i
 invariant-copy_directory-loop-i l =
-    let log = joined l.end.0 l.log l.waiting in
+    let log = joined l.runs.end.0 l.runs.log.now l.runs.waiting.now in
     Rest (copy_pieces (λ f. copy_listed f log l.date l.nest) 40 (wholes (bytes_of log l.b)) l.left) l.count l.fn.second l.visits l.i l.second
 
 abbrev pub invariant-copy_scores-loop-i : goal.invariant-copy_scores-loop-i
 invariant-copy_scores-loop-i l =
-    let log = joined l.end.0 l.log l.waiting in
+    let log = joined l.runs.end.0 l.runs.log.now l.runs.waiting.now in
     Rest (copy_pieces (λ f x a s. copy_entry f log l.date l.e l.level l.nest x a s) 20 (bytes_of log l.b) l.left) l.count l.fn.second l.visits l.i l.second

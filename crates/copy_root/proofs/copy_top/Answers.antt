@@ -9,7 +9,7 @@ use Rattle.copy_root.proofs.copy_top.Goals as goal
 pub returns-in_default : goal.returns-in_default
 returns-in_default c =
     let a = c.args in
-    let r = top-refused (joined a.end.0 a.log.now a.waiting.now) a.date.now a.score.now a.left a.second.now _ c.visit-m.ensures _ c.in_default.is _
+    let r = top-refused (joined a.runs.end.0 a.runs.log.now a.runs.waiting.now) a.date.now a.score.now a.left a.second.now _ c.visit-m.ensures _ c.in_default.is _
     c.answer.ensures in
     record { within = r.0; exact = r.1 }
 
@@ -22,7 +22,7 @@ pub copy_directory-below-requires : goal.copy_directory-below-requires
 copy_directory-below-requires c =
     let a = c.args in
     let K = found-known _ _ _ _ _ _ _ c.visit-m.ensures _ c.in-Ok.is in
-    (c.requires.0, in_both a.end.0 a.log.now a.waiting.now c.requires.0 _ K.in_log, K.not_many, omega arith, c.requires.2)
+    (c.requires.0, in_both a.runs.end.0 a.runs.log.now a.runs.waiting.now c.requires.0 _ K.in_log, K.not_many, omega arith, c.requires.2)
 
 pub keep-requires : goal.keep-requires
 keep-requires c =
@@ -30,13 +30,13 @@ keep-requires c =
     let K = found-known _ _ _ _ _ _ _ c.visit-m.ensures _ c.in-Ok.is in
     let w = c.copy_directory-below in
     let h : w.result.visits + 1 < 2 ^ 64 = omega (arith, K.some_left, w.ensures.within, c.ranges.left.fits) in
-    (c.requires.0, in_both a.end.0 a.log.now a.waiting.now c.requires.0 _ K.in_log, K.not_many, c.requires.2, h)
+    (c.requires.0, in_both a.runs.end.0 a.runs.log.now a.runs.waiting.now c.requires.0 _ K.in_log, K.not_many, c.requires.2, h)
 
 pub returns : goal.returns
 returns c =
     let a = c.args in
     let w = c.copy_directory-below in
     let k = c.keep in
-    let r = top_kept (joined a.end.0 a.log.now a.waiting.now) a.date.now a.score.now a.left a.second.now _ c.visit-m.ensures _ c.in-Ok.is _ _
+    let r = top_kept (joined a.runs.end.0 a.runs.log.now a.runs.waiting.now) a.date.now a.score.now a.left a.second.now _ c.visit-m.ensures _ c.in-Ok.is _ _
     (w.ensures.within, w.ensures.exact) k.result _ k.ensures.count k.ensures.exact in
     record { within = r.0; exact = r.1 }

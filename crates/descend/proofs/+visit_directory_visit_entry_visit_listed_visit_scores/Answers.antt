@@ -78,7 +78,7 @@ visit_entry-visit_directory-requires t c =
     let a = c.args in
     let b = block-known (met c.visit_level-m.ensures) c.in-Ok.is in
     let p = c.requires.0 in
-    (omega (arith, b.some_left), (p, in_both a.end.0 a.log.now a.waiting.now p _ b.in_log, b.not_many, b.not-deep))
+    (omega (arith, b.some_left), (p, in_both a.runs.end.0 a.runs.log.now a.runs.waiting.now p _ b.in_log, b.not_many, b.not-deep))
 
 pub visit_entry-returns-in-Entries : goal.visit_entry-returns-in-Entries
 visit_entry-returns-in-Entries t c =
@@ -99,7 +99,7 @@ visit_entry-visit_scores-requires t c =
     let b = block-known (met c.visit_level-m.ensures) c.in-Ok.is in
     let p = c.requires in (
       omega (arith, b.some_left),
-      (p.0, in_both a.end.0 a.log.now a.waiting.now p.0 _ b.in_log, b.not_many, (whole-scores _ _ _ c.below_block-below.ensures c.in-Scores.is).1, omega (arith, p.2)),
+      (p.0, in_both a.runs.end.0 a.runs.log.now a.runs.waiting.now p.0 _ b.in_log, b.not_many, (whole-scores _ _ _ c.below_block-below.ensures c.in-Scores.is).1, omega (arith, p.2)),
     )
 
 pub visit_entry-returns-in-Scores : goal.visit_entry-returns-in-Scores

@@ -22,10 +22,10 @@ decreases-visit_scores l = 3 * l.left + 1
 
 abbrev pub invariant-visit_directory-loop-i : goal.invariant-visit_directory-loop-i
 invariant-visit_directory-loop-i l =
-    let log = joined l.end.0 l.log l.waiting in
+    let log = joined l.runs.end.0 l.runs.log.now l.runs.waiting.now in
     Rest (walk_pieces (λ f. visit_listed f log l.nest) 40 (wholes (bytes_of log l.b)) l.left) l.count tt l.visits l.i tt
 
 abbrev pub invariant-visit_scores-loop-i : goal.invariant-visit_scores-loop-i
 invariant-visit_scores-loop-i l =
-    let log = joined l.end.0 l.log l.waiting in
+    let log = joined l.runs.end.0 l.runs.log.now l.runs.waiting.now in
     Rest (walk_pieces (λ f x a. visit_entry f log l.e l.level l.nest x a) 20 (bytes_of log l.b) l.left) l.count tt l.visits l.i tt

@@ -13,8 +13,8 @@ use Rattle.doubt.proofs.first_doubtful.Given as goal
 -- `doubt::first_doubtful` meets its contract: no sector before n is doubtful.
 abbrev pub invariant-loop-n : goal.invariant-loop-n
 invariant-loop-n l =
-    Passed (joined l.end.0 l.log l.waiting) l.n
+    Passed (joined l.runs.end.0 l.runs.log.now l.runs.waiting.now) l.n
 
 abbrev pub decreases-loop-n : goal.decreases-loop-n
 decreases-loop-n l =
-    used (joined l.end.0 l.log l.waiting) - l.n
+    used (joined l.runs.end.0 l.runs.log.now l.runs.waiting.now) - l.n

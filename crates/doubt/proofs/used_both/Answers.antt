@@ -12,17 +12,17 @@ pub returns-then-waits-eq0 : goal.returns-then-waits-eq0
 returns-then-waits-eq0 c =
     let a = c.args in
     let waits = c.used_part-waits in
-    c.used_part.ensures ∙ ap (λ (k : ℕ). used (take k a.log.now)) (sub-zero (512 * a.end.0))
-    ∙ used-front a.end.0 a.log.now a.waiting.now c.requires waits.result.0 waits.ensures
+    c.used_part.ensures ∙ ap (λ (k : ℕ). used (take k a.runs.log.now)) (sub-zero (512 * a.runs.end.0))
+    ∙ used-front a.runs.end.0 a.runs.log.now a.runs.waiting.now c.requires waits.result.0 waits.ensures
     c.if-waits-eq0.true
 
 pub overflow_add-last : goal.overflow_add-last
 overflow_add-last c =
     let a = c.args in
-    omega (arith, c.used_part-waits.ensures, used_le_sectors a.waiting.now, c.requires)
+    omega (arith, c.used_part-waits.ensures, used_le_sectors a.runs.waiting.now, c.requires)
 
 pub returns : goal.returns
 returns c =
     let a = c.args in
     let waits = c.used_part-waits in
-    used-waits a.end.0 a.log.now a.waiting.now c.requires waits.result.0 waits.ensures c.if-waits-eq0.false
+    used-waits a.runs.end.0 a.runs.log.now a.runs.waiting.now c.requires waits.result.0 waits.ensures c.if-waits-eq0.false

@@ -10,11 +10,11 @@ returns-then-n-last c =
     let a = c.args in
     let last = c.used_both-last in
     let doubtful = c.first_doubtful-n in
-    absent-known (joined a.end.0 a.log.now a.waiting.now) doubtful.result.0 last.result.0 doubtful.ensures last.ensures c.if-n-last.true
+    absent-known (joined a.runs.end.0 a.runs.log.now a.runs.waiting.now) doubtful.result.0 last.result.0 doubtful.ensures last.ensures c.if-n-last.true
 
 pub returns : goal.returns
 returns c =
     let a = c.args in
     let last = c.used_both-last in
     let doubtful = c.first_doubtful-n in
-    absent-held (joined a.end.0 a.log.now a.waiting.now) doubtful.result.0 last.result.0 doubtful.ensures last.ensures c.if-n-last.false
+    absent-held (joined a.runs.end.0 a.runs.log.now a.runs.waiting.now) doubtful.result.0 last.result.0 doubtful.ensures last.ensures c.if-n-last.false

@@ -13,5 +13,5 @@ use Rattle.exact_index.proofs.is_exact.Given as goal
 -- `exact_index::is_exact` meets its contract: whether the index leads to the blocks that are left is whether it leads to all.
 abbrev pub invariant-loop-n : goal.invariant-loop-n
 invariant-loop-n l =
-    let both = joined l.end.0 l.log l.waiting in
-    (l.count ≡ l.end.0 + sectors (length l.waiting)) × (all_lead both l.index (found_from (sound both) (l.count - l.n) l.n) ≡ exactly both l.index)
+    let both = joined l.runs.end.0 l.runs.log.now l.runs.waiting.now in
+    (l.count ≡ l.runs.end.0 + sectors (length l.runs.waiting.now)) × (all_lead both l.index (found_from (sound both) (l.count - l.n) l.n) ≡ exactly both l.index)

@@ -45,7 +45,7 @@ returns-then-tells_first c =
     let digits = score_part a.s.now _ c.front_length-k.ensures in
     let kind = c.read_kind-kind.ensures ∙ ap hex_value (kind_part a.s.now _ c.front_length-k.ensures) in
     let score = score-read _ _ _ _ (ap is_hex digits ∙ c.requires.3) c.read_hex_bytes.ensures ∙ ap read_bytes digits in
-    told-leads (joined a.end.0 a.log.now a.waiting.now) a.index.now _ _ a.n.0 c.requires.4 _ _ _
+    told-leads (joined a.runs.end.0 a.runs.log.now a.runs.waiting.now) a.index.now _ _ a.n.0 c.requires.4 _ _ _
     c.tells_first.ensures kind score c.if-tells_first.true
 
 pub returns-in_default : goal.returns-in_default
@@ -54,7 +54,7 @@ returns-in_default c =
     let digits = score_part a.s.now _ c.front_length-k.ensures in
     let kind = c.read_kind-kind.ensures ∙ ap hex_value (kind_part a.s.now _ c.front_length-k.ensures) in
     let score = score-read _ _ _ _ (ap is_hex digits ∙ c.requires.3) c.read_hex_bytes.ensures ∙ ap read_bytes digits in
-    found_nowhere (joined a.end.0 a.log.now a.waiting.now) a.index.now a.n.0 _ _ _ _ _ c.find_hint-place.ensures kind score c.in_default.is
+    found_nowhere (joined a.runs.end.0 a.runs.log.now a.runs.waiting.now) a.index.now a.n.0 _ _ _ _ _ c.find_hint.ensures kind score c.in_default.is
 
 pub returns : goal.returns
 returns c =
@@ -62,5 +62,5 @@ returns c =
     let digits = score_part a.s.now _ c.front_length-k.ensures in
     let kind = c.read_kind-kind.ensures ∙ ap hex_value (kind_part a.s.now _ c.front_length-k.ensures) in
     let score = score-read _ _ _ _ (ap is_hex digits ∙ c.requires.3) c.read_hex_bytes.ensures ∙ ap read_bytes digits in
-    found_at (joined a.end.0 a.log.now a.waiting.now) a.index.now a.n.0 _ _ _ _ _ c.find_hint-place.ensures kind score
+    found_at (joined a.runs.end.0 a.runs.log.now a.runs.waiting.now) a.index.now a.n.0 _ _ _ _ _ c.find_hint.ensures kind score
     _ c.in-Some.is

@@ -35,9 +35,9 @@ returns-in-Ok c =
     let n = c.lesser-n in
     let descend = c.descend-look in
     let a = c.args in
-    let log = joined a.end.0 a.log.now a.waiting.now in
+    let log = joined a.runs.end.0 a.runs.log.now a.runs.waiting.now in
     let b = c.in-Ok.b in
-    let room = inside_both a.end.0 a.log.now a.waiting.now c.requires.0 b (found_inside descend.result _ descend.ensures.room c.in-Ok.is) in
+    let room = inside_both a.runs.end.0 a.runs.log.now a.runs.waiting.now c.requires.0 b (found_inside descend.result _ descend.ensures.room c.in-Ok.is) in
     let short : n.result ≤ length a.d.now = omega (arith, n.ensures) in
     leaf-written log a.e a.top.now a.offset a.d.now c.requires.1.dsize-from c.requires.3 descend.result descend.ensures.run b c.in-Ok.is room
     n.result n.ensures _
@@ -47,5 +47,5 @@ pub returns-in-Err : goal.returns-in-Err
 returns-in-Err c =
     let descend = c.descend-look in
     let a = c.args in
-    leaf-missing (joined a.end.0 a.log.now a.waiting.now) a.e a.top.now a.offset a.d.now c.requires.1.dsize-from c.requires.3
+    leaf-missing (joined a.runs.end.0 a.runs.log.now a.runs.waiting.now) a.e a.top.now a.offset a.d.now c.requires.1.dsize-from c.requires.3
     descend.result descend.ensures.run _ c.in-Err.is

@@ -20,7 +20,7 @@ overflow_sub-e c = omega (arith, c.requires.1.inside)
 pub loop-done-init : goal.loop-done-init
 loop-done-init c =
     let a = c.args in
-    let log = joined a.end.0 a.log.now a.waiting.now in
+    let log = joined a.runs.end.0 a.runs.log.now a.runs.waiting.now in
     (omega arith, refl, rest_all (byte_below log a.e a.top.now) c.lesser-count.result a.offset a.d.now)
 
 pub overflow_add-o : goal.overflow_add-o
@@ -53,7 +53,7 @@ pub overflow_add-done : goal.overflow_add-done
 overflow_add-done c =
     let a = c.args in
     let T =
-    turn (joined a.end.0 a.log.now a.waiting.now) a.e a.top.now a.offset _ a.d.now _ _ _ _ c.requires.1 c.lesser-count.ensures c.loop-done.invariant
+    turn (joined a.runs.end.0 a.runs.log.now a.runs.waiting.now) a.e a.top.now a.offset _ a.d.now _ _ _ _ c.requires.1 c.lesser-count.ensures c.loop-done.invariant
     c.loop-done-test.true c.fill_leaf-leaf.ensures in
     omega (arith, T.within)
 
@@ -61,7 +61,7 @@ pub loop-done-smaller : goal.loop-done-smaller
 loop-done-smaller c =
     let a = c.args in
     let T =
-    turn (joined a.end.0 a.log.now a.waiting.now) a.e a.top.now a.offset _ a.d.now _ _ _ _ c.requires.1 c.lesser-count.ensures c.loop-done.invariant
+    turn (joined a.runs.end.0 a.runs.log.now a.runs.waiting.now) a.e a.top.now a.offset _ a.d.now _ _ _ _ c.requires.1 c.lesser-count.ensures c.loop-done.invariant
     c.loop-done-test.true c.fill_leaf-leaf.ensures in
     omega (arith, c.loop-done-test.true, T.some c.in-Ok.is)
 
@@ -69,7 +69,7 @@ pub loop-done-preserved : goal.loop-done-preserved
 loop-done-preserved c =
     let a = c.args in
     let T =
-    turn (joined a.end.0 a.log.now a.waiting.now) a.e a.top.now a.offset _ a.d.now _ _ _ _ c.requires.1 c.lesser-count.ensures c.loop-done.invariant
+    turn (joined a.runs.end.0 a.runs.log.now a.runs.waiting.now) a.e a.top.now a.offset _ a.d.now _ _ _ _ c.requires.1 c.lesser-count.ensures c.loop-done.invariant
     c.loop-done-test.true c.fill_leaf-leaf.ensures in
     T.goes_on c.in-Ok.is
 
@@ -77,14 +77,14 @@ pub shape_of-d-in_default : goal.shape_of-d-in_default
 shape_of-d-in_default c =
     let a = c.args in
     let T =
-    turn (joined a.end.0 a.log.now a.waiting.now) a.e a.top.now a.offset _ a.d.now _ _ _ _ c.requires.1 c.lesser-count.ensures c.loop-done.invariant
+    turn (joined a.runs.end.0 a.runs.log.now a.runs.waiting.now) a.e a.top.now a.offset _ a.d.now _ _ _ _ c.requires.1 c.lesser-count.ensures c.loop-done.invariant
     c.loop-done-test.true c.fill_leaf-leaf.ensures in
     T.same_length
 
 pub returns-in_default : goal.returns-in_default
 returns-in_default c =
     let a = c.args in
-    let log = joined a.end.0 a.log.now a.waiting.now in
+    let log = joined a.runs.end.0 a.runs.log.now a.runs.waiting.now in
     let T =
     turn log a.e a.top.now a.offset _ a.d.now _ _ _ _ c.requires.1 c.lesser-count.ensures c.loop-done.invariant c.loop-done-test.true
     c.fill_leaf-leaf.ensures in
@@ -96,7 +96,7 @@ shape_of-d c = c.loop-done.invariant.1
 pub returns : goal.returns
 returns c =
     let a = c.args in
-    let log = joined a.end.0 a.log.now a.waiting.now in
+    let log = joined a.runs.end.0 a.runs.log.now a.runs.waiting.now in
     let lesser = c.lesser-count in
     let l = c.loop-done in
     let loop-test = c.loop-done-test in

@@ -12,17 +12,17 @@ returns-then-is_zero_score c = let args = c.args in
     let is_lawful = c.is_lawful in
     let is-zero-score = c.is_zero_score in
     let a = args in
-    let log = joined a.end.0 a.log.now a.waiting.now in
+    let log = joined a.runs.end.0 a.runs.log.now a.runs.waiting.now in
     by_zero log a.index.now a.kind a.score.now _ _ _ is_lawful.ensures if1.true is-zero-score.ensures c.if-is_zero_score.true c.find_held.ensures
 
 pub returns-in-Some : goal.returns-in-Some
 returns-in-Some c =
     let a = c.args in
-    let log = joined a.end.0 a.log.now a.waiting.now in
-    sym c.in-Some.is ∙ by_hint log a.index.now a.kind a.score.now _ _ (elim c.if-is_lawful.branch [ then-is_lawful+else-is_zero_score w ↦ not-zero a.kind a.score.now _ w.is_zero_score.ensures w.if-is_zero_score.false | else-is_lawful w ↦ not-lawful a.kind a.score.now _ c.is_lawful.ensures w.if-is_lawful.false ]) c.find_hint-place.ensures c.in-Some.is
+    let log = joined a.runs.end.0 a.runs.log.now a.runs.waiting.now in
+    sym c.in-Some.is ∙ by_hint log a.index.now a.kind a.score.now _ _ (elim c.if-is_lawful.branch [ then-is_lawful+else-is_zero_score w ↦ not-zero a.kind a.score.now _ w.is_zero_score.ensures w.if-is_zero_score.false | else-is_lawful w ↦ not-lawful a.kind a.score.now _ c.is_lawful.ensures w.if-is_lawful.false ]) c.find_hint.ensures c.in-Some.is
 
 pub returns : goal.returns
 returns c =
     let a = c.args in
-    let log = joined a.end.0 a.log.now a.waiting.now in
-    by_scan log a.index.now a.kind a.score.now _ _ (elim c.if-is_lawful.branch [ then-is_lawful+else-is_zero_score w ↦ not-zero a.kind a.score.now _ w.is_zero_score.ensures w.if-is_zero_score.false | else-is_lawful w ↦ not-lawful a.kind a.score.now _ c.is_lawful.ensures w.if-is_lawful.false ]) c.find_hint-place.ensures c.in_default.is c.find_held-2.ensures
+    let log = joined a.runs.end.0 a.runs.log.now a.runs.waiting.now in
+    by_scan log a.index.now a.kind a.score.now _ _ (elim c.if-is_lawful.branch [ then-is_lawful+else-is_zero_score w ↦ not-zero a.kind a.score.now _ w.is_zero_score.ensures w.if-is_zero_score.false | else-is_lawful w ↦ not-lawful a.kind a.score.now _ c.is_lawful.ensures w.if-is_lawful.false ]) c.find_hint.ensures c.in_default.is c.find_held-2.ensures

@@ -10,7 +10,7 @@ use Rattle.index_lookup.proofs.find_hint.Goals as goal
 pub loop-p-init : goal.loop-p-init
 loop-p-init c =
     let a = c.args in
-    let log = joined a.end.0 a.log.now a.waiting.now in
+    let log = joined a.runs.end.0 a.runs.log.now a.runs.waiting.now in
     let b = c.bucket_of-b in
     hint-starts log a.index.now a.kind a.score.now b.result b.ensures.places
 
@@ -20,10 +20,10 @@ returns-in-Some c = let args = c.args in
     let if1 = c.loop-p-test in
     let turn = c.loop-p in
     let a = args in
-    let log = joined a.end.0 a.log.now a.waiting.now in
+    let log = joined a.runs.end.0 a.runs.log.now a.runs.waiting.now in
     let l = turn in
     let f = true_at log a.index.now a.kind a.score.now in
-    sym c.in-Some.is ∙ found_here f l.p bucket-of.result.to if1.true _ c.true_at-place.ensures _ c.in-Some.is ∙ ap placed l.invariant
+    sym c.in-Some.is ∙ found_here f l.p bucket-of.result.to if1.true _ c.true_at.ensures _ c.in-Some.is ∙ ap placed l.invariant
 
 pub loop-p-preserved : goal.loop-p-preserved
 loop-p-preserved c = let args = c.args in
@@ -31,15 +31,15 @@ loop-p-preserved c = let args = c.args in
     let if1 = c.loop-p-test in
     let turn = c.loop-p in
     let a = args in
-    let log = joined a.end.0 a.log.now a.waiting.now in
+    let log = joined a.runs.end.0 a.runs.log.now a.runs.waiting.now in
     let l = turn in
     let f = true_at log a.index.now a.kind a.score.now in
-    found-next f l.p bucket-of.result.to if1.true _ c.true_at-place.ensures c.in_default.is ∙ l.invariant
+    found-next f l.p bucket-of.result.to if1.true _ c.true_at.ensures c.in_default.is ∙ l.invariant
 
 pub returns : goal.returns
 returns c =
     let a = c.args in
-    let log = joined a.end.0 a.log.now a.waiting.now in
+    let log = joined a.runs.end.0 a.runs.log.now a.runs.waiting.now in
     let l = c.loop-p in
     let f = true_at log a.index.now a.kind a.score.now in
     found_nowhere f l.p c.bucket_of-b.result.to c.loop-p-test.false ∙ ap placed l.invariant

@@ -10,5 +10,5 @@ use Rattle.index_lookup.proofs.find_hint.Given as goal
 -- `index_lookup::find_hint` meets its contract: the first true entry among those that are left is the first of all.
 abbrev pub invariant-loop-p : goal.invariant-loop-p
 invariant-loop-p l =
-    let both = joined l.end.0 l.log l.waiting in
+    let both = joined l.runs.end.0 l.runs.log.now l.runs.waiting.now in
     first_found (true_at both l.index l.kind l.score) (l.to - l.p) l.p ≡ hint both l.index l.kind l.score

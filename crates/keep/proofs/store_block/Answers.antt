@@ -10,7 +10,7 @@ use Rattle.keep.proofs.store_block.Goals as goal
 pub slice_bounds-store_alone-end : goal.slice_bounds-store_alone-end
 slice_bounds-store_alone-end c =
     let a = c.args in
-    let log = joined a.end.0 a.log.now a.waiting.now in
+    let log = joined a.runs.end.0 a.runs.log.now a.runs.waiting.now in
     let size = length-bytes log a.b c.requires.1.1 in
     let front = front-of-page _ (bytes_of log a.b) _ c.copy_out.ensures size in
     sym (ap length front ∙ size)
@@ -18,7 +18,7 @@ slice_bounds-store_alone-end c =
 pub store_alone-receipt-requires : goal.store_alone-receipt-requires
 store_alone-receipt-requires c =
     let a = c.args in
-    let log = joined a.end.0 a.log.now a.waiting.now in
+    let log = joined a.runs.end.0 a.runs.log.now a.runs.waiting.now in
     let size = length-bytes log a.b c.requires.1.1 in
     let front = front-of-page _ (bytes_of log a.b) _ c.copy_out.ensures size in
     (omega (arith, ap length front, size, c.requires.2), c.requires.3)
@@ -26,7 +26,7 @@ store_alone-receipt-requires c =
 pub returns : goal.returns
 returns c =
     let a = c.args in
-    let log = joined a.end.0 a.log.now a.waiting.now in
+    let log = joined a.runs.end.0 a.runs.log.now a.runs.waiting.now in
     let size = length-bytes log a.b c.requires.1.1 in
     let front = front-of-page _ (bytes_of log a.b) _ c.copy_out.ensures size in
     block-stored a.second.now a.date.now a.kind _ _ (bytes_of log a.b) _ _ c.store_alone-receipt.ensures front c.end_of.ensures

@@ -29,8 +29,8 @@ pub score_of-score-requires : goal.score_of-score-requires
 score_of-score-requires c =
     omega (arith, read_length _ _ _ c.requires.1)
 
-pub find_known-place-requires : goal.find_known-place-requires
-find_known-place-requires c =
+pub find_known-requires : goal.find_known-requires
+find_known-requires c =
     let score-of = c.score_of-score in
     let a = c.args in
     let b = belongs-within a.known (length a.log.now) (length a.waiting.now) c.requires.0 in
@@ -42,7 +42,7 @@ returns-in_default c =
     let is_lawful = c.is_lawful in
     let if1 = c.if-not-is_lawful in
     let score-of = c.score_of-score in
-    let find-known = c.find_known-place in
+    let find-known = c.find_known in
     let missing-by = c.missing_by-why in
     let refuse2 = c.refuse-in_default in
     let a = c.args in
@@ -56,7 +56,7 @@ returns-then-count-b c =
     let is_lawful = c.is_lawful in
     let if1 = c.if-not-is_lawful in
     let score-of = c.score_of-score in
-    let find-known = c.find_known-place in
+    let find-known = c.find_known in
     let if2 = c.if-count-b in
     let refuse3 = c.refuse-then-count-b in
     let a = c.args in
@@ -67,7 +67,7 @@ returns-then-count-b c =
 pub answer_read-requires : goal.answer_read-requires
 answer_read-requires c =
     let score-of = c.score_of-score in
-    let find-known = c.find_known-place in
+    let find-known = c.find_known in
     let a = c.args in
     let s = score-of.result.now in
     let b = belongs-within a.known (length a.log.now) (length a.waiting.now) c.requires.0 in
@@ -84,7 +84,7 @@ returns c =
     let is_lawful = c.is_lawful in
     let if1 = c.if-not-is_lawful in
     let score-of = c.score_of-score in
-    let find-known = c.find_known-place in
+    let find-known = c.find_known in
     let if2 = c.if-count-b in
     let answer-read = c.answer_read in
     let a = c.args in

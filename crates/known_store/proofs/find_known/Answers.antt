@@ -17,11 +17,11 @@ returns-then-is_zero_score c = let args = c.args in
 pub returns-in-Some : goal.returns-in-Some
 returns-in-Some c =
     let a = c.args in
-    sym c.in-Some.is ∙ by_hint a.known a.log.now a.waiting.now a.index.now a.kind a.score.now _ (elim c.if-is_lawful.branch [ then-is_lawful+else-is_zero_score w ↦ not-zero a.kind a.score.now _ w.is_zero_score.ensures w.if-is_zero_score.false | else-is_lawful w ↦ not-lawful a.kind a.score.now _ c.is_lawful.ensures w.if-is_lawful.false ]) _ c.find_hint-place.ensures c.in-Some.is
+    sym c.in-Some.is ∙ by_hint a.known a.log.now a.waiting.now a.index.now a.kind a.score.now _ (elim c.if-is_lawful.branch [ then-is_lawful+else-is_zero_score w ↦ not-zero a.kind a.score.now _ w.is_zero_score.ensures w.if-is_zero_score.false | else-is_lawful w ↦ not-lawful a.kind a.score.now _ c.is_lawful.ensures w.if-is_lawful.false ]) _ c.find_hint.ensures c.in-Some.is
 
 pub returns-then-known : goal.returns-then-known
 returns-then-known c = let args = c.args in
-    let find-hint = c.find_hint-place in
+    let find-hint = c.find_hint in
     let if1 = c.if-is_lawful in
     let is_lawful = c.is_lawful in
     let a = args in
@@ -30,7 +30,7 @@ returns-then-known c = let args = c.args in
 
 pub returns : goal.returns
 returns c = let args = c.args in
-    let find-hint = c.find_hint-place in
+    let find-hint = c.find_hint in
     let if1 = c.if-is_lawful in
     let is_lawful = c.is_lawful in
     let a = args in

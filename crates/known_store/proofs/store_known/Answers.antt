@@ -9,8 +9,8 @@ use Rattle.known_store.proofs.Stored.{store_found, store-new}
 use borrow.Author.Rules.{rules}
 use Rattle.known_store.proofs.store_known.Goals as goal
 
-pub find_owner-place-requires : goal.find_owner-place-requires
-find_owner-place-requires c =
+pub find_owner-requires : goal.find_owner-requires
+find_owner-requires c =
     let a = c.args in
     let q = c.requires in
     let b = belongs-within a.known (length a.log.now) (length a.waiting.now) q.0 in
@@ -28,7 +28,7 @@ pub returns-in_default : goal.returns-in_default
 returns-in_default c =
     let a = c.args in
     let sha1 = c.sha1-score in
-    let find-owner = c.find_owner-place in
+    let find-owner = c.find_owner in
     let append-behind = c.append_behind-stored in
     store-new a.known a.log.now a.waiting.now a.index.now a.date.now a.kind (a.«data»).now _ _ _ sha1.ensures find-owner.ensures _
     c.in_default.is (append-behind.ensures a.log.now (omega arith))
@@ -37,7 +37,7 @@ pub compare-stored-requires : goal.compare-stored-requires
 compare-stored-requires c =
     let a = c.args in
     let q = c.requires in
-    let find-owner = c.find_owner-place in
+    let find-owner = c.find_owner in
     let b = belongs-within a.known (length a.log.now) (length a.waiting.now) q.0 in (
       b.0,
       found_within (owner-found a.known a.log.now a.waiting.now a.index.now a.kind _ find-owner.ensures c.in-Some.is) _
@@ -48,7 +48,7 @@ pub returns : goal.returns
 returns c =
     let a = c.args in
     let sha1 = c.sha1-score in
-    let find-owner = c.find_owner-place in
+    let find-owner = c.find_owner in
     let compare = c.compare-stored in
     store_found a.known a.log.now a.waiting.now a.index.now a.date.now a.kind (a.«data»).now _ _ _ sha1.ensures find-owner.ensures _
     c.in-Some.is (compare.ensures (beside a.log.now a.waiting.now))

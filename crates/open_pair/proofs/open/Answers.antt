@@ -10,26 +10,26 @@ use Rattle.open_pair.proofs.open.Goals as goal
 pub returns-then-equal : goal.returns-then-equal
 returns-then-equal c =
     let a = c.args in
-    equal-scores (joined a.end.0 a.log.now a.waiting.now) a.e a.level a.nest a.s.now a.t.now a.left (sym c.equal.ensures ∙ c.if-equal.true)
+    equal-scores (joined a.runs.end.0 a.runs.log.now a.runs.waiting.now) a.e a.level a.nest a.s.now a.t.now a.left (sym c.equal.ensures ∙ c.if-equal.true)
 
 pub returns-then-nest-gt16 : goal.returns-then-nest-gt16
 returns-then-nest-gt16 c =
     let a = c.args in
     λ f h. c.refused.ensures
-    ∙ too_deep (joined a.end.0 a.log.now a.waiting.now) a.e a.level a.nest a.s.now a.t.now a.left (sym c.equal.ensures ∙ c.if-equal.false) c.if-nest-gt16.true f h
+    ∙ too_deep (joined a.runs.end.0 a.runs.log.now a.runs.waiting.now) a.e a.level a.nest a.s.now a.t.now a.left (sym c.equal.ensures ∙ c.if-equal.false) c.if-nest-gt16.true f h
 
 pub returns-then-left-eq0 : goal.returns-then-left-eq0
 returns-then-left-eq0 c =
     let a = c.args in
     λ f h. c.refused-then-left-eq0.ensures
-    ∙ nothing_left (joined a.end.0 a.log.now a.waiting.now) a.e a.level a.nest a.s.now a.t.now a.left (sym c.equal.ensures ∙ c.if-equal.false)
+    ∙ nothing_left (joined a.runs.end.0 a.runs.log.now a.runs.waiting.now) a.e a.level a.nest a.s.now a.t.now a.left (sym c.equal.ensures ∙ c.if-equal.false)
     c.if-nest-gt16.false c.if-left-eq0.true f h
 
 pub returns-in-Err : goal.returns-in-Err
 returns-in-Err c =
     let a = c.args in
     λ f h. c.one_unit-in-Err.ensures ∙ ap one_unit c.refused-in-Err.ensures
-    ∙ first-not-read (joined a.end.0 a.log.now a.waiting.now) a.e a.level a.nest a.s.now a.t.now a.left (sym c.equal.ensures ∙ c.if-equal.false)
+    ∙ first-not-read (joined a.runs.end.0 a.runs.log.now a.runs.waiting.now) a.e a.level a.nest a.s.now a.t.now a.left (sym c.equal.ensures ∙ c.if-equal.false)
     c.if-nest-gt16.false c.if-left-eq0.false _ (sym c.read_block-one.ensures ∙ c.in-Err.is) f h
 
 pub returns-in-Err-other : goal.returns-in-Err-other
@@ -37,7 +37,7 @@ returns-in-Err-other c =
     let a = c.args in
     let O = found_at _ _ _ _ _ (sym c.read_block-one.ensures ∙ c.in-Ok.is) in
     λ f h. c.one_unit.ensures ∙ ap one_unit c.refused-in-Err-other.ensures
-    ∙ second-not-read (joined a.end.0 a.log.now a.waiting.now) a.e a.level a.nest a.s.now a.t.now a.left (sym c.equal.ensures ∙ c.if-equal.false)
+    ∙ second-not-read (joined a.runs.end.0 a.runs.log.now a.runs.waiting.now) a.e a.level a.nest a.s.now a.t.now a.left (sym c.equal.ensures ∙ c.if-equal.false)
     c.if-nest-gt16.false c.if-left-eq0.false O _ (sym c.read_block-other.ensures ∙ c.in-Err-other.is) f h
 
 pub returns-in-Ok-other : goal.returns-in-Ok-other
@@ -46,9 +46,9 @@ returns-in-Ok-other c =
     let p = c.requires.0 in
     let O = found_at _ _ _ _ _ (sym c.read_block-one.ensures ∙ c.in-Ok.is) in
     let O' = found_at _ _ _ _ _ (sym c.read_block-other.ensures ∙ c.in-Ok-other.is) in (
-      lies a.end.0 a.log.now a.waiting.now p O,
-      lies a.end.0 a.log.now a.waiting.now p O',
+      lies a.runs.end.0 a.runs.log.now a.runs.waiting.now p O,
+      lies a.runs.end.0 a.runs.log.now a.runs.waiting.now p O',
       c.if-nest-gt16.false,
       omega (arith, c.if-left-eq0.false),
-      both_read (joined a.end.0 a.log.now a.waiting.now) a.e a.level a.nest a.s.now a.t.now a.left (sym c.equal.ensures ∙ c.if-equal.false) c.if-nest-gt16.false c.if-left-eq0.false O O',
+      both_read (joined a.runs.end.0 a.runs.log.now a.runs.waiting.now) a.e a.level a.nest a.s.now a.t.now a.left (sym c.equal.ensures ∙ c.if-equal.false) c.if-nest-gt16.false c.if-left-eq0.false O O',
     )

@@ -24,7 +24,7 @@ returns-then-size-lt1 c =
     let a = c.args in
     let q = c.requires in
     let number_at = c.field_number-size in
-    let log = joined a.end.0 a.log.now a.waiting.now in
+    let log = joined a.runs.end.0 a.runs.log.now a.runs.waiting.now in
     let z : number_at.result ≡ 0 = omega arith in
     unsized log a.first.0 a.kind a.score.now q.3 (sym number_at.ensures ∙ z)
 
@@ -34,7 +34,7 @@ returns-then-size-gt-LONGEST c =
     let q = c.requires in
     let number_at = c.field_number-size in
     let if1 = c.if-size-lt1 in
-    let log = joined a.end.0 a.log.now a.waiting.now in
+    let log = joined a.runs.end.0 a.runs.log.now a.runs.waiting.now in
     let size = number_at.result in
     unsound_behind log a.first.0 a.kind a.score.now a.front.now q.2 size number_at.ensures if1.false 1 (lt-leb size longest (omega arith))
 
@@ -46,7 +46,7 @@ returns-then-not-is_lawful c =
     let if1 = c.if-size-lt1 in
     let is_lawful = c.is_lawful in
     let if3 = c.if-not-is_lawful in
-    let log = joined a.end.0 a.log.now a.waiting.now in
+    let log = joined a.runs.end.0 a.runs.log.now a.runs.waiting.now in
     let size = number_at.result in
     unsound_behind log a.first.0 a.kind a.score.now a.front.now q.2 size number_at.ensures if1.false 2 (sym is_lawful.ensures ∙ if3.true)
 
@@ -55,7 +55,7 @@ parts_of-of-requires c =
     let a = c.args in
     let q = c.requires in
     let if2 = c.if-size-gt-LONGEST in
-    let log = joined a.end.0 a.log.now a.waiting.now in
+    let log = joined a.runs.end.0 a.runs.log.now a.runs.waiting.now in
     let h : length a.front.now ≤ 14 = omega (arith, ap length q.2, front-most (at log a.first.0)) in
     (omega arith, omega (arith, if2.false))
 
@@ -69,19 +69,19 @@ overflow_add-after c =
     let few = few_parts (payload_of (length a.front.now + 96)) number_at.result in
     omega (arith, q.0, q.1, if2.false, parts-of.ensures, few)
 
-pub returns-then-end-waiting : goal.returns-then-end-waiting
-returns-then-end-waiting c =
+pub returns-then-runs-after : goal.returns-then-runs-after
+returns-then-runs-after c =
     let a = c.args in
     let q = c.requires in
     let number_at = c.field_number-size in
     let if1 = c.if-size-lt1 in
     let parts-of = c.parts_of-of in
-    let log = joined a.end.0 a.log.now a.waiting.now in
+    let log = joined a.runs.end.0 a.runs.log.now a.runs.waiting.now in
     let k = length a.front.now in
     let size = number_at.result in
     unsound_behind log a.first.0 a.kind a.score.now a.front.now q.2 size number_at.ensures if1.false 3
     (lt-leb (a.first.0 + parts_of (payload_of (k + 96)) size) (length log / 512)
-    (omega (arith, parts-of.ensures, sectors-joined a.end.0 a.log.now a.waiting.now q.0)))
+    (omega (arith, parts-of.ensures, sectors-joined a.runs.end.0 a.runs.log.now a.runs.waiting.now q.0)))
 
 pub returns-then-after-gt-PLACES : goal.returns-then-after-gt-PLACES
 returns-then-after-gt-PLACES c =
@@ -91,7 +91,7 @@ returns-then-after-gt-PLACES c =
     let if1 = c.if-size-lt1 in
     let parts-of = c.parts_of-of in
     let if5 = c.if-after-gt-PLACES in
-    let log = joined a.end.0 a.log.now a.waiting.now in
+    let log = joined a.runs.end.0 a.runs.log.now a.runs.waiting.now in
     let k = length a.front.now in
     let size = number_at.result in
     unsound_behind log a.first.0 a.kind a.score.now a.front.now q.2 size number_at.ensures if1.false 4
@@ -103,7 +103,7 @@ passes-requires c =
     let q = c.requires in
     let if1 = c.if-size-lt1 in
     let parts-of = c.parts_of-of in
-    let log = joined a.end.0 a.log.now a.waiting.now in
+    let log = joined a.runs.end.0 a.runs.log.now a.runs.waiting.now in
     let short : length a.front.now + 96 < 499 = omega (arith, ap length q.2, front-most (at log a.first.0)) in
     (q.0, omega (arith, if1.false), (omega (arith, parts-of.ensures), short), refl, q.2, q.3)
 
@@ -115,7 +115,7 @@ returns-then-not-passes c =
     let if1 = c.if-size-lt1 in
     let passes = c.passes in
     let if6 = c.if-not-passes in
-    let log = joined a.end.0 a.log.now a.waiting.now in
+    let log = joined a.runs.end.0 a.runs.log.now a.runs.waiting.now in
     let size = number_at.result in
     untested log a.first.0 a.kind a.score.now a.front.now q.2 size number_at.ensures if1.false (sym passes.ensures ∙ if6.true)
 
@@ -129,13 +129,13 @@ returns c =
     let is_lawful = c.is_lawful in
     let if3 = c.if-not-is_lawful in
     let parts-of = c.parts_of-of in
-    let if4 = c.if-end-waiting in
+    let if4 = c.if-runs-after in
     let if5 = c.if-after-gt-PLACES in
     let passes = c.passes in
     let if6 = c.if-not-passes in
-    let log = joined a.end.0 a.log.now a.waiting.now in
+    let log = joined a.runs.end.0 a.runs.log.now a.runs.waiting.now in
     let size = number_at.result in
     passed log a.first.0 a.kind a.score.now a.front.now q.2 size number_at.ensures if1.false (omega (arith, if2.false))
     (sym is_lawful.ensures ∙ if3.false)
-    (omega (arith, parts-of.ensures, if4.false, sectors-joined a.end.0 a.log.now a.waiting.now q.0))
+    (omega (arith, parts-of.ensures, if4.false, sectors-joined a.runs.end.0 a.runs.log.now a.runs.waiting.now q.0))
     (omega (arith, parts-of.ensures, if5.false)) (sym passes.ensures ∙ if6.false)

@@ -8,12 +8,12 @@ returns-then-log-gt65024 c =
 
 pub returns-in_default : goal.returns-in_default
 returns-in_default c =
-    print_refused c.args.log.now c.args.d.now _ c.report-told.result (omega (arith, c.if-log-gt65024.false)) c.requires
-    c.report-told.ensures
+    print_refused c.args.log.now c.args.d.now _ c.report.result (omega (arith, c.if-log-gt65024.false)) c.requires
+    c.report.ensures
     _ _ c.refuse-in_default.result c.in_default.is c.refuse-in_default.ensures
 
 pub returns : goal.returns
 returns c =
-    print_report c.args.log.now c.args.d.now _ c.report-told.result (omega
-    (arith, c.if-log-gt65024.false)) c.requires c.report-told.ensures
+    print_report c.args.log.now c.args.d.now _ c.report.result (omega
+    (arith, c.if-log-gt65024.false)) c.requires c.report.ensures
     _ c.in-Ok.is

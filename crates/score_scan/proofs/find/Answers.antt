@@ -21,8 +21,8 @@ unfolding blocks
 loop-n-init c = let a = c.args in
     let given = c.requires in
     let put-hex-bytes = c.put_hex_bytes in
-    let log = joined a.end.0 a.log.now a.waiting.now in
-    let e = sectors-joined a.end.0 a.log.now a.waiting.now given.0 in (
+    let log = joined a.runs.end.0 a.runs.log.now a.runs.waiting.now in
+    let e = sectors-joined a.runs.end.0 a.runs.log.now a.runs.waiting.now given.0 in (
       omega (arith, e),
       put-hex-bytes.ensures,
       ap (λ (k : ℕ). first_of a.kind a.score.now (found_from (sound log) k 0)) (sub-zero (sectors (length log))),
@@ -31,14 +31,14 @@ loop-n-init c = let a = c.args in
 pub may_hold-requires : goal.may_hold-requires
 may_hold-requires c = let a = c.args in
     let l = c.loop-n in
-    (ap length (c.sector_at-s.ensures) ∙ length_at (joined a.end.0 a.log.now a.waiting.now) l.n, search rules)
+    (ap length (c.sector_at-s.ensures) ∙ length_at (joined a.runs.end.0 a.runs.log.now a.runs.waiting.now) l.n, search rules)
 
 pub returns-in-Some : goal.returns-in-Some
 returns-in-Some c = let a = c.args in
     let l = c.loop-n in
     let loop-test = c.loop-n-test in
-    let sound-as = c.sound_as-place in
-    sym c.in-Some.is ∙ find_found (joined a.end.0 a.log.now a.waiting.now) l.n a.kind a.score.now (omega (arith, l.invariant.0, loop-test.true)) l.invariant.2 sound-as.result _
+    let sound-as = c.sound_as in
+    sym c.in-Some.is ∙ find_found (joined a.runs.end.0 a.runs.log.now a.runs.waiting.now) l.n a.kind a.score.now (omega (arith, l.invariant.0, loop-test.true)) l.invariant.2 sound-as.result _
     sound-as.ensures (c.in-Some.is)
 
 pub loop-n-preserved : goal.loop-n-preserved
@@ -47,10 +47,10 @@ loop-n-preserved c = let a = c.args in
     let loop-test = c.loop-n-test in
     let may-hold = c.may_hold in
     let sector-at = c.sector_at-s in
-    let log = joined a.end.0 a.log.now a.waiting.now in
-    (l.invariant.0, l.invariant.1, find_more log l.n a.kind a.score.now (omega (arith, l.invariant.0, loop-test.true)) l.invariant.2 (elim c.if-may_hold.branch [ then-may_hold+in_default w ↦ placed-none _ w.sound_as-place.result w.sound_as-place.ensures w.in_default.is | else-may_hold w ↦ other_digits log l.n a.kind a.score.now _ sector-at.result.now may-hold.result sector-at.ensures l.invariant.1 may-hold.ensures w.if-may_hold.false ]))
+    let log = joined a.runs.end.0 a.runs.log.now a.runs.waiting.now in
+    (l.invariant.0, l.invariant.1, find_more log l.n a.kind a.score.now (omega (arith, l.invariant.0, loop-test.true)) l.invariant.2 (elim c.if-may_hold.branch [ then-may_hold+in_default w ↦ placed-none _ w.sound_as.result w.sound_as.ensures w.in_default.is | else-may_hold w ↦ other_digits log l.n a.kind a.score.now _ sector-at.result.now may-hold.result sector-at.ensures l.invariant.1 may-hold.ensures w.if-may_hold.false ]))
 
 pub returns : goal.returns
 returns c = let a = c.args in
     let l = c.loop-n in
-    find_nowhere (joined a.end.0 a.log.now a.waiting.now) l.n a.kind a.score.now (omega (arith, l.invariant.0)) (omega (arith, l.invariant.0, c.loop-n-test.false)) l.invariant.2
+    find_nowhere (joined a.runs.end.0 a.runs.log.now a.runs.waiting.now) l.n a.kind a.score.now (omega (arith, l.invariant.0)) (omega (arith, l.invariant.0, c.loop-n-test.false)) l.invariant.2

@@ -17,7 +17,7 @@ use Rattle.score_scan.proofs.find.Given as goal
 -- `score_scan::find` meets its contract: the first block among the sectors that are left is the first of all.
 abbrev pub invariant-loop-n : goal.invariant-loop-n
 invariant-loop-n l =
-    let both = joined l.end.0 l.log l.waiting in
+    let both = joined l.runs.end.0 l.runs.log.now l.runs.waiting.now in
     (l.count ≡ sectors (length both))
     × (l.digits ≡ hex_bytes l.score)
     × (first_of l.kind l.score (found_from (sound both) (sectors (length both) - l.n) l.n) ≡ first_of l.kind l.score (blocks both))

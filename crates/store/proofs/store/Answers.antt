@@ -25,31 +25,35 @@ append_new-stored-requires c =
 pub returns-in_default : goal.returns-in_default
 returns-in_default c =
     let border = c.border-end in
-    let find-held = c.find_held-place in
+    let here = c.side_by_side.ensures in
+    let found = rw (here.end, here.log, here.waiting) at c.find_held.ensures in
     let a = c.args in
     let used = c.used_part-used.ensures ∙ used-before a.log.now a.waiting.now border.result.0 border.ensures.within border.ensures.alike in
-    store-new a.log.now a.waiting.now _ a.kind a.date.now a.«data».now _ _ _ border.ensures.alike c.sha1-score.ensures find-held.ensures _
+    store-new a.log.now a.waiting.now _ a.kind a.date.now a.«data».now _ _ _ border.ensures.alike c.sha1-score.ensures found _
     c.in_default.is
     (c.append_new-stored.ensures a.log.now (omega arith) (sym used))
 
 pub compare-stored-requires : goal.compare-stored-requires
 compare-stored-requires c = let args = c.args in
     let border-here = c.border-end in
-    let find-held-here = c.find_held-place in
-    let find-held = find-held-here in
+    let here = c.side_by_side.ensures in
+    let there = c.side_by_side-2.ensures in
+    let found = rw (here.end, here.log, here.waiting) at c.find_held.ensures in
     let border = border-here in
     let a = args in
-    let J = joined border.result.0 a.log.now a.waiting.now in (
+    let J = joined border.result.0 a.log.now a.waiting.now in rw (there.end, there.log, there.waiting) (
       border.ensures.within,
-      found_within J a.kind _ _ _ _ find-held.ensures c.in-Some.is
+      found_within J a.kind _ _ _ _ found c.in-Some.is
           (sectors-joined border.result.0 a.log.now a.waiting.now border.ensures.within),
     )
 
 pub returns : goal.returns
 returns c =
-    let find-held = c.find_held-place in
+    let here = c.side_by_side.ensures in
+    let there = c.side_by_side-2.ensures in
+    let found = rw (here.end, here.log, here.waiting) at c.find_held.ensures in
     let border = c.border-end in
     let a = c.args in
-    store_found a.log.now a.waiting.now _ a.kind a.date.now a.«data».now _ _ _ border.ensures.alike c.sha1-score.ensures find-held.ensures _
+    store_found a.log.now a.waiting.now _ a.kind a.date.now a.«data».now _ _ _ border.ensures.alike c.sha1-score.ensures found _
     c.in-Some.is
-    (c.compare-stored.ensures (beside a.log.now a.waiting.now))
+    (rw (there.end, there.log, there.waiting) at (c.compare-stored.ensures (beside a.log.now a.waiting.now)))

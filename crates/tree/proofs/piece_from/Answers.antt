@@ -13,7 +13,7 @@ overflow_add-n c =
     let a = c.args in
     let q = c.requires in
     let payload-of = c.payload_of-p in
-    let log = joined a.end.0 a.log.now a.waiting.now in
+    let log = joined a.runs.end.0 a.runs.log.now a.runs.waiting.now in
     let part = part_in log a.b q.1.1 payload-of.result payload-of.ensures a.k q.2 in
     omega (arith, part)
 
@@ -22,7 +22,7 @@ sector_at-s-requires c =
     let a = c.args in
     let q = c.requires in
     let payload-of = c.payload_of-p in
-    let log = joined a.end.0 a.log.now a.waiting.now in
+    let log = joined a.runs.end.0 a.runs.log.now a.runs.waiting.now in
     let part = part_in log a.b q.1.1 payload-of.result payload-of.ensures a.k q.2 in
     (q.0, omega (arith, part))
 
@@ -56,7 +56,7 @@ slice_bounds-result-end c =
     let payload-of = c.payload_of-p in
     let pos : 0 < payload-of.result = omega (arith, payload-of.ensures) in
     let m = mod-lt a.k pos in
-    let log = joined a.end.0 a.log.now a.waiting.now in
+    let log = joined a.runs.end.0 a.runs.log.now a.runs.waiting.now in
     omega (arith, m, payload-of.ensures, c.least.ensures, ap length c.sector_at-s.ensures ∙ length_at log (a.b.first.0 + a.k / payload-of.result))
 
 pub returns : goal.returns
@@ -66,7 +66,7 @@ returns c =
     let payload-of = c.payload_of-p in
     let least = c.least in
     let p = payload-of.result in
-    let log = joined a.end.0 a.log.now a.waiting.now in
+    let log = joined a.runs.end.0 a.runs.log.now a.runs.waiting.now in
     let e = least.ensures in
     let bounds = least-bounds least.result _ _ _ e in
     piece-here log a.b q.1.1 p payload-of.ensures a.k least.result _ c.sector_at-s.ensures bounds.0 bounds.1 q.2

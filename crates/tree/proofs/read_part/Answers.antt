@@ -14,7 +14,7 @@ use Rattle.tree.proofs.read_part.Goals as goal
 pub loop-done-init : goal.loop-done-init
 loop-done-init c =
     let a = c.args in
-    (omega arith, refl, left-all (bytes_of (joined a.end.0 a.log.now a.waiting.now) a.b) a.from a.d.now)
+    (omega arith, refl, left-all (bytes_of (joined a.runs.end.0 a.runs.log.now a.runs.waiting.now) a.b) a.from a.d.now)
 
 pub returns-then-b-k : goal.returns-then-b-k
 returns-then-b-k c =
@@ -23,7 +23,7 @@ returns-then-b-k c =
     let if1 = c.if-b-k in
     let clear = c.clear in
     let q = c.requires in
-    let log = joined a.end.0 a.log.now a.waiting.now in
+    let log = joined a.runs.end.0 a.runs.log.now a.runs.waiting.now in
     left-zeros (bytes_of log a.b) a.from a.d.now l.d _ l.done l.invariant.0 l.invariant.1
     (omega (arith, if1.true, length-bytes log a.b q.1.1)) clear.ensures l.invariant.2
 
@@ -43,7 +43,7 @@ pub copy_at-requires : goal.copy_at-requires
 copy_at-requires c =
     let a = c.args in
     let l = c.loop-done in
-    let F = found (joined a.end.0 a.log.now a.waiting.now) a.b a.from a.d.now l.d _ l.done c.requires.1.1 c.loop-done-test.true l.invariant.1 c.if-b-k.false
+    let F = found (joined a.runs.end.0 a.runs.log.now a.runs.waiting.now) a.b a.from a.d.now l.d _ l.done c.requires.1.1 c.loop-done-test.true l.invariant.1 c.if-b-k.false
     c.piece_from-piece.ensures in
     F.fits
 
@@ -51,7 +51,7 @@ pub overflow_add-done : goal.overflow_add-done
 overflow_add-done c =
     let a = c.args in
     let l = c.loop-done in
-    let F = found (joined a.end.0 a.log.now a.waiting.now) a.b a.from a.d.now l.d _ l.done c.requires.1.1 c.loop-done-test.true l.invariant.1 c.if-b-k.false
+    let F = found (joined a.runs.end.0 a.runs.log.now a.runs.waiting.now) a.b a.from a.d.now l.d _ l.done c.requires.1.1 c.loop-done-test.true l.invariant.1 c.if-b-k.false
     c.piece_from-piece.ensures in
     omega (arith, F.fits)
 
@@ -59,7 +59,7 @@ pub loop-done-smaller : goal.loop-done-smaller
 loop-done-smaller c =
     let a = c.args in
     let l = c.loop-done in
-    let F = found (joined a.end.0 a.log.now a.waiting.now) a.b a.from a.d.now l.d _ l.done c.requires.1.1 c.loop-done-test.true l.invariant.1 c.if-b-k.false
+    let F = found (joined a.runs.end.0 a.runs.log.now a.runs.waiting.now) a.b a.from a.d.now l.d _ l.done c.requires.1.1 c.loop-done-test.true l.invariant.1 c.if-b-k.false
     c.piece_from-piece.ensures in
     omega (arith, c.loop-done-test.true, l.invariant.1, F.is_some)
 
@@ -67,7 +67,7 @@ pub loop-done-preserved : goal.loop-done-preserved
 loop-done-preserved c =
     let a = c.args in
     let l = c.loop-done in
-    let F = found (joined a.end.0 a.log.now a.waiting.now) a.b a.from a.d.now l.d _ l.done c.requires.1.1 c.loop-done-test.true l.invariant.1 c.if-b-k.false
+    let F = found (joined a.runs.end.0 a.runs.log.now a.runs.waiting.now) a.b a.from a.d.now l.d _ l.done c.requires.1.1 c.loop-done-test.true l.invariant.1 c.if-b-k.false
     c.piece_from-piece.ensures in
     let same = ap length c.copy_at.ensures ∙ length-put l.d l.done c.piece_from-piece.result.now F.fits in
     (omega (arith, F.fits, same), same ∙ l.invariant.1, F.behind _ c.copy_at.ensures l.invariant.2)
@@ -77,4 +77,4 @@ returns c =
     let a = c.args in
     let l = c.loop-done in
     let loop-test = c.loop-done-test in
-    left-none (bytes_of (joined a.end.0 a.log.now a.waiting.now) a.b) a.from a.d.now l.d l.done (omega (arith, loop-test.false)) l.invariant.2
+    left-none (bytes_of (joined a.runs.end.0 a.runs.log.now a.runs.waiting.now) a.b) a.from a.d.now l.d l.done (omega (arith, loop-test.false)) l.invariant.2

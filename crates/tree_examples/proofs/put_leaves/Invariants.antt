@@ -5,7 +5,4 @@ use Rattle.tree_examples.proofs.put_leaves.Given as goal
 
 -- `tree_examples::put_leaves` is safe and ends.
 abbrev pub invariant-loop-k : goal.invariant-loop-k
-invariant-loop-k l = (length l.log ≡ length l.initial.log) × (length l.scores ≡ length l.initial.scores) × (l.k ≤ l.n)
-
-abbrev pub decreases-loop-k : goal.decreases-loop-k
-decreases-loop-k l = l.n - l.k
+invariant-loop-k l = (length l.log ≡ length l.initial.log) × (length l.scores ≡ length l.initial.scores)

@@ -6,5 +6,5 @@ use Rattle.visit.proofs.visit_level.Goals as goal
 pub returns : goal.returns
 returns c =
     let a = c.args in
-    let log = joined a.end.0 a.log.now a.waiting.now in
+    let log = joined a.runs.end.0 a.runs.log.now a.runs.waiting.now in
     met-level log a.e a.level a.nest a.left a.score.now c.visit.ensures c.type_at.ensures c.count_at.ensures

@@ -9,13 +9,13 @@ use Rattle.walk.proofs.walk_root.Goals as goal
 pub returns-in_default : goal.returns-in_default
 returns-in_default c =
     let a = c.args in
-    root-refused (joined a.end.0 a.log.now a.waiting.now) a.score.now a.left c.visit-m.ensures c.in_default.is c.answer.ensures
+    root-refused (joined a.runs.end.0 a.runs.log.now a.runs.waiting.now) a.score.now a.left c.visit-m.ensures c.in_default.is c.answer.ensures
 
 pub root_bytes-root-requires : goal.root_bytes-root-requires
 root_bytes-root-requires c =
     let p = c.requires.0 in
     let K = found-known _ _ _ _ _ _ _ c.visit-m.ensures _ c.in-Ok.is in
-    (p, in_both c.args.end.0 c.args.log.now c.args.waiting.now p _ K.in_log)
+    (p, in_both c.args.runs.end.0 c.args.runs.log.now c.args.runs.waiting.now p _ K.in_log)
 
 pub returns-then-not-is_root : goal.returns-then-not-is_root
 returns-then-not-is_root c =

@@ -9,7 +9,7 @@ use Rattle.walk.proofs.walk_top.Goals as goal
 pub returns-in_default : goal.returns-in_default
 returns-in_default c =
     let a = c.args in
-    let r = top-refused (joined a.end.0 a.log.now a.waiting.now) a.score.now a.left c.visit-m.ensures c.in_default.is c.answer.ensures in
+    let r = top-refused (joined a.runs.end.0 a.runs.log.now a.runs.waiting.now) a.score.now a.left c.visit-m.ensures c.in_default.is c.answer.ensures in
     record { within = r.0; exact = r.1 }
 
 pub overflow_sub-left : goal.overflow_sub-left
@@ -21,7 +21,7 @@ pub visit_directory-requires : goal.visit_directory-requires
 visit_directory-requires c =
     let K = found-known _ _ _ _ _ _ _ c.visit-m.ensures _ c.in-Ok.is in
     let p = c.requires.0 in
-    (p, in_both c.args.end.0 c.args.log.now c.args.waiting.now p _ K.in_log, K.not_many, K.not-deep)
+    (p, in_both c.args.runs.end.0 c.args.runs.log.now c.args.runs.waiting.now p _ K.in_log, K.not_many, K.not-deep)
 
 pub returns : goal.returns
 returns c =

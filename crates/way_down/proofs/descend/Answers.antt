@@ -22,7 +22,7 @@ loop-level-init c =
     let a = c.args in
     let p = c.requires in
     let copy_at = c.copy_at in
-    let log = joined a.end.0 a.log.now a.waiting.now in
+    let log = joined a.runs.end.0 a.runs.log.now a.runs.waiting.now in
     let t = copy_at.ensures ∙ put_whole _ a.top.now p.2 in
     (p.1.depth, ap length t ∙ p.2, λ page o q. ap (under log page a.e o a.e.depth) t)
 
@@ -33,7 +33,7 @@ returns-then-is_zero_score c =
     let l = c.loop-level in
     let is-zero-score = c.is_zero_score in
     let if1 = c.if-is_zero_score in
-    let log = joined a.end.0 a.log.now a.waiting.now in
+    let log = joined a.runs.end.0 a.runs.log.now a.runs.waiting.now in
     record { room = (omega arith, omega arith); run = λ page o q. under-empty log page a.e o l.level l.score _ _ refl is-zero-score.ensures if1.true ∙ l.invariant.2 page o q }
 
 pub type_at-kind-requires : goal.type_at-kind-requires
@@ -56,7 +56,7 @@ returns-in_err-b c =
     let p = c.requires in
     let is-zero-score = c.is_zero_score in
     let if1 = c.if-is_zero_score in
-    let log = joined a.end.0 a.log.now a.waiting.now in
+    let log = joined a.runs.end.0 a.runs.log.now a.runs.waiting.now in
     let e : l.level ≡ suc (l.level - 1) = omega (arith, loop-test.true) in
     let back = err_from_is_err_and c.from_residual.result c.from_residual.ensures.1 in rw (back.1, back.2) (record {
       room = tt;
@@ -76,7 +76,7 @@ returns-then-b-ne0 c =
     let is-zero-score = c.is_zero_score in
     let if1 = c.if-is_zero_score in
     let if2 = c.if-b-ne0 in
-    let log = joined a.end.0 a.log.now a.waiting.now in
+    let log = joined a.runs.end.0 a.runs.log.now a.runs.waiting.now in
     let e : l.level ≡ suc (l.level - 1) = omega (arith, loop-test.true) in record {
       room = tt;
       run = λ page o q. level-ragged log page a.e o l.level (l.level - 1) e l.score _ is-zero-score.ensures if1.false
@@ -102,9 +102,9 @@ score_at-score-requires c =
     let count_at = c.count_at in
     let digit = c.digit-index in
     let if2 = c.if-b-ne0 in
-    let log = joined a.end.0 a.log.now a.waiting.now in
+    let log = joined a.runs.end.0 a.runs.log.now a.runs.waiting.now in
     let room =
-    found-room log type_at.result l.score count_at.result fetch.result fetch.ensures _ (sectors-joined a.end.0 a.log.now a.waiting.now p.0) _ c.in_ok-b.was in
+    found-room log type_at.result l.score count_at.result fetch.result fetch.ensures _ (sectors-joined a.runs.end.0 a.runs.log.now a.runs.waiting.now p.0) _ c.in_ok-b.was in
     let small = digit_small a.e.psize _ digit.result p.1.psize-from p.1.psize-to digit.ensures in
     (p.0, room, if2.false, omega (arith, small))
 
@@ -125,9 +125,9 @@ loop-level-preserved c =
     let is-zero-score = c.is_zero_score in
     let if1 = c.if-is_zero_score in
     let digit = c.digit-index in
-    let log = joined a.end.0 a.log.now a.waiting.now in
+    let log = joined a.runs.end.0 a.runs.log.now a.runs.waiting.now in
     let room =
-    found-room log type_at.result l.score count_at.result fetch.result fetch.ensures _ (sectors-joined a.end.0 a.log.now a.waiting.now p.0) _ c.in_ok-b.was in
+    found-room log type_at.result l.score count_at.result fetch.result fetch.ensures _ (sectors-joined a.runs.end.0 a.runs.log.now a.runs.waiting.now p.0) _ c.in_ok-b.was in
     let e : l.level ≡ suc (l.level - 1) = omega (arith, loop-test.true) in (
       omega (arith, l.invariant.0),
       next-score log _ _ _ room.1 score-at.ensures if2.false,
@@ -145,10 +145,10 @@ returns c =
     let fetch2 = c.fetch-2 in
     let loop-test = c.loop-level-test in
     let p = c.requires in
-    let log = joined a.end.0 a.log.now a.waiting.now in
+    let log = joined a.runs.end.0 a.runs.log.now a.runs.waiting.now in
     let t = type_at.result in
     let z : l.level ≡ 0 = omega (arith, loop-test.false) in record {
-      room = look_room log t l.score a.e.dsize fetch2.result fetch2.ensures _ (sectors-joined a.end.0 a.log.now a.waiting.now p.0);
+      room = look_room log t l.score a.e.dsize fetch2.result fetch2.ensures _ (sectors-joined a.runs.end.0 a.runs.log.now a.runs.waiting.now p.0);
       run = λ page o q. leaf_looked_up log page a.e o l.score t type_at.ensures fetch2.result fetch2.ensures
           ∙ ap (λ (n : ℕ). under log page a.e o n l.score) (sym z) ∙ l.invariant.2 page o q;
     }

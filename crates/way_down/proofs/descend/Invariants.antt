@@ -16,7 +16,7 @@ use Rattle.way_down.proofs.descend.Given as goal
 abbrev pub invariant-loop-level : goal.invariant-loop-level
 invariant-loop-level l =
     (l.level < 8) × (length l.score ≡ 20)
-    × ((page o : ℕ) → o / l.e.dsize ≡ l.offset / l.e.dsize → under (joined l.end.0 l.log l.waiting) page l.e o l.level l.score ≡ under (joined l.end.0 l.log l.waiting) page l.e o l.e.depth l.top)
+    × ((page o : ℕ) → o / l.e.dsize ≡ l.offset / l.e.dsize → under (joined l.runs.end.0 l.runs.log.now l.runs.waiting.now) page l.e o l.level l.score ≡ under (joined l.runs.end.0 l.runs.log.now l.runs.waiting.now) page l.e o l.e.depth l.top)
 
 abbrev pub decreases-loop-level : goal.decreases-loop-level
 decreases-loop-level l = l.level

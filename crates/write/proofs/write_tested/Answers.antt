@@ -1,4 +1,6 @@
-use mathlib.Core.Path.{ap, ◌∙◌}
+use mathlib.Core.Path.{sym, ap, ◌∙◌}
+use Rattle.std.specs.Prelude.{Err}
+use Rattle.std.proofs.lemmas.Result.{err_from_is_err_and}
 use Prim.Native.Nat.{ℕ, ◌*◌, ◌≤◌}
 use native.Mathlib.Omega.{arith}
 use lib.ListN.{length, length-take}
@@ -65,8 +67,8 @@ slice_bounds-clear-end-2 c = let a = c.args in
     let f : 20 * pieces.result ≤ length a.scores.now = omega (arith, few_pieces a.dsize (length a.slice.now) given.2, pieces.ensures, given.1, given.8) in
     simp length-take (search rules)
 
-pub returns-in_default : goal.returns-in_default
-returns-in_default c =
+pub returns-in_err-ended : goal.returns-in_err-ended
+returns-in_err-ended c =
     let a = c.args in
     let clear = c.clear in
     let pieces = c.pieces-n in
@@ -74,8 +76,9 @@ returns-in_default c =
     in
     let write-blocks = c.write_blocks-ended in
     let f : 20 * pieces.result ≤ length a.scores.now = omega (arith, few_pieces a.dsize (length a.slice.now) given.2, pieces.ensures, given.1, given.8) in
-    tested-refused a.log.now a.waiting.now a.date.now a.slice.now a.dsize a.psize a.entry.now a.scores.now a.depth _ _ write-blocks.ensures.blocks _
-    write-blocks.ensures.top (20 * pieces.result) (ap (λ (k : ℕ). 20 * k) pieces.ensures) f _ clear.ensures _ (c.in_default.is) (search rules)
+    let back = err_from_is_err_and c.from_residual.result c.from_residual.ensures.1 in
+    rw (back.1 ∙ ap Err back.2 ∙ sym c.in_err-ended.was) (tested-refused a.log.now a.waiting.now a.date.now a.slice.now a.dsize a.psize a.entry.now a.scores.now a.depth _ _ write-blocks.ensures.blocks _
+    write-blocks.ensures.top (20 * pieces.result) (ap (λ (k : ℕ). 20 * k) pieces.ensures) f _ clear.ensures _ (c.in_err-ended.was) (search rules))
 
 pub returns : goal.returns
 returns c =
@@ -87,5 +90,5 @@ returns c =
     let write-blocks = c.write_blocks-ended in
     let f : 20 * pieces.result ≤ length a.scores.now = omega (arith, few_pieces a.dsize (length a.slice.now) given.2, pieces.ensures, given.1, given.8) in
     tested-done a.log.now a.waiting.now a.date.now a.slice.now a.dsize a.psize a.entry.now a.scores.now a.depth _ _ write-blocks.ensures.blocks _
-    write-blocks.ensures.top (20 * pieces.result) (ap (λ (k : ℕ). 20 * k) pieces.ensures) f _ clear.ensures c.in-Ok.is _ make-entry.ensures _
+    write-blocks.ensures.top (20 * pieces.result) (ap (λ (k : ℕ). 20 * k) pieces.ensures) f _ clear.ensures c.in_ok-ended.was _ make-entry.ensures _
     (c.copy_at.ensures) (search rules) (search rules)

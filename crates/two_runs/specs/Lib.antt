@@ -1,0 +1,2 @@
+-- What two runs of sectors are, read as one.
+pub mod Runs
