@@ -36,12 +36,14 @@ pub fn is_zero(s: &[u8]) -> bool
     seen == 0
 }
 
-// Writes s into d from `at` on; the rest of d stays.
+// Writes s into d from `at` on; the rest of d stays. No `copy_from_slice`: with it the archive for C needs `memmove` from outside.
 pub fn copy_at(d: &mut [u8], at: usize, s: &[u8])
     requires { at + length s.now ≤ length d.old }
     ensures { d.new ≡ put d.old at s.now }
 {
-    d[at..at + s.len()].copy_from_slice(s);
+    for i in 0..s.len() {
+        d[at + i] = s[i];
+    }
 }
 
 // Sets every byte of d to zero.

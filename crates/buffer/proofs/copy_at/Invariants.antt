@@ -1,0 +1,8 @@
+use mathlib.Core.Path.{◌≡◌}
+use lib.ListN.{length}
+use lib.Seq.{paste}
+use Rattle.buffer.proofs.copy_at.Given as goal
+
+-- `buffer::copy_at` meets its contract.
+abbrev pub invariant-loop-i : goal.invariant-loop-i
+invariant-loop-i l = (length l.d ≡ length l.initial.d) × (l.d ≡ paste l.initial.d l.at l.s l.i)
