@@ -25,7 +25,7 @@ after_store r L = record { receipt = r; lent = L }
 abbrev pub receipt : Bytes → Result Stored Refusal → Receipt
 receipt score s = record { score = score; stored = s }
 
--- the row that a write of this date, type and data adds: "right after the used part", of both parts. "Ok (New blocks) are written in this edition", with the date
+-- the row that a write of this date, type and data adds: "right after the used part", of both parts. "New blocks are written in this edition", with the date
 -- that came with the write; without one, in the first
 abbrev pub new_row : Lent → Bytes → ℕ → Bytes → Row
 new_row L date t d = record { kind = t; score = sha1_of d; bytes = d; first = used (one_log L); date = date }
