@@ -37,7 +37,13 @@ fn begins_at(s: &[u8], at: usize, p: &[u8]) -> bool
         return false;
     }
     let end = at + p.len();
-    buffer::equal(&s[at..end], p)
+    let part = &s[at..end];
+    for i in 0..p.len() {
+        if part[i] != p[i] {
+            return false;
+        }
+    }
+    true
 }
 
 // The line that starts at a place, if one does.
